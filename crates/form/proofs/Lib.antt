@@ -1,1 +1,7 @@
 pub mod Answer
+pub mod Spans
+pub mod Numbers
+pub mod Table
+pub mod Fields
+pub mod Payloads
+pub mod Runs

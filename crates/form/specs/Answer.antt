@@ -9,7 +9,6 @@ pub data Out (A : Type 0) : Type 0 where
   no : ℕ → ℕ → Out A
 
 infixl 20 _>>=_ _>>_
-
 -- Goes on with the value; a refusal stays the answer. `do` chains by it, so the first line that refuses is the refusal.
 abbrev pub _>>=_ : {A B : Type 0} → Out A → (A → Out B) → Out B
 _>>=_ (got a) k = k a

@@ -1,1 +1,9 @@
 pub mod Answer
+pub mod Spans
+pub mod Numbers
+pub mod Strings
+pub mod Decoding
+pub mod Tree
+pub mod Layout
+pub mod Table
+pub mod Reading

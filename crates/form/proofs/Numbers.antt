@@ -1,0 +1,36 @@
+-- Laws of numbers: digits and bytes over the width.
+-- Assumes nothing.
+use Prim.Native.Nat.{ℕ, zero, suc, _+_, _*_, _^_, _≤_, _<_}
+use mathlib.Core.List.{List, [], _∷_, _++_, foldl}
+use mathlib.Core.Path.{_≡_, refl, sym, ap, _∙_}
+use native.Mathlib.Omega.{arith}
+use native.Mathlib.Numerals.{add-one}
+use native.Mathlib.Nat.{pow-suc, pow-le-pow-right}
+use lib.ListN.{length, getD, take, drop, length-drop}
+use lib.Seq.{take-suc, getD-drop}
+use Rattle.form.specs.Numbers.{value, bigEndian}
+
+-- one more byte
+foldl-snoc : (f : ℕ → ℕ → ℕ) (a : ℕ) (xs : List ℕ) (b : ℕ) → foldl f a (xs ++ (b ∷ [])) ≡ f (foldl f a xs) b
+foldl-snoc f a [] b = refl
+foldl-snoc f a (x ∷ xs) b = foldl-snoc f (f a x) xs b
+
+pub big-endian-none : bigEndian [] ≡ 0
+unfolding value
+big-endian-none = refl
+
+pub big-endian-more : (xs : List ℕ) (b : ℕ) → bigEndian (xs ++ (b ∷ [])) ≡ bigEndian xs * 256 + b
+unfolding value
+big-endian-more xs b = foldl-snoc (λ n d. n * 256 + d) 0 xs b
+
+pub big-endian-next : (doc : List ℕ) (at i : ℕ) → at + i < length doc
+    → bigEndian (take (i + 1) (drop at doc)) ≡ bigEndian (take i (drop at doc)) * 256 + getD doc (at + i) 0
+big-endian-next doc at i h =
+    rw (add-one, take-suc (drop at doc) i 0 (simp length-drop (omega arith)), big-endian-more, getD-drop) refl
+
+-- a byte more keeps a number below the next power
+pub below-next : (v b i : ℕ) → v < 256 ^ i → b < 256 → v * 256 + b < 256 ^ (i + 1)
+below-next v b i h l = rw (add-one, pow-suc) (omega arith)
+
+pub pow-le : (i n : ℕ) → i ≤ n → 256 ^ i ≤ 256 ^ n
+pow-le i n h = pow-le-pow-right (omega arith) h

@@ -1,0 +1,109 @@
+-- Rule 6: the records of a document as a tree with spans, their words in file order, and the values that they stand for.
+-- Assumes nothing.
+use Prim.Native.Nat.{ℕ, zero, suc, _+_, _*_}
+use mathlib.Core.List.{List, [], _∷_, _++_}
+use mathlib.Core.Bool.{Bool, true, false, _||_}
+use lib.IntN.{ℤ}
+use lib.ListN.{length, getD, take, drop}
+use lib.Dec.{ltb, eqb}
+use Rattle.form.specs.Answer.{pick}
+use Rattle.form.specs.Numbers.{bigEndian, signedOf}
+use Rattle.form.specs.Spans.{part, over}
+use Rattle.form.specs.Tree.{Tag, Tags, Entries, byte, short, int, long, float, double, byteArray, string, list, compound, intArray, longArray, nil, more, ended, entry, Document}
+
+-- A record's words but the last, which the number of records below it gives.
+pub record Head : Type 0 where
+  pub kind : ℕ
+  pub name : ℕ
+  pub name-length : ℕ
+  pub start : ℕ
+  pub size : ℕ
+  pub count : ℕ
+  pub list-kind : ℕ
+
+-- Records that stand side by side: none; or a first, with the records in it, and those after it.
+pub data Forest : Type 0 where
+  none : Forest
+  node : Head → Forest → Forest → Forest
+
+-- How many records there are in all.
+unfoldable pub size : Forest → ℕ
+size none = 0
+size (node h inner later) = 1 + size inner + size later
+
+-- How many stand side by side.
+unfoldable pub width : Forest → ℕ
+width none = 0
+width (node h inner later) = 1 + width later
+
+infixl 30 _⊕_
+-- One after the other.
+unfoldable pub _⊕_ : Forest → Forest → Forest
+none ⊕ g = g
+node h inner later ⊕ g = node h inner (later ⊕ g)
+
+-- The words of one record, in rule 6's order. `end` is the number of the first record outside its subtree.
+abbrev pub words : Head → ℕ → List ℕ
+words h end =
+    h .kind ∷ h .name ∷ h .name-length ∷ h .start ∷ h .size ∷ h .count ∷ h .list-kind ∷ end ∷ []
+
+-- Word k of record n in a table.
+abbrev pub word : List ℕ → ℕ → ℕ → ℕ
+word t n k = getD t (8 * n + k) 0
+
+-- The words of the records, the first of which has the number n.
+unfoldable pub flat : ℕ → Forest → List ℕ
+flat n none = []
+flat n (node h inner later) =
+    words h (n + 1 + size inner) ++ (flat (n + 1) inner ++ flat (n + 1 + size inner) later)
+
+-- The table with the records written from record n on.
+unfoldable pub wrote : List ℕ → ℕ → Forest → List ℕ
+wrote t n f = over t (8 * n) (flat n f)
+
+-- How many bytes kinds 1 to 6 take, and an element of the arrays 7, 11 and 12 (rule 4).
+unfoldable pub widthOf : ℕ → ℕ
+widthOf k = getD (0 ∷ 1 ∷ 2 ∷ 4 ∷ 8 ∷ 4 ∷ 8 ∷ 1 ∷ 0 ∷ 0 ∷ 0 ∷ 4 ∷ 8 ∷ []) k 0
+
+-- The kinds that hold records: lists and compounds.
+abbrev pub holds : ℕ → Bool
+holds kind = eqb kind 9 || eqb kind 10
+
+-- ---- the values that records stand for
+
+module _ (doc : List ℕ) where
+  -- n integers of w bytes each, from a place on.
+  unfoldable pub intsAt : ℕ → ℕ → ℕ → List ℤ
+  intsAt w zero at = []
+  intsAt w (suc n) at = signedOf w (bigEndian (part doc at w)) ∷ intsAt w n (at + w)
+
+  -- A record's value; of a list or a compound that of what it holds.
+  unfoldable pub valueBy : Head → Tags → Entries → Tag
+  valueBy h ts es =
+      pick (eqb (h .kind) 1) (byte (signedOf 1 (bigEndian (part doc (h .start) 1))))
+      (pick (eqb (h .kind) 2) (short (signedOf 2 (bigEndian (part doc (h .start) 2))))
+      (pick (eqb (h .kind) 3) (int (signedOf 4 (bigEndian (part doc (h .start) 4))))
+      (pick (eqb (h .kind) 4) (long (signedOf 8 (bigEndian (part doc (h .start) 8))))
+      (pick (eqb (h .kind) 5) (float (bigEndian (part doc (h .start) 4)))
+      (pick (eqb (h .kind) 6) (double (bigEndian (part doc (h .start) 8)))
+      (pick (eqb (h .kind) 7) (byteArray (intsAt 1 (h .count) (h .start)))
+      (pick (eqb (h .kind) 8) (string (part doc (h .start) (h .size)))
+      (pick (eqb (h .kind) 9) (list ts)
+      (pick (eqb (h .kind) 10) (compound es)
+      (pick (eqb (h .kind) 11) (intArray (intsAt 4 (h .count) (h .start)))
+      (longArray (intsAt 8 (h .count) (h .start)))))))))))))
+
+  -- The values of records side by side: as elements of a list, and as entries of a compound.
+  unfoldable mutual
+    pub tagsOf : Forest → Tags
+    tagsOf none = nil
+    tagsOf (node h inner later) = more (valueBy h (tagsOf inner) (entriesOf inner)) (tagsOf later)
+
+    pub entriesOf : Forest → Entries
+    entriesOf none = ended
+    entriesOf (node h inner later) =
+        entry (part doc (h .name) (h .name-length)) (valueBy h (tagsOf inner) (entriesOf inner)) (entriesOf later)
+
+  -- The document that a root's record and the records in it stand for.
+  abbrev pub valueOf : Head → Forest → Document
+  valueOf h inner = record { name = part doc (h .name) (h .name-length); root = entriesOf inner }
