@@ -1,0 +1,14 @@
+pub mod Numbers
+pub mod Walks
+pub mod Tables
+pub mod Merges
+pub mod Rows
+pub mod Runs
+pub mod Sorts
+pub mod Scans
+pub mod Answers
+pub mod Holding
+pub mod Forests
+pub mod Deferred
+pub mod Kept
+pub mod Orders
