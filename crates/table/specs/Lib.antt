@@ -1,7 +1,1 @@
-pub mod Names
-pub mod Links
-pub mod Lists
-pub mod Forests
-pub mod Holding
-pub mod Orders
-pub mod Marked
+pub mod Records

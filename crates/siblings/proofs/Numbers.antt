@@ -1,0 +1,155 @@
+-- Laws of names as numbers.
+-- Assumes nothing.
+use Prim.Native.Nat.{ℕ, zero, suc, _+_, _-_, _*_, _^_, _≤_, _<_}
+use mathlib.Core.Bool.{Bool, true, false, _&&_}
+use mathlib.Core.List.{List, [], _∷_}
+use mathlib.Core.Path.{_≡_, refl, sym, ap, _∙_}
+use native.Mathlib.Omega.{arith}
+use native.Mathlib.Numerals.{sub-one, add-one}
+use native.Mathlib.Nat.{pow-suc, pow-le-pow-right, mul-le-mul-right, add-mul}
+use borrow.Author.Tests.{eq-eqb, ne-eqb, eqb-true, ltb-true, ltb-false}
+use lib.ListN.{length, getD, take, drop, length-take, length-drop}
+use lib.Seq.{drop-cons}
+use lib.Dec.{eqb, ltb}
+use Rattle.form.specs.Spans.{same, part}
+use Rattle.siblings.specs.Links.{be, num}
+
+pub part-length : (doc : List ℕ) (a n : ℕ) → a + n ≤ length doc → length (part doc a n) ≡ n
+part-length doc a n h = simp (length-take, length-drop) (omega arith)
+
+pub part-cons : (doc : List ℕ) (a n : ℕ) → 0 < n → a < length doc → part doc a n ≡ getD doc a 0 ∷ part doc (a + 1) (n - 1)
+part-cons doc a zero h l = absurd (omega arith)
+part-cons doc a (suc n) h l = rw (sub-one (suc n), add-one a, drop-cons doc a 0 l) refl
+
+-- a number's first digit
+pub be-part : (doc : List ℕ) (a n : ℕ) → 0 < n → a + n ≤ length doc
+    → be (part doc a n) ≡ getD doc a 0 * 256 ^ (n - 1) + be (part doc (a + 1) (n - 1))
+unfolding be
+be-part doc a n h l =
+    rw (part-cons doc a n h (omega arith), part-length doc (a + 1) (n - 1) (omega arith)) refl
+
+pub be-none : (doc : List ℕ) (a n : ℕ) → n ≤ 0 → be (part doc a n) ≡ 0
+unfolding be
+be-none doc a zero h = refl
+be-none doc a (suc n) h = absurd (omega arith)
+
+-- digits x < y before what is below the power
+digit-less : (x y p u v : ℕ) → x < y → u < p → x * p + u < y * p + v
+digit-less x y p u v h l = omega (arith, mul-le-mul-right {m = x + 1} {n = y} p (omega arith), add-mul x 1 p)
+
+module _ (doc : List ℕ) (bytes : (i : ℕ) → getD doc i 0 < 256) where
+  pub be-below : (n a : ℕ) → a + n ≤ length doc → be (part doc a n) < 256 ^ n
+  unfolding be
+  be-below zero a l = omega arith
+  be-below (suc n) a l =
+      let e : be (part doc a (suc n)) ≡ getD doc a 0 * 256 ^ n + be (part doc (a + 1) n) = rw (sub-one (suc n)) at (be-part doc a (suc n) (omega arith) l) in
+      omega (
+        arith,
+        e,
+        be-below n (a + 1) (omega arith),
+        digit-less (getD doc a 0) 256 (256 ^ n) (be (part doc (a + 1) n)) 0 (bytes a) (be-below n (a + 1) (omega arith)),
+        pow-suc 256 n,
+      )
+
+  module _ (a b n i : ℕ) (h : i < n) (la : a + n ≤ length doc) (lb : b + n ≤ length doc) where
+    da : be (part doc (a + i) (n - i)) ≡ getD doc (a + i) 0 * 256 ^ (n - i - 1) + be (part doc (a + i + 1) (n - i - 1))
+    da = be-part doc (a + i) (n - i) (omega arith) (omega arith)
+
+    db : be (part doc (b + i) (n - i)) ≡ getD doc (b + i) 0 * 256 ^ (n - i - 1) + be (part doc (b + i + 1) (n - i - 1))
+    db = be-part doc (b + i) (n - i) (omega arith) (omega arith)
+
+    pub step-less : getD doc (a + i) 0 < getD doc (b + i) 0 → be (part doc (a + i) (n - i)) < be (part doc (b + i) (n - i))
+    step-less e =
+        rw (da, db)
+        (digit-less (getD doc (a + i) 0) (getD doc (b + i) 0) (256 ^ (n - i - 1)) (be (part doc (a + i + 1) (n - i - 1))) (be (part doc (b + i + 1) (n - i - 1))) e
+        (be-below (n - i - 1) (a + i + 1) (omega arith)))
+
+    -- the same digit in both: what is left differs by as much
+    pub step-same : (x y : ℕ) → getD doc (a + i) 0 ≡ getD doc (b + i) 0 → x + be (part doc (b + i) (n - i)) ≡ y + be (part doc (a + i) (n - i))
+        → x + be (part doc (b + (i + 1)) (n - (i + 1))) ≡ y + be (part doc (a + (i + 1)) (n - (i + 1)))
+    step-same x y e f =
+        let p : a + (i + 1) ≡ a + i + 1 = omega arith in
+        let q : b + (i + 1) ≡ b + i + 1 = omega arith in
+        let r : n - (i + 1) ≡ n - i - 1 = omega arith in
+        rw (p, q, r) (omega (arith, da, db, f, ap (λ d. d * 256 ^ (n - i - 1)) e))
+
+  -- the shorter name is the lesser number
+  pub num-shorter : (a n b m : ℕ) → a + n ≤ length doc → b + m ≤ length doc → n < m → num (part doc a n) < num (part doc b m)
+  unfolding num
+  num-shorter a n b m la lb h =
+      rw (part-length doc a n la, part-length doc b m lb)
+      (omega (arith, be-below n a la, pow-suc 256 n, pow-le-pow-right {n = 256} (omega arith) {i = suc n} {j = m} (omega arith)))
+
+pub num-is : (doc : List ℕ) (a n : ℕ) → a + n ≤ length doc → num (part doc a n) ≡ 256 ^ n + be (part doc a n)
+unfolding num
+num-is doc a n l = rw (part-length doc a n l) refl
+
+-- ---- names that are the same
+
+pub same-self : (xs : List ℕ) → same xs xs ≡ true
+unfolding same
+same-self [] = refl
+same-self (x ∷ xs) = rw (eq-eqb x x refl, same-self xs) refl
+
+and-true : (b c : Bool) → (b && c) ≡ true → (b ≡ true) × (c ≡ true)
+and-true true c h = (refl, h)
+and-true false c h = absurd (let w : _≡_ {A = ℕ} 0 1 = cc in omega arith)
+
+pub same-eq : (xs ys : List ℕ) → same xs ys ≡ true → xs ≡ ys
+unfolding same
+same-eq [] [] h = refl
+same-eq [] (y ∷ ys) h = absurd (let w : _≡_ {A = ℕ} 0 1 = cc in omega arith)
+same-eq (x ∷ xs) [] h = absurd (let w : _≡_ {A = ℕ} 0 1 = cc in omega arith)
+same-eq (x ∷ xs) (y ∷ ys) h =
+    let r = and-true (eqb x y) (same xs ys) h in
+    let p : x ≡ y = eqb-true x y (r .0) in
+    let q : xs ≡ ys = same-eq xs ys (r .1) in
+    λ i. p i ∷ q i
+
+digit-eq : (x y p u v : ℕ) → x * p + u ≡ y * p + v → u < p → v < p → x ≡ y
+digit-eq x y p u v e hu hv = go (ltb x y) refl (ltb y x) refl
+  where
+    go : (b : Bool) → ltb x y ≡ b → (c : Bool) → ltb y x ≡ c → x ≡ y
+    go true f c g = absurd (omega (arith, e, digit-less x y p u v (ltb-true x y f) hu))
+    go false f true g = absurd (omega (arith, e, digit-less y x p v u (ltb-true y x g) hv))
+    go false f false g = omega (arith, ltb-false x y f, ltb-false y x g)
+
+module _ (doc : List ℕ) (bytes : (i : ℕ) → getD doc i 0 < 256) where
+  be-same : (n a b : ℕ) → a + n ≤ length doc → b + n ≤ length doc → be (part doc a n) ≡ be (part doc b n) → part doc a n ≡ part doc b n
+  be-same zero a b la lb e = refl
+  be-same (suc n) a b la lb e =
+      let ea : be (part doc a (suc n)) ≡ getD doc a 0 * 256 ^ n + be (part doc (a + 1) n) = rw (sub-one (suc n)) at (be-part doc a (suc n) (omega arith) la) in
+      let eb : be (part doc b (suc n)) ≡ getD doc b 0 * 256 ^ n + be (part doc (b + 1) n) = rw (sub-one (suc n)) at (be-part doc b (suc n) (omega arith) lb) in
+      let ca : part doc a (suc n) ≡ getD doc a 0 ∷ part doc (a + 1) n = rw (sub-one (suc n)) at (part-cons doc a (suc n) (omega arith) (omega arith)) in
+      let cb : part doc b (suc n) ≡ getD doc b 0 ∷ part doc (b + 1) n = rw (sub-one (suc n)) at (part-cons doc b (suc n) (omega arith) (omega arith)) in
+      let x : getD doc a 0 ≡ getD doc b 0 =
+      digit-eq (getD doc a 0) (getD doc b 0) (256 ^ n) (be (part doc (a + 1) n)) (be (part doc (b + 1) n)) (sym ea ∙ e ∙ eb)
+      (be-below doc bytes n (a + 1) (omega arith)) (be-below doc bytes n (b + 1) (omega arith)) in
+      let r = be-same n (a + 1) (b + 1) (omega arith) (omega arith) (omega (arith, ea, eb, e, ap (λ d. d * 256 ^ n) x)) in
+      ca ∙ (λ i. x i ∷ r i) ∙ sym cb
+
+  pub num-same : (a n b m : ℕ) → a + n ≤ length doc → b + m ≤ length doc → num (part doc a n) ≡ num (part doc b m) → part doc a n ≡ part doc b m
+  num-same a n b m la lb e = go (ltb n m) refl (ltb m n) refl
+    where
+      eqn : (n ≡ m) → part doc a n ≡ part doc b m
+      eqn q =
+          let lb′ : b + n ≤ length doc = omega arith in
+          let e′ : num (part doc a n) ≡ num (part doc b n) = e ∙ ap (λ k. num (part doc b k)) (sym q) in
+          be-same n a b la lb′ (omega (arith, num-is doc a n la, num-is doc b n lb′, e′)) ∙ ap (part doc b) q
+
+      go : (x : Bool) → ltb n m ≡ x → (y : Bool) → ltb m n ≡ y → part doc a n ≡ part doc b m
+      go true f y g = absurd (omega (arith, e, num-shorter doc bytes a n b m la lb (ltb-true n m f)))
+      go false f true g = absurd (omega (arith, e, num-shorter doc bytes b m a n lb la (ltb-true m n g)))
+      go false f false g = eqn (omega (arith, ltb-false n m f, ltb-false m n g))
+
+-- ---- the comparison of two spans, from the front
+
+pub start-same : (doc : List ℕ) (a b n : ℕ) → be (part doc a n) + be (part doc (b + 0) (n - 0)) ≡ be (part doc b n) + be (part doc (a + 0) (n - 0))
+start-same doc a b n =
+    let p : a + 0 ≡ a = omega arith in
+    let q : b + 0 ≡ b = omega arith in
+    let r : n - 0 ≡ n = omega arith in
+    rw (p, q, r) (omega arith)
+
+pub stop-same : (doc : List ℕ) (a b n i x y : ℕ) → n ≤ i → x + be (part doc (b + i) (n - i)) ≡ y + be (part doc (a + i) (n - i)) → x ≡ y
+stop-same doc a b n i x y h e = omega (arith, e, be-none doc (b + i) (n - i) (omega arith), be-none doc (a + i) (n - i) (omega arith))

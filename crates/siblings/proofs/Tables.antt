@@ -1,0 +1,132 @@
+-- Laws of tables whose records are linked.
+-- Assumes nothing.
+use Prim.Native.Nat.{ℕ, zero, suc, _+_, _-_, _*_, _≤_, _<_}
+use mathlib.Core.Bool.{Bool, true, false, _||_}
+use mathlib.Core.List.{List, [], _∷_}
+use mathlib.Core.Path.{_≡_, refl, sym, ap, subst, _∙_}
+use mathlib.Core.Logic.{_⊎_, inl, inr, ⊎-elim}
+use native.Mathlib.Omega.{arith}
+use borrow.Author.Tests.{eq-eqb, ne-eqb, eqb-true, eqb-false}
+use lib.ListN.{length, getD, set, length-set}
+use lib.Seq.{getD-set-same, getD-set-other, ext-getD}
+use lib.Dec.{eqb}
+use Rattle.form.specs.Spans.{part}
+use Rattle.siblings.specs.Names.{nameOf, endOf}
+use Rattle.siblings.specs.Links.{num, rank, slotOf, link, linked, Mem, walk, past, Agree, Fit}
+use Rattle.siblings.proofs.Walks.{walk-ext}
+
+pub slot-range : (t : List ℕ) (i : ℕ) → (8 * i + 3 ≤ slotOf t i) × (slotOf t i ≤ 8 * i + 6)
+unfolding slotOf
+slot-range t i = go (eqb (getD t (8 * i) 0) 9 || eqb (getD t (8 * i) 0) 10)
+  where
+    go : (b : Bool) → (8 * i + 3 ≤ elim b [ true ↦ 8 * i + 3 | false ↦ 8 * i + 6 ]) × (elim b [ true ↦ 8 * i + 3 | false ↦ 8 * i + 6 ] ≤ 8 * i + 6)
+    go true = (omega arith, omega arith)
+    go false = (omega arith, omega arith)
+
+pub slot-held : (t : List ℕ) (i : ℕ) → getD t (8 * i) 0 ≡ 9 → 8 * i + 3 ≡ slotOf t i
+unfolding slotOf
+slot-held t i h = rw (slotOf, eq-eqb (getD t (8 * i) 0) 9 h) refl
+
+pub slot-held2 : (t : List ℕ) (i : ℕ) → (getD t (8 * i) 0 ≡ 9 → ⊥) → getD t (8 * i) 0 ≡ 10 → 8 * i + 3 ≡ slotOf t i
+unfolding slotOf
+slot-held2 t i n h = rw (slotOf, ne-eqb (getD t (8 * i) 0) 9 n, eq-eqb (getD t (8 * i) 0) 10 h) refl
+
+pub slot-plain : (t : List ℕ) (i : ℕ) → (getD t (8 * i) 0 ≡ 9 → ⊥) → (getD t (8 * i) 0 ≡ 10 → ⊥) → 8 * i + 6 ≡ slotOf t i
+unfolding slotOf
+slot-plain t i n h = rw (slotOf, ne-eqb (getD t (8 * i) 0) 9 n, ne-eqb (getD t (8 * i) 0) 10 h) refl
+
+-- ---- tables that agree but for links
+
+module _ (t₀ t : List ℕ) (U : ℕ → Type 0) (g : Agree t₀ t U) where
+  low : (j k : ℕ) → k ≤ 2 → getD t (8 * j + k) 0 ≡ getD t₀ (8 * j + k) 0
+  low j k h = g .at (8 * j + k) (λ i u e. omega (arith, slot-range t₀ i))
+
+  pub agree-end : (j : ℕ) → endOf t j ≡ endOf t₀ j
+  agree-end j = g .at (8 * j + 7) (λ i u e. omega (arith, slot-range t₀ i))
+
+  kind : (j : ℕ) → getD t (8 * j) 0 ≡ getD t₀ (8 * j) 0
+  kind j = g .at (8 * j) (λ i u e. omega (arith, slot-range t₀ i))
+
+  pub agree-slot : (j : ℕ) → slotOf t j ≡ slotOf t₀ j
+  unfolding slotOf
+  agree-slot j = ap {B = ℕ} (λ k. elim (eqb k 9 || eqb k 10) [ true ↦ 8 * j + 3 | false ↦ 8 * j + 6 ]) (kind j)
+
+  pub agree-name : (doc : List ℕ) (j : ℕ) → nameOf doc t j ≡ nameOf doc t₀ j
+  unfolding nameOf
+  agree-name doc j = rw (low j 1 (omega arith), low j 2 (omega arith)) refl
+
+  pub agree-rank : (doc : List ℕ) (j : ℕ) → rank doc t j ≡ rank doc t₀ j
+  unfolding rank
+  agree-rank doc j = rw (agree-name doc j) refl
+
+  pub agree-fit : (doc : List ℕ) (j : ℕ) → Fit doc t₀ j → Fit doc t j
+  agree-fit doc j f = record {
+    room = omega (arith, f .room, g .len);
+    within = omega (arith, f .within, low j 1 (omega arith), low j 2 (omega arith));
+    small = f .small;
+  }
+
+  pub agree-link : (j : ℕ) → (U j → ⊥) → link t j ≡ link t₀ j
+  unfolding link
+  agree-link j n =
+      rw (agree-slot j)
+      (g .at (slotOf t₀ j) (λ i u e. n (subst U (let s : i ≡ j = omega (arith, slot-range t₀ i, slot-range t₀ j) in s) u)))
+
+pub agree-self : (t : List ℕ) (U : ℕ → Type 0) → Agree t t U
+agree-self t U = record { len = refl; at = λ p h. refl }
+
+pub agree-trans : (t₀ t t′ : List ℕ) (U X Y : ℕ → Type 0) → Agree t₀ t U → Agree t t′ X → ((z : ℕ) → U z → Y z) → ((z : ℕ) → X z → Y z) → Agree t₀ t′ Y
+agree-trans t₀ t t′ U X Y g h u v = record {
+  len = h .len ∙ g .len;
+  at = λ p n. h .at p (λ i w e. n i (v i w) (e ∙ agree-slot t₀ t U g i)) ∙ g .at p (λ i w e. n i (u i w) e);
+}
+
+pub agree-more : (t₀ t : List ℕ) (U X : ℕ → Type 0) → Agree t₀ t U → ((z : ℕ) → U z → X z) → Agree t₀ t X
+agree-more t₀ t U X g u = record { len = g .len; at = λ p n. g .at p (λ i w e. n i (u i w) e) }
+
+-- no record left: the tables are the same
+pub agree-none : (t₀ t : List ℕ) (U : ℕ → Type 0) → Agree t₀ t U → ((z : ℕ) → U z → ⊥) → t ≡ t₀
+agree-none t₀ t U g n = ext-getD 0 t t₀ (g .len) (λ p l. g .at p (λ i u e. n i u))
+
+-- ---- one link
+
+module _ (t : List ℕ) (i v : ℕ) where
+  pub linked-agree : Agree t (linked t i v) (λ z. z ≡ i)
+  unfolding linked
+  linked-agree = record {
+    len = length-set t (slotOf t i) v;
+    at = λ p n. getD-set-other t (slotOf t i) p v 0 (λ e. n i refl e);
+  }
+
+  pub linked-other : (j : ℕ) → (j ≡ i → ⊥) → link (linked t i v) j ≡ link t j
+  linked-other j n = agree-link t (linked t i v) (λ z. z ≡ i) linked-agree j n
+
+  slot-set : 8 * i + 8 ≤ length t → getD (linked t i v) (slotOf t i) 0 ≡ v
+  unfolding linked
+  slot-set h = getD-set-same t (slotOf t i) v 0 (omega (arith, slot-range t i))
+
+  pub linked-same : 8 * i + 8 ≤ length t → link (linked t i v) i ≡ v
+  unfolding link
+  linked-same h = rw (agree-slot t (linked t i v) (λ z. z ≡ i) linked-agree i) (slot-set h)
+
+  -- a walk that does not meet the record
+  pub linked-walk : (a n : ℕ) → (Mem i (walk (link t) a n) → ⊥) → walk (link (linked t i v)) a n ≡ walk (link t) a n
+  linked-walk a n h =
+      sym (walk-ext (link t) (link (linked t i v)) n a (λ z m. sym (linked-other z (λ e. h (subst (λ w. Mem w (walk (link t) a n)) e m)))))
+
+-- a link set back to what it was
+pub agree-back : (t₀ t : List ℕ) (U X : ℕ → Type 0) (i v : ℕ) → Agree t₀ t U → ((z : ℕ) → U z → (z ≡ i) ⊎ X z) → link t₀ i ≡ v → 8 * i + 8 ≤ length t₀ → Agree t₀ (linked t i v) X
+unfolding linked link
+agree-back t₀ t U X i v g s e h = record {
+  len = length-set t (slotOf t i) v ∙ g .len;
+  at = λ p n. go p n (eqb p (slotOf t i)) refl;
+}
+  where
+    go : (p : ℕ) → ((j : ℕ) → X j → p ≡ slotOf t₀ j → ⊥) → (b : Bool) → eqb p (slotOf t i) ≡ b → getD (set t (slotOf t i) v) p 0 ≡ getD t₀ p 0
+    go p n true f =
+        let q : p ≡ slotOf t i = eqb-true p (slotOf t i) f in
+        rw q
+        (getD-set-same t (slotOf t i) v 0 (omega (arith, slot-range t i, g .len)) ∙ sym e ∙ ap (λ k. getD t₀ k 0) (sym (agree-slot t₀ t U g i)))
+    go p n false f =
+        getD-set-other t (slotOf t i) p v 0 (eqb-false p (slotOf t i) f)
+        ∙ g .at p (λ j u q. ⊎-elim (λ r. eqb-false p (slotOf t i) f (q ∙ sym (agree-slot t₀ t U g j) ∙ ap (slotOf t) r)) (λ w. n j w q) (s j u))

@@ -1,0 +1,24 @@
+-- `siblings::lower` meets its contract.
+-- Assumes nothing.
+use borrow.Author.Needs.{needs}
+use native.Mathlib.Omega.{arith}
+use mathlib.Core.Path.{_≡_, refl}
+use mathlib.Core.Logic.{inl, inr}
+use Rattle.siblings.proofs.lower.Statement.{statement}
+use Rattle.siblings.proofs.lower.Tie as tie
+
+returns : tie.Need-returns
+returns c = record { twin = λ e. c .if1 .taken; le = omega arith; is = inl refl }
+
+returns-2 : tie.Need-returns-2
+returns-2 c =
+    let h = rw (c .if2 .taken) at (c .before .twin .ensures) in
+    record { twin = λ e. omega arith; le = omega (arith, c .before .before .if1 .left); is = inr (refl, h) }
+
+returns-3 : tie.Need-returns-3
+returns-3 c =
+    let h = rw (c .if2 .left) at (c .before .twin .ensures) in
+    record { twin = λ e. absurd (h e); le = omega arith; is = inl refl }
+
+pub lower-spec : {M : Type 1} → statement M
+lower-spec = tie.close (tie.spec returns (λ c κs. search needs) returns-2 returns-3)

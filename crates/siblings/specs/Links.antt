@@ -1,0 +1,73 @@
+-- Names as numbers, records linked in a table, and lists of them in order.
+-- Assumes nothing.
+use Prim.Native.Nat.{ℕ, zero, suc, _+_, _*_, _^_, _≤_, _<_}
+use mathlib.Core.List.{List, [], _∷_}
+use mathlib.Core.Bool.{Bool, true, false, _||_}
+use mathlib.Core.Path.{_≡_}
+use mathlib.Core.Logic.{_⊎_}
+use lib.ListN.{length, getD, set}
+use lib.Dec.{eqb}
+use Rattle.siblings.specs.Names.{nameOf}
+
+-- bytes as a number, the first the highest
+unfoldable pub be : List ℕ → ℕ
+be [] = 0
+be (x ∷ xs) = x * 256 ^ length xs + be xs
+
+-- the same with a digit 1 before them, so that what is longer is more
+unfoldable pub num : List ℕ → ℕ
+num xs = 256 ^ length xs + be xs
+
+-- a record's place in the order: its name, then its number
+unfoldable pub rank : List ℕ → List ℕ → ℕ → ℕ
+rank doc t i = 4294967296 * num (nameOf doc t i) + i
+
+-- the word of a record that is 0 in a table: a container's payload start, another's list kind
+unfoldable pub slotOf : List ℕ → ℕ → ℕ
+slotOf t i = elim (eqb (getD t (8 * i) 0) 9 || eqb (getD t (8 * i) 0) 10) [
+  | true ↦ 8 * i + 3
+  | false ↦ 8 * i + 6
+]
+
+unfoldable pub link : List ℕ → ℕ → ℕ
+link t i = getD t (slotOf t i) 0
+
+unfoldable pub linked : List ℕ → ℕ → ℕ → List ℕ
+linked t i v = set t (slotOf t i) v
+
+unfoldable pub Mem : ℕ → List ℕ → Type 0
+Mem z [] = ⊥
+Mem z (x ∷ xs) = (z ≡ x) ⊎ Mem z xs
+
+-- a, then f a, and so on: so many
+unfoldable pub walk : (ℕ → ℕ) → ℕ → ℕ → List ℕ
+walk f a zero = []
+walk f a (suc n) = a ∷ walk f (f a) n
+
+-- what comes after them
+unfoldable pub past : (ℕ → ℕ) → ℕ → ℕ → ℕ
+past f a zero = a
+past f a (suc n) = past f (f a) n
+
+abbrev pub Lt : Bool → ℕ → ℕ → Type 0
+Lt true a b = a < b
+Lt false a b = b < a
+
+abbrev pub Le : Bool → ℕ → ℕ → Type 0
+Le true a b = a ≤ b
+Le false a b = b ≤ a
+
+unfoldable pub Sorted : Bool → (ℕ → ℕ) → List ℕ → Type 0
+Sorted u key [] = Unit {0}
+Sorted u key (x ∷ xs) = ((z : ℕ) → Mem z xs → Lt u (key x) (key z)) × Sorted u key xs
+
+-- two tables are the same but for the links of some records
+pub record Agree (t₀ t : List ℕ) (U : ℕ → Type 0) : Type 0 where
+  pub len : length t ≡ length t₀
+  pub at : (p : ℕ) → ((i : ℕ) → U i → p ≡ slotOf t₀ i → ⊥) → getD t p 0 ≡ getD t₀ p 0
+
+-- a record stands in the table and its name in the document
+pub record Fit (doc t : List ℕ) (i : ℕ) : Type 0 where
+  pub room : 8 * i + 8 ≤ length t
+  pub within : getD t (8 * i + 1) 0 + getD t (8 * i + 2) 0 ≤ length doc
+  pub small : i < 4294967296

@@ -1,0 +1,43 @@
+-- The definition: the first of the records side by side whose name an earlier one has.
+-- Assumes nothing.
+use Prim.Native.Nat.{ℕ, zero, suc, _+_, _*_}
+use mathlib.Core.List.{List, [], _∷_}
+use mathlib.Core.Bool.{Bool, true, false, _||_}
+use lib.ListN.{getD}
+use lib.Dec.{ltb}
+use Rattle.form.specs.Spans.{same, part}
+use Rattle.siblings.specs.declared.Found.{Found}
+
+-- a record's name
+unfoldable pub nameOf : List ℕ → List ℕ → ℕ → List ℕ
+nameOf doc t i = part doc (getD t (8 * i + 1) 0) (getD t (8 * i + 2) 0)
+
+-- the number of the record after a record and those in it
+abbrev pub endOf : List ℕ → ℕ → ℕ
+endOf t i = getD t (8 * i + 7) 0
+
+-- the records side by side, from i up to stop. The first number is enough where it is above the records left
+unfoldable pub siblings : List ℕ → ℕ → ℕ → ℕ → List ℕ
+siblings t stop zero i = []
+siblings t stop (suc fuel) i = elim (ltb i stop) [
+  | true ↦ i ∷ siblings t stop fuel (endOf t i)
+  | false ↦ []
+]
+
+module _ (name : ℕ → List ℕ) where
+  -- whether one of the records has the name
+  unfoldable pub among : List ℕ → List ℕ → Bool
+  among n [] = false
+  among n (j ∷ js) = same (name j) n || among n js
+
+  -- the first of the records whose name one before it has, or one of those seen
+  unfoldable pub firstFrom : List ℕ → List ℕ → Found
+  firstFrom seen [] = Found.Nothing
+  firstFrom seen (i ∷ is) = elim (among (name i) seen) [
+    | true ↦ Found.At i
+    | false ↦ firstFrom (i ∷ seen) is
+  ]
+
+-- the answer to `first_repeat`
+unfoldable pub firstRepeat : List ℕ → List ℕ → ℕ → ℕ → Found
+firstRepeat doc t first stop = firstFrom (nameOf doc t) [] (siblings t stop stop first)
