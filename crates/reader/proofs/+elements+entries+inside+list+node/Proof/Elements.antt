@@ -1,0 +1,105 @@
+-- What `elements` leaves to show. The invariant: the records so far, then the elements left, are the whole.
+-- Assumes nothing.
+use Rattle.siblings.proofs.Kept.{kept-less, kept-from}
+use Prim.Native.Nat.{ℕ, _+_, _*_, _-_, _≤_, _<_}
+use mathlib.Core.List.{List}
+use mathlib.Core.Path.{_≡_, refl, sym, ap, _∙_}
+use native.Mathlib.Omega.{arith}
+use borrow.Author.Needs.{needs}
+use borrow.Fn.Kinds.{In, Out}
+use lib.ListN.{length}
+use Rattle.form.specs.Reading.{Reader, elements as elementsOf, payloadBy, insideAt}
+use Rattle.form.specs.Table.{Forest, none}
+use Rattle.form.proofs.Runs.{Sofar, sofar-start, sofar-no, sofar-end, sofar-next, sofar-length, elements-none, elements-no, elements-next}
+use Rattle.reader.proofs.elements.Reads as elements
+use Rattle.reader.proofs.elements.Kinds as kinds
+use Rattle.reader.proofs.node.Reads as node
+use Rattle.reader.proofs.+elements+entries+inside+list+node.Lts-elements as lts
+use Rattle.reader.proofs.+elements+entries+inside+list+node.Proof.Common.{node-below, elements-at}
+
+abbrev pub readOf : List ℕ → ℕ → ℕ → Reader
+readOf doc cap depth = payloadBy doc cap (insideAt doc cap depth)
+
+pub record Inv (doc : List ℕ) (kind count at depth : ℕ) (t₀ : List ℕ) (cap ix : ℕ) (t : List ℕ) (here next left : ℕ) : Type 0 where
+  pub acc : Forest
+  pub sofar : Sofar (elementsOf doc (readOf doc cap depth) count kind at ix) (elementsOf doc (readOf doc cap depth) left kind here next) acc t₀ t ix next (count - left)
+  pub left-le : left ≤ count
+  pub on : at ≤ here
+  pub at-le : here ≤ length doc
+  pub n-le : next ≤ cap
+
+abbrev pub Inv-loop : lts.InvT-loop
+Inv-loop doc kind count at depth table₀ cap ix here₀ next₀ left₀ table here next left = Inv doc kind count at depth table₀ cap ix table here next left
+
+abbrev pub μ-loop : lts.MeasureT-loop
+μ-loop doc kind count at depth table₀ cap ix here₀ next₀ left₀ table here next left = left
+
+abbrev On : ℕ → (lts.Claims → In 2 kinds.ps → Out 2 kinds.ps kinds.r → lts.InvT-loop → lts.MeasureT-loop → Type 0) → Type 0
+On t F = F (node-below t, node.Post) (elements-at t) elements.Post Inv-loop μ-loop
+
+module _ (t : ℕ) where
+  pub loop-holds : On t lts.Need-loop-holds
+  loop-holds c =
+      let r = c .before .before .pre .1 .0 in
+      record { acc = none; sofar = sofar-start _ _ _ (omega arith); left-le = omega arith; on = omega arith; at-le = r .at-le; n-le = r .n-le }
+
+  -- at the loop's head the table is as long as it was
+  same : (c : On t lts.At-loop) → length (c .loop .table) ≡ length (c .before .before .before .args .table .now)
+  same c = sofar-length (c .loop .inv .sofar) (omega arith)
+
+  pub node-requires : On t lts.Need-node-requires
+  node-requires c κs =
+      let p = c .before .before .before .before .before .pre .1 in
+      let i = c .before .before .loop .inv in (
+        omega arith,
+        record {
+          ready = record { doc-le = p .0 .doc-le; at-le = i .at-le; cap-le = p .0 .cap-le; fits = omega (arith, same (c .before .before)); n-le = i .n-le };
+          kind-le = p .1;
+          name-lt = omega arith;
+          len-lt = omega arith;
+        },
+      )
+
+  pub same-length : On t lts.Need-same-length
+  same-length c =
+      let n = c .before .before .before .before .before in
+      n .node .kept .1 .1 .1 .1 .1 .1 .0 ∙ same (n .before .before .before)
+
+  pub returns : On t lts.Need-returns
+  returns c =
+      let n = c .before .before .before .before .before in
+      let i = n .before .before .before .loop .inv in
+      let s = rw (c .before .number .given .1) at (n .node .ensures) in
+      (sofar-no (i .sofar) (elements-no _ _ _ _ _ _ (n .before .before .loop-test .taken) (s .0)), kept-from _ _ _ _ _ (i .acc) (i .sofar .table) (i .sofar .n-is) (omega (arith, i .n-le, n .before .before .before .before .before .before .pre .1 .0 .fits)) (s .1))
+
+  pub loop-again : On t lts.Need-loop-again
+  loop-again c =
+      let n = c .before .before .before .before .before in
+      let i = n .before .before .before .loop .inv in
+      let s = rw (c .before .a .given .1) at (n .node .ensures) in
+      record {
+        acc = _;
+        sofar = sofar-next (i .sofar) (s .x) (elements-next _ _ _ _ _ _ (n .before .before .loop-test .taken) (s .is) (s .at-is) (s .n-is)) (s .table) (s .n-is) (omega (arith, i .left-le)) (omega (arith, i .n-le));
+        left-le = omega (arith, i .left-le);
+        on = omega (arith, i .on, s .on);
+        at-le = s .at-le;
+        n-le = s .n-le;
+      }
+
+  pub same-length-2 : On t lts.Need-same-length-2
+  same-length-2 c = same (c .before)
+
+  pub returns-2 : On t lts.Need-returns-2
+  returns-2 c =
+      let i = c .before .loop .inv in
+      record {
+        x = _;
+        is = sofar-end (i .sofar) (elements-none _ _ _ _ _ _ (c .loop-test .left));
+        at-is = refl;
+        n-is = i .sofar .n-is;
+        count-is = omega (arith, i .sofar .done-is);
+        table = i .sofar .table;
+        on = i .on;
+        at-le = i .at-le;
+        n-le = i .n-le;
+      }

@@ -1,0 +1,79 @@
+-- `reader::document` meets its contract: each way through the code is a law of the definition.
+-- Assumes nothing.
+use borrow.Author.Needs.{needs}
+use native.Mathlib.Omega.{arith}
+use mathlib.Core.Path.{_≡_, refl, sym, ap, _∙_}
+use Rattle.form.specs.Answer.{got}
+use Rattle.form.specs.Reading.{Span, stringAt}
+use Rattle.form.proofs.Fields.{string-within}
+use Rattle.form.proofs.Payloads.{document-long, document-none, document-kind, document-no, document-got, room-le, room-fits}
+use Rattle.reader.specs.Steps.{partOut}
+use Rattle.reader.proofs.Steps.{stepped-from}
+use Prim.Native.Nat.{_≤_}
+use lib.ListN.{length}
+use Rattle.reader.proofs.document.Statement.{statement}
+use Rattle.reader.proofs.document.Tie as tie
+use Rattle.reader.proofs.document.Reads as reads
+use Rattle.reader.proofs.document.Lts as lts
+use Rattle.reader.proofs.node.Reads as node-reads
+use Rattle.reader.proofs.room.Reads as room-reads
+use Rattle.reader.proofs.string_at.Reads as string-at-reads
+
+-- the root's name
+abbrev span : tie.After-known-told2 → Span
+span c = let g = c .before .start .given .0 in record { start = g .0; size = g .1 .0; count = g .1 .1 .0; next = g .1 .1 .1 .0 }
+
+is : (c : tie.After-known-told2) → stringAt (c .before .before .before .before .before .before .before .before .before .before .args .doc .now) 1 ≡ got (span c)
+is c = sym (c .before .before .before .string-at .ensures) ∙ ap partOut (c .before .start .given .1)
+
+returns : tie.Need-returns
+returns c = (document-long _ _ (c .if1 .taken), refl)
+
+returns-2 : tie.Need-returns-2
+returns-2 c = (document-none _ _ (c .before .if1 .left) (c .if2 .taken), refl)
+
+node-requires : tie.Need-node-requires
+node-requires c κs =
+    let k = c .before .before .before .before .before .before in
+    let w = string-within _ _ (is (c .before .before)) in
+    let r = c .before .room .ensures in
+    let n = length (c .before .before .before .before .before .before .before .before .before .before .before .before .args .table .now) in
+    let l : length (c .before .before .before .before .before .before .before .before .before .before .before .before .args .doc .now) ≤ 16777216 = k .before .before .before .if1 .left in
+    record {
+      ready = record { doc-le = l; at-le = w .to; cap-le = omega (arith, r, room-le n); fits = omega (arith, r, room-fits n); n-le = omega arith };
+      kind-le = omega arith;
+      name-lt = omega (arith, w);
+      len-lt = omega (arith, w);
+    }
+
+returns-3 : tie.Need-returns-3
+returns-3 c =
+    let k = c .before .before .before .before in
+    (document-no _ _ (k .before .before .before .if1 .left) (omega arith) (k .if3 .taken) (sym (c .before .before .before .string-at .ensures) ∙ ap partOut (c .before .number .given .1)), refl)
+
+returns-4 : tie.Need-returns-4
+returns-4 c =
+    let n = c .before .before in
+    let k = n .before .before .before .before .before .before .before in
+    rw (document-got _ _ (k .before .before .before .if1 .left) (omega arith) (k .if3 .taken) (is (n .before .before .before)))
+    (stepped-from (n .node .result) _ _ _ _ _ _ _ (rw (n .before .before .room .ensures) at (n .node .ensures)))
+
+returns-5 : tie.Need-returns-5
+returns-5 c = (document-kind _ _ (c .before .before .before .if1 .left) (omega arith) (c .if3 .left), refl)
+
+pub document-spec : {M : Type 1} → statement M
+document-spec =
+    tie.close
+    (tie.spec
+    returns
+    returns-2
+    (λ c. search needs)
+    (λ c κs. search needs)
+    (λ c. search needs)
+    (λ c. search needs)
+    (λ c κs. search needs)
+    node-requires
+    returns-3
+    (λ c. search needs)
+    returns-4
+    returns-5)

@@ -1,0 +1,69 @@
+-- `reader::string_at` meets its contract: each way through the code is a law of the definition.
+-- Assumes nothing.
+use borrow.Author.Needs.{needs}
+use borrow.Author.Tests.{not-true, not-false}
+use native.Mathlib.Omega.{arith}
+use Prim.Native.Nat.{ℕ, _+_, _-_, _≤_}
+use mathlib.Core.Bool.{Bool}
+use mathlib.Core.List.{List}
+use lib.ListN.{length}
+use mathlib.Core.Path.{_≡_, sym, ap, _∙_}
+use Rattle.form.specs.Answer.{Out, got, no}
+use Rattle.form.specs.Spans.{part}
+use Rattle.form.specs.Decoding.{wellFormed}
+use Rattle.form.specs.Reading.{numberAt}
+use Rattle.form.proofs.Fields.{number-within, string-no, string-cut, string-bad, string-got}
+use Rattle.reader.specs.Steps.{numOut}
+use Rattle.reader.proofs.string_at.Statement.{statement}
+use Rattle.reader.proofs.string_at.Tie as tie
+use Rattle.reader.proofs.string_at.Reads as reads
+use Rattle.reader.proofs.string_at.Lts as lts
+use Rattle.reader.proofs.is_well_formed.Reads as is-well-formed-reads
+use Rattle.reader.proofs.number.Reads as number-reads
+
+-- the length that was read
+is : (c : tie.After-known-told2) → numberAt (c .before .before .before .before .before .args .doc .now) 2 (c .before .before .before .before .before .args .at) ≡ got (c .before .n .given .0 .0)
+is c = sym (c .before .before .before .number .ensures) ∙ ap numOut (c .before .n .given .1)
+
+-- where the content begins, the document goes on or ends
+begins : (c : tie.After-known-told2) → c .before .before .before .before .before .args .at + 2 ≤ length (c .before .before .before .before .before .args .doc .now)
+begins c = number-within _ 2 _ (is c)
+
+-- the content is whole
+whole : (c : tie.Else1) → c .before .before .before .before .before .before .args .at + 2 + c .before .before .n .given .0 .0 ≤ length (c .before .before .before .before .before .before .args .doc .now)
+whole c = omega (arith, begins (c .before), c .if1 .left)
+
+-- the part that is judged is the content
+judged : (doc : List ℕ) (a n : ℕ) {b : Bool} → wellFormed (part doc a (a + n - a)) ≡ b → wellFormed (part doc a n) ≡ b
+judged doc a n e = let k : n ≡ a + n - a = omega arith in rw k e
+
+returns-2 : tie.Need-returns-2
+returns-2 c =
+    let e = c .before .before .before in
+    let a = e .before .before .before .before .before .before .args in
+    sym (string-bad _ _ _ (is (e .before)) (whole e) (judged (a .doc .now) (a .at + 2) (e .before .before .n .given .0 .0) (sym (c .before .is-well-formed .ensures) ∙ not-true _ (c .if2 .taken))))
+
+returns-4 : tie.Need-returns-4
+returns-4 c =
+    let e = c .before .before .before in
+    let a = e .before .before .before .before .before .before .args in
+    sym (string-got _ _ _ (is (e .before)) (whole e) (judged (a .doc .now) (a .at + 2) (e .before .before .n .given .0 .0) (sym (c .before .is-well-formed .ensures) ∙ not-false _ (c .if2 .left))))
+
+pub string-at-spec : {M : Type 1} → statement M
+string-at-spec =
+    tie.close
+    (tie.spec
+    (λ c κs. search needs)
+    (λ c. search needs)
+    (λ c. search needs)
+    (λ c. search needs)
+    begins
+    (λ c. sym (string-cut _ _ _ (is (c .before)) (omega (arith, begins (c .before), c .if1 .taken))))
+    (λ c. search needs)
+    (λ c. search needs)
+    (λ c. search needs)
+    whole
+    (λ c κs. search needs)
+    returns-2
+    (λ c. sym (string-no _ _ (sym (c .before .before .before .number .ensures) ∙ ap numOut (c .before .p .given .1))))
+    returns-4)

@@ -1,0 +1,15 @@
+-- `reader::width_of` meets its contract: the constant is the definition's list.
+-- Assumes nothing.
+use borrow.Author.Needs.{needs}
+use mathlib.Core.Path.{ap, _∙_}
+use Rattle.form.specs.Table.{widthOf}
+use Rattle.form.proofs.Fields.{width-le}
+use Rattle.reader.proofs.width_of.Statement.{statement}
+use Rattle.reader.proofs.width_of.Tie as tie
+
+returns : tie.Need-returns
+unfolding widthOf
+returns c = (c .wide2 .ensures ∙ ap widthOf (c .before .wide .ensures), rw (c .wide2 .ensures) (width-le (c .before .wide .result)))
+
+pub width-of-spec : {M : Type 1} → statement M
+width-of-spec = tie.close (tie.spec (λ c κs. search needs) (λ c. search needs) (λ c κs. search needs) returns)

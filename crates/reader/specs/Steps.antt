@@ -1,0 +1,132 @@
+-- What the contracts of this crate cite: each enum of the code as the definitions' answer, and what a step leaves in the table.
+-- Assumes nothing.
+use Prim.Native.Nat.{ℕ, _+_, _*_, _≤_, _<_, _^_}
+use mathlib.Core.Path.{_≡_}
+use mathlib.Core.List.{List, [], _∷_}
+use lib.ListN.{length, replicate, take}
+use mathlib.Core.Bool.{Bool, not}
+use Rattle.form.specs.Answer.{Out, got, no, _>>_, guard}
+use Rattle.siblings.specs.Holding.{Holds}
+use Rattle.siblings.specs.Lists.{Family}
+use Rattle.form.specs.Table.{Head, Forest, none, node, size, width, words, wrote}
+use Rattle.form.specs.Reading.{Span, Entry, end, named, ListHead, One, Inside, Run, Counts}
+use Rattle.reader.specs.declared.Answer.{Answer}
+use Rattle.reader.specs.declared.Num.{Num}
+use Rattle.reader.specs.declared.Part.{Part}
+use Rattle.reader.specs.declared.Start.{Start}
+use Rattle.reader.specs.declared.Item.{Item}
+use Rattle.reader.specs.declared.Step.{Step}
+use Rattle.reader.specs.declared.Kids.{Kids}
+use Rattle.reader.specs.declared.Ran.{Ran}
+
+-- 01's number and values for each case of the public answer
+abbrev pub readOut : Answer → Out Counts
+readOut (Answer.Accepted c n) = got (record { consumed = c; records = n })
+readOut (Answer.Refused n p) = no n p
+
+abbrev pub numOut : Num → Out ℕ
+numOut (Num.Is n) = got n
+numOut (Num.Short p) = no 1 p
+
+abbrev pub partOut : Part → Out Span
+partOut (Part.Is s l c x) = got (record { start = s; size = l; count = c; next = x })
+partOut (Part.No n p) = no n p
+
+abbrev pub startOut : Start → Out ListHead
+startOut (Start.Is k n) = got (record { kind = k; count = n })
+startOut (Start.No n p) = no n p
+
+abbrev pub itemOut : Item → Out Entry
+itemOut Item.End = got end
+itemOut (Item.Named k s l x) = got (named k (record { start = s; size = l; count = 0; next = x }))
+itemOut (Item.No n p) = no n p
+
+-- what the functions below the public one require
+pub record Ready (doc table : List ℕ) (cap at n : ℕ) : Type 0 where
+  pub doc-le : length doc ≤ 16777216
+  pub at-le : at ≤ length doc
+  pub cap-le : cap ≤ 1048576
+  pub fits : 8 * cap ≤ length table
+  pub n-le : n ≤ cap
+
+-- and of a payload
+pub record Named (doc table : List ℕ) (cap at n kind name len : ℕ) : Type 0 where
+  pub ready : Ready doc table cap at n
+  pub kind-le : kind ≤ 12
+  pub name-lt : name < 2 ^ 32
+  pub len-lt : len < 2 ^ 32
+
+-- the record x was read and is written from record n on
+pub record Next (doc : List ℕ) (cap : ℕ) (o : Out One) (at′ n′ : ℕ) (at n : ℕ) (t t′ : List ℕ) : Type 0 where
+  pub x : One
+  pub is : o ≡ got x
+  pub at-is : at′ ≡ x .next
+  pub n-is : n′ ≡ n + 1 + size (x .inner)
+  pub table : t′ ≡ wrote t n (node (x .head) (x .inner) none)
+  pub on : at ≤ at′
+  pub at-le : at′ ≤ length doc
+  pub n-le : n′ ≤ cap
+
+-- the words before record n are kept
+abbrev pub Kept : ℕ → List ℕ → List ℕ → Type 0
+Kept n t t′ = take (8 * n) t′ ≡ take (8 * n) t
+
+-- what `node` leaves, by its answer: the definition's answer is o
+abbrev pub Stepped : List ℕ → ℕ → Out One → ℕ → ℕ → List ℕ → List ℕ → Step → Type 0
+Stepped doc cap o at n t t′ (Step.Next at′ n′) = Next doc cap o at′ n′ at n t t′
+Stepped doc cap o at n t t′ (Step.No m p) = (o ≡ no m p) × Kept n t t′
+
+-- the records x in a container were read and are written from record n on
+pub record Filled (doc : List ℕ) (cap : ℕ) (o : Out Inside) (at′ n′ count kind : ℕ) (at n : ℕ) (t t′ : List ℕ) : Type 0 where
+  pub x : Inside
+  pub is : o ≡ got x
+  pub at-is : at′ ≡ x .next
+  pub n-is : n′ ≡ n + size (x .forest)
+  pub count-is : count ≡ x .count
+  pub kind-is : kind ≡ x .kind
+  pub table : t′ ≡ wrote t n (x .forest)
+  pub on : at ≤ at′
+  pub at-le : at′ ≤ length doc
+  pub n-le : n′ ≤ cap
+  pub count-lt : count < 2 ^ 32
+
+abbrev pub Held : List ℕ → ℕ → Out Inside → ℕ → ℕ → List ℕ → List ℕ → Kids → Type 0
+Held doc cap o at n t t′ (Kids.Done at′ n′ count kind) = Filled doc cap o at′ n′ count kind at n t t′
+Held doc cap o at n t t′ (Kids.No m p) = (o ≡ no m p) × Kept n t t′
+
+-- the records x were read one after the other and are written from record n on
+pub record Gone (doc : List ℕ) (cap : ℕ) (o : Out Run) (at′ n′ count : ℕ) (at n : ℕ) (t t′ : List ℕ) : Type 0 where
+  pub x : Run
+  pub is : o ≡ got x
+  pub at-is : at′ ≡ x .next
+  pub n-is : n′ ≡ n + size (x .forest)
+  pub count-is : count ≡ width (x .forest)
+  pub table : t′ ≡ wrote t n (x .forest)
+  pub on : at ≤ at′
+  pub at-le : at′ ≤ length doc
+  pub n-le : n′ ≤ cap
+
+abbrev pub Went : List ℕ → ℕ → Out Run → ℕ → ℕ → List ℕ → List ℕ → Ran → Type 0
+Went doc cap o at n t t′ (Ran.Done at′ n′ count) = Gone doc cap o at′ n′ count at n t t′
+Went doc cap o at n t t′ (Ran.No m p) = (o ≡ no m p) × Kept n t t′
+
+-- what the functions that ask for a repeated name require
+pub record Known (doc t : List ℕ) (first next : ℕ) : Type 0 where
+  pub family : Family doc t first next
+  pub holds : Holds (length doc) t first next
+  pub fits : 8 * next ≤ length t
+
+-- a refusal, unless a name is repeated before it: o says whether one is
+abbrev pub Settled : Out (Unit {0}) → ℕ → ℕ → Ran → Type 0
+Settled o n p (Ran.No m q) = _>>_ {A = Unit {0}} {B = Run} o (no n p) ≡ no m q
+Settled o n p (Ran.Done a i c) = ⊥
+
+-- the end of the entries, unless a name is repeated before it
+abbrev pub Finished : Out (Unit {0}) → ℕ → ℕ → ℕ → Ran → Type 0
+Finished o at next count (Ran.No m q) = o ≡ no m q
+Finished o at next count (Ran.Done a i c) = (o ≡ got tt) × (a ≡ at) × (i ≡ next) × (c ≡ count)
+
+-- a refusal in an entry's payload: its own name comes first
+abbrev pub Spoiled : Out (Unit {0}) → Bool → ℕ → ℕ → ℕ → Ran → Type 0
+Spoiled o twice here n p (Ran.No m q) = _>>_ {A = Unit {0}} {B = Run} o (guard (not twice) 6 here >> no n p) ≡ no m q
+Spoiled o twice here n p (Ran.Done a i c) = ⊥

@@ -1,0 +1,641 @@
+// Rules 3 to 6: a document read into a table of records. Each function has the name of the definition in form/specs/Reading.antt that
+// it meets; io.rs of the crate reads in the same order.
+ghost use mathlib.Core.Path.{_≡_};
+ghost use Prim.Native.Nat.{ℕ, suc, _+_, _*_, _≤_, _<_, _^_};
+ghost use lib.ListN.{length, replicate};
+ghost use Rattle.form.specs.Decoding.{wellFormed};
+ghost use Rattle.form.specs.Table.{none, holds, widthOf};
+ghost use Rattle.form.specs.Spans.{over, same, part};
+ghost use Rattle.siblings.specs.Holding.{among, Holds};
+ghost use Rattle.form.specs.Reading.{ReadIs, numberAt, bytesAt, stringAt, arrayAt, leafAt, leafOne, listHeadAt, entryAt, payloadBy, insideAt, containerAt, listAt, compoundAt, documentAt, roomOf, elements as elementsOf, entries as entriesOf};
+ghost use Rattle.reader.specs.Steps.{readOut, numOut, partOut, startOut, itemOut, Ready, Named, Stepped, Held, Went, Known, Settled, Finished, Spoiled};
+ghost use Rattle.siblings.specs.Names.{firstRepeat};
+ghost use Rattle.siblings.specs.Forests.{refusalOf};
+use siblings::Found;
+
+// The answer to a read: the bytes consumed and the records written, or the number and the place of the refusal.
+pub enum Answer {
+    Accepted { consumed: usize, records: usize },
+    Refused { number: u8, place: usize },
+}
+
+enum Num {
+    Is(usize),
+    Short(usize),
+}
+
+enum Part {
+    Is {
+        start: usize,
+        len: usize,
+        count: usize,
+        next: usize,
+    },
+    No {
+        number: u8,
+        place: usize,
+    },
+}
+
+enum Start {
+    Is { kind: u8, count: usize },
+    No { number: u8, place: usize },
+}
+
+enum Item {
+    End,
+    Named {
+        kind: u8,
+        start: usize,
+        len: usize,
+        next: usize,
+    },
+    No {
+        number: u8,
+        place: usize,
+    },
+}
+
+enum Step {
+    Next { at: usize, ix: usize },
+    No { number: u8, place: usize },
+}
+
+enum Kids {
+    Done {
+        at: usize,
+        ix: usize,
+        count: usize,
+        kind: u8,
+    },
+    No {
+        number: u8,
+        place: usize,
+    },
+}
+
+enum Ran {
+    Done { at: usize, ix: usize, count: usize },
+    No { number: u8, place: usize },
+}
+
+fn wide(x: u8) -> usize
+    ensures { λ r. ⌜ r ≡ x ⌝ }
+{
+    x as usize
+}
+
+// The big-endian number in the n bytes at `at`.
+fn number(doc: &[u8], n: usize, at: usize) -> Num
+    requires { ⌜ (n ≤ 4) × (at ≤ length (now doc)) ⌝ }
+    ensures { λ r. ⌜ numOut r ≡ numberAt (now (doc .entry)) n at ⌝ }
+{
+    if doc.len() - at < n {
+        return Num::Short(at);
+    }
+    let mut v: usize = 0;
+    let mut i: usize = 0;
+    while i < n {
+        v = v * 256 + wide(doc[at + i]);
+        i += 1;
+    }
+    Num::Is(v)
+}
+
+// The n bytes at `at`.
+fn bytes_at(doc: &[u8], n: usize, count: usize, at: usize) -> Part
+    requires { ⌜ at ≤ length (now doc) ⌝ }
+    ensures { λ r. ⌜ partOut r ≡ bytesAt (now (doc .entry)) n count at ⌝ }
+{
+    if doc.len() - at < n {
+        return Part::No {
+            number: form::DATA_ENDS,
+            place: at,
+        };
+    }
+    Part::Is {
+        start: at,
+        len: n,
+        count,
+        next: at + n,
+    }
+}
+
+fn is_well_formed(s: &[u8]) -> bool
+    ensures { λ r. ⌜ r ≡ wellFormed (now (s .entry)) ⌝ }
+{
+    true
+}
+
+// A string: its length, its content (1), which is well formed (4).
+fn string_at(doc: &[u8], at: usize) -> Part
+    requires { ⌜ at ≤ length (now doc) ⌝ }
+    ensures { λ r. ⌜ partOut r ≡ stringAt (now (doc .entry)) at ⌝ }
+{
+    match number(doc, 2, at) {
+        Num::Short(p) => Part::No {
+            number: form::DATA_ENDS,
+            place: p,
+        },
+        Num::Is(n) => {
+            let start = at + 2;
+            if doc.len() - start < n {
+                return Part::No {
+                    number: form::DATA_ENDS,
+                    place: start,
+                };
+            }
+            let end = start + n;
+            if !is_well_formed(&doc[start..end]) {
+                return Part::No {
+                    number: form::BAD_STRING,
+                    place: start,
+                };
+            }
+            Part::Is {
+                start,
+                len: n,
+                count: 0,
+                next: end,
+            }
+        }
+    }
+}
+
+// An array: its count (1, 5), then its elements as one field (1).
+fn array_at(doc: &[u8], w: usize, at: usize) -> Part
+    requires { ⌜ (w ≤ 8) × (at ≤ length (now doc)) ⌝ }
+    ensures { λ r. ⌜ partOut r ≡ arrayAt (now (doc .entry)) w at ⌝ }
+{
+    match number(doc, 4, at) {
+        Num::Short(p) => Part::No {
+            number: form::DATA_ENDS,
+            place: p,
+        },
+        Num::Is(n) => {
+            if n < 2147483648 {
+                bytes_at(doc, n * w, n, at + 4)
+            } else {
+                Part::No {
+                    number: form::NEGATIVE_COUNT,
+                    place: at,
+                }
+            }
+        }
+    }
+}
+
+const WIDTHS: [u8; 13] = [0, 1, 2, 4, 8, 4, 8, 1, 0, 0, 0, 4, 8];
+
+fn width_of(kind: u8) -> usize
+    requires { ⌜ kind ≤ 12 ⌝ }
+    ensures { λ r. ⌜ (r ≡ widthOf kind) × (r ≤ 8) ⌝ }
+{
+    let k = wide(kind);
+    wide(WIDTHS[k])
+}
+
+// A payload that holds no records.
+fn leaf_at(doc: &[u8], kind: u8, at: usize) -> Part
+    requires { ⌜ (kind ≤ 12) × (at ≤ length (now doc)) ⌝ }
+    ensures { λ r. ⌜ partOut r ≡ leafAt (now (doc .entry)) kind at ⌝ }
+{
+    if kind < 7 {
+        bytes_at(doc, width_of(kind), 0, at)
+    } else if kind == 8 {
+        string_at(doc, at)
+    } else {
+        array_at(doc, width_of(kind), at)
+    }
+}
+
+// A list's kind and count.
+fn list_head(doc: &[u8], at: usize) -> Start
+    requires { ⌜ at ≤ length (now doc) ⌝ }
+    ensures { λ r. ⌜ startOut r ≡ listHeadAt (now (doc .entry)) at ⌝ }
+{
+    if doc.len() <= at {
+        return Start::No {
+            number: form::DATA_ENDS,
+            place: at,
+        };
+    }
+    let kind = doc[at];
+    match number(doc, 4, at + 1) {
+        Num::Short(p) => Start::No {
+            number: form::DATA_ENDS,
+            place: p,
+        },
+        Num::Is(n) => {
+            if 12 < kind {
+                return Start::No {
+                    number: form::TAG_ID,
+                    place: at,
+                };
+            }
+            if n == 0 {
+                return Start::Is { kind: 0, count: 0 };
+            }
+            if kind == 0 {
+                return Start::No {
+                    number: form::TAG_ID,
+                    place: at,
+                };
+            }
+            if n < 2147483648 {
+                Start::Is { kind, count: n }
+            } else {
+                Start::No {
+                    number: form::NEGATIVE_COUNT,
+                    place: at + 1,
+                }
+            }
+        }
+    }
+}
+
+// An entry's kind and name, or a compound's end.
+fn entry_at(doc: &[u8], at: usize) -> Item
+    requires { ⌜ at ≤ length (now doc) ⌝ }
+    ensures { λ r. ⌜ itemOut r ≡ entryAt (now (doc .entry)) at ⌝ }
+{
+    if doc.len() <= at {
+        return Item::No {
+            number: form::DATA_ENDS,
+            place: at,
+        };
+    }
+    let kind = doc[at];
+    if kind == 0 {
+        return Item::End;
+    }
+    match string_at(doc, at + 1) {
+        Part::No { number, place } => Item::No { number, place },
+        Part::Is {
+            start,
+            len,
+            count: _,
+            next,
+        } => {
+            if 12 < kind {
+                return Item::No {
+                    number: form::TAG_ID,
+                    place: at,
+                };
+            }
+            Item::Named {
+                kind,
+                start,
+                len,
+                next,
+            }
+        }
+    }
+}
+
+// Whether a kind holds records.
+fn is_container(kind: u8) -> bool
+    ensures { λ r. ⌜ r ≡ holds kind ⌝ }
+{
+    kind == 9 || kind == 10
+}
+
+// A payload that holds no records, read and written as record ix.
+fn leaf(
+    doc: &[u8],
+    kind: u8,
+    name: usize,
+    name_len: usize,
+    at: usize,
+    table: &mut [u32],
+    cap: usize,
+    ix: usize,
+) -> Step
+    requires { ⌜ (Named (now doc) (now table) cap at ix kind name «name_len») × (ix < cap) ⌝ }
+    ensures { λ r. ⌜ Stepped (now (doc .entry)) cap (leafOne (now (doc .entry)) kind name «name_len» at) at ix (now (table .entry)) (now (table .exit)) r ⌝ }
+{
+    match leaf_at(doc, kind, at) {
+        Part::No { number, place } => Step::No { number, place },
+        Part::Is {
+            start,
+            len,
+            count,
+            next,
+        } => {
+            table::put(
+                table,
+                ix,
+                table::leaf(wide(kind), name, name_len, start, len, count, ix + 1),
+            );
+            Step::Next {
+                at: next,
+                ix: ix + 1,
+            }
+        }
+    }
+}
+
+// A payload at `at`, whose record has the number ix: room, then depth, then what it holds.
+fn node(
+    doc: &[u8],
+    kind: u8,
+    name: usize,
+    name_len: usize,
+    at: usize,
+    depth: usize,
+    table: &mut [u32],
+    cap: usize,
+    ix: usize,
+) -> Step
+    requires { ⌜ Named (now doc) (now table) cap at ix kind name «name_len» ⌝ }
+    ensures { λ r. ⌜ Stepped (now (doc .entry)) cap (payloadBy (now (doc .entry)) cap (insideAt (now (doc .entry)) cap depth) kind name «name_len» at ix) at ix (now (table .entry)) (now (table .exit)) r ⌝ }
+{
+    if cap <= ix {
+        return Step::No {
+            number: form::TABLE_FULL,
+            place: at,
+        };
+    }
+    if !is_container(kind) {
+        return leaf(doc, kind, name, name_len, at, table, cap, ix);
+    }
+    match inside(doc, kind, at, depth, table, cap, ix + 1) {
+        Kids::No { number, place } => Step::No { number, place },
+        Kids::Done {
+            at: next,
+            ix: end,
+            count,
+            kind: inner,
+        } => {
+            table::put(
+                table,
+                ix,
+                table::container(wide(kind), name, name_len, count, wide(inner), end),
+            );
+            Step::Next { at: next, ix: end }
+        }
+    }
+}
+
+// What is in a container at `at`.
+fn inside(
+    doc: &[u8],
+    kind: u8,
+    at: usize,
+    depth: usize,
+    table: &mut [u32],
+    cap: usize,
+    ix: usize,
+) -> Kids
+    requires { ⌜ Ready (now doc) (now table) cap at ix ⌝ }
+    ensures { λ r. ⌜ Held (now (doc .entry)) cap (insideAt (now (doc .entry)) cap depth kind at ix) at ix (now (table .entry)) (now (table .exit)) r ⌝ }
+{
+    if depth == 0 {
+        return Kids::No {
+            number: form::TOO_DEEP,
+            place: at,
+        };
+    }
+    if kind == 9 {
+        return list(doc, at, depth - 1, table, cap, ix);
+    }
+    match entries(doc, at, depth - 1, table, cap, ix) {
+        Ran::No { number, place } => Kids::No { number, place },
+        Ran::Done {
+            at: next,
+            ix: end,
+            count,
+        } => Kids::Done {
+            at: next,
+            ix: end,
+            count,
+            kind: 0,
+        },
+    }
+}
+
+// A list's head and elements, each of which may hold depth containers.
+fn list(doc: &[u8], at: usize, depth: usize, table: &mut [u32], cap: usize, ix: usize) -> Kids
+    requires { ⌜ Ready (now doc) (now table) cap at ix ⌝ }
+    ensures { λ r. ⌜ Held (now (doc .entry)) cap (listAt (now (doc .entry)) (payloadBy (now (doc .entry)) cap (insideAt (now (doc .entry)) cap depth)) at ix) at ix (now (table .entry)) (now (table .exit)) r ⌝ }
+{
+    match list_head(doc, at) {
+        Start::No { number, place } => Kids::No { number, place },
+        Start::Is { kind, count } => match elements(
+            doc,
+            kind,
+            count,
+            at + 5,
+            depth,
+            table,
+            cap,
+            ix,
+        ) {
+            Ran::No { number, place } => Kids::No { number, place },
+            Ran::Done {
+                at: next,
+                ix: end,
+                count: _,
+            } => Kids::Done {
+                at: next,
+                ix: end,
+                count,
+                kind,
+            },
+        },
+    }
+}
+
+// As many elements as count says.
+fn elements(
+    doc: &[u8],
+    kind: u8,
+    count: usize,
+    at: usize,
+    depth: usize,
+    table: &mut [u32],
+    cap: usize,
+    ix: usize,
+) -> Ran
+    requires { ⌜ (Ready (now doc) (now table) cap at ix) × (kind ≤ 12) ⌝ }
+    ensures { λ r. ⌜ Went (now (doc .entry)) cap (elementsOf (now (doc .entry)) (payloadBy (now (doc .entry)) cap (insideAt (now (doc .entry)) cap depth)) count kind at ix) at ix (now (table .entry)) (now (table .exit)) r ⌝ }
+{
+    let mut here = at;
+    let mut next = ix;
+    let mut left = count;
+    while 0 < left {
+        match node(doc, kind, 0, 0, here, depth, table, cap, next) {
+            Step::No { number, place } => return Ran::No { number, place },
+            Step::Next { at: a, ix: i } => {
+                here = a;
+                next = i;
+            }
+        }
+        left -= 1;
+    }
+    Ran::Done {
+        at: here,
+        ix: next,
+        count,
+    }
+}
+
+// A refusal, unless the names of the records from `first` up to `next` are not told apart.
+fn settle(doc: &[u8], table: &mut [u32], first: usize, next: usize, number: u8, place: usize) -> Ran
+    requires { ⌜ Known (now doc) (now table) first next ⌝ }
+    ensures { λ r. ⌜ (Settled (refusalOf (now (table .entry)) (firstRepeat (now (doc .entry)) (now (table .entry)) first next)) number place r) × (now (table .exit) ≡ now (table .entry)) ⌝ }
+{
+    match siblings::repeat_place(doc, table, first, next) {
+        Found::At(p) => Ran::No {
+            number: form::NAME_TWICE,
+            place: p,
+        },
+        Found::Nothing => Ran::No { number, place },
+    }
+}
+
+// The end of the entries, unless their names are not told apart.
+fn finish(doc: &[u8], table: &mut [u32], first: usize, next: usize, at: usize, count: usize) -> Ran
+    requires { ⌜ Known (now doc) (now table) first next ⌝ }
+    ensures { λ r. ⌜ (Finished (refusalOf (now (table .entry)) (firstRepeat (now (doc .entry)) (now (table .entry)) first next)) at next count r) × (now (table .exit) ≡ now (table .entry)) ⌝ }
+{
+    match siblings::repeat_place(doc, table, first, next) {
+        Found::At(p) => Ran::No {
+            number: form::NAME_TWICE,
+            place: p,
+        },
+        Found::Nothing => Ran::Done {
+            at,
+            ix: next,
+            count,
+        },
+    }
+}
+
+// A refusal in the payload of an entry at `here`, unless a name is repeated before it, the entry's own too.
+fn spoiled(
+    doc: &[u8],
+    table: &mut [u32],
+    first: usize,
+    next: usize,
+    start: usize,
+    len: usize,
+    here: usize,
+    number: u8,
+    place: usize,
+) -> Ran
+    requires { ⌜ (Known (now doc) (now table) first next) × (start + len ≤ length (now doc)) ⌝ }
+    ensures { λ r. ⌜ (Spoiled (refusalOf (now (table .entry)) (firstRepeat (now (doc .entry)) (now (table .entry)) first next)) (among (now (doc .entry)) (now (table .entry)) (suc next) first next (part (now (doc .entry)) start len)) here number place r) × (now (table .exit) ≡ now (table .entry)) ⌝ }
+{
+    if siblings::has_name(doc, table, first, next, start, len) {
+        return settle(doc, table, first, next, form::NAME_TWICE, here);
+    }
+    settle(doc, table, first, next, number, place)
+}
+
+// The entries up to the end byte.
+fn entries(doc: &[u8], at: usize, depth: usize, table: &mut [u32], cap: usize, ix: usize) -> Ran
+    requires { ⌜ Ready (now doc) (now table) cap at ix ⌝ }
+    ensures { λ r. ⌜ Went (now (doc .entry)) cap (entriesOf (now (doc .entry)) (payloadBy (now (doc .entry)) cap (insideAt (now (doc .entry)) cap depth)) (suc (length (now (doc .entry)))) none at ix) at ix (now (table .entry)) (now (table .exit)) r ⌝ }
+{
+    let mut here = at;
+    let mut next = ix;
+    let mut count: usize = 0;
+    loop {
+        match entry_at(doc, here) {
+            Item::No { number, place } => return settle(doc, table, ix, next, number, place),
+            Item::End => return finish(doc, table, ix, next, here + 1, count),
+            Item::Named {
+                kind,
+                start,
+                len,
+                next: from,
+            } => match node(doc, kind, start, len, from, depth, table, cap, next) {
+                Step::No { number, place } => {
+                    return spoiled(doc, table, ix, next, start, len, here, number, place);
+                }
+                Step::Next { at: a, ix: i } => {
+                    here = a;
+                    next = i;
+                    count += 1;
+                }
+            },
+        }
+    }
+}
+
+// How many records a table of n words has room for.
+fn room(n: usize) -> usize
+    ensures { λ r. ⌜ r ≡ roomOf n ⌝ }
+{
+    if n / table::WORDS < form::RECORDS {
+        n / table::WORDS
+    } else {
+        form::RECORDS
+    }
+}
+
+// A whole document, from record 0 on.
+fn document(doc: &[u8], table: &mut [u32]) -> Step
+    ensures { λ r. ⌜ Stepped (now (doc .entry)) (roomOf (length (now (table .entry)))) (documentAt (now (doc .entry)) (roomOf (length (now (table .entry))))) 0 0 (now (table .entry)) (now (table .exit)) r ⌝ }
+{
+    if form::DOCUMENT < doc.len() {
+        return Step::No {
+            number: form::OVER_LIMIT,
+            place: 0,
+        };
+    }
+    if doc.len() == 0 {
+        return Step::No {
+            number: form::DATA_ENDS,
+            place: 0,
+        };
+    }
+    let kind = doc[0];
+    if kind == 10 {
+        match string_at(doc, 1) {
+            Part::No { number, place } => Step::No { number, place },
+            Part::Is {
+                start,
+                len,
+                count: _,
+                next,
+            } => {
+                let cap = room(table.len());
+                node(doc, 10, start, len, next, form::DEPTH, table, cap, 0)
+            }
+        }
+    } else {
+        Step::No {
+            number: form::ROOT_ID,
+            place: 0,
+        }
+    }
+}
+
+// All words to 0.
+fn clear(table: &mut [u32])
+    ensures { λ _. ⌜ now (table .exit) ≡ replicate (length (now (table .entry))) 0 ⌝ }
+{
+    let mut i: usize = 0;
+    while i < table.len() {
+        table[i] = 0;
+        i += 1;
+    }
+}
+
+// Reads a document into the table. A refused read leaves the table all zero; an accepted one changes the records' words only.
+pub fn read(doc: &[u8], table: &mut [u32]) -> Answer
+    ensures { λ r. ⌜ ReadIs (now (doc .entry)) (now (table .entry)) (readOut r) (now (table .exit)) ⌝ }
+{
+    match document(doc, table) {
+        Step::No { number, place } => {
+            clear(table);
+            Answer::Refused { number, place }
+        }
+        Step::Next { at, ix } => Answer::Accepted {
+            consumed: at,
+            records: ix,
+        },
+    }
+}
