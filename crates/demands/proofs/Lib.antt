@@ -1,0 +1,13 @@
+pub mod Sits
+pub mod Answers
+pub mod Tags
+pub mod Names
+pub mod Fields
+pub mod Heads
+pub mod Leaves
+pub mod Complete
+pub mod Sound
+pub mod Documents
+pub mod Canonical
+pub mod Reading
+pub mod Marked
