@@ -15,7 +15,7 @@ use Rattle.form.specs.Layout.{stringBytes, listId, Payload, Elements, EntryByte
 use Rattle.form.specs.Table.{Forest, none, node, size, _⊕_, holds, valueBy, tagsOf, entriesOf}
 use Rattle.form.specs.Reading.{One, Run, Inside, heldOne, hasName, leafAt, leafOne, elements, entries, listAt, compoundAt, containerAt, payloadBy, insideAt}
 use Rattle.form.proofs.Fields.{entry-last}
-use Rattle.form.proofs.Signs.{bytes-length}
+use Rattle.form.proofs.Digits.{digits-length}
 use Rattle.demands.proofs.Sits.{Sits, sits-first, sits-rest, sits-head}
 use Rattle.demands.proofs.Answers.{Answers, Accepted, bind-answers, guard-answers, got-answers}
 use Rattle.demands.proofs.Tags.{tagOf, readAt, kind-range}
@@ -105,13 +105,13 @@ module _ (doc : List ℕ) where
         first = sits-first (id ∷ bytesOf 4 (many ts)) body sits
 
         five : at + length (id ∷ bytesOf 4 (many ts)) ≡ at + 5
-        five = omega (arith, bytes-length 4 (many ts))
+        five = omega (arith, digits-length 4 (many ts))
 
         rest : Sits doc (at + 5) body
         rest = rw five at (sits-rest (id ∷ bytesOf 4 (many ts)) body sits)
 
         whole : at + 5 + length body ≡ at + length bs
-        whole = omega (arith, ap length (p .4), length-append (bytesOf 4 (many ts)) body, bytes-length 4 (many ts))
+        whole = omega (arith, ap length (p .4), length-append (bytesOf 4 (many ts)) body, digits-length 4 (many ts))
 
         held : (f : Forest) (q : ℕ) → TagsRead ts (at + 5 + length body) f q
             → TagRead (list ts) name len (at + length bs) (heldOne 9 name len (record { forest = f; count = many ts; kind = listId ts; next = q }))

@@ -19,7 +19,8 @@ use Rattle.form.specs.Layout.{stringBytes}
 use Rattle.form.specs.Reading.{Span, byteAt, bytesAt, numberAt, stringAt, countAt}
 use Rattle.form.proofs.Spans.{part-length}
 use Rattle.form.proofs.Fields.{byte-got, number-got, string-got}
-use Rattle.form.proofs.Signs.{bytes-length, bytes-value, value-bytes}
+use Rattle.form.proofs.Digits.{digits-length, value-digits-below}
+use Rattle.form.proofs.Places.{value-bytes}
 use Rattle.demands.specs.Reading.{Bytes}
 use Rattle.demands.proofs.Sits.{Sits, sits-first, sits-rest, sits-join, sits-part, sits-head, sits-byte}
 use Rattle.demands.proofs.Answers.{Answers, Numbered, bind-answers, guard-answers, got-answers}
@@ -29,7 +30,7 @@ abbrev pub StringLaw : Type 0
 StringLaw = (l : List ℕ) → (wellFormed l ≡ true) ↔ WellFormed l
 
 pub string-length : (xs : List ℕ) → length (stringBytes xs) ≡ 2 + length xs
-string-length xs = omega (arith, length-append (bytesOf 2 (length xs)) xs, bytes-length 2 (length xs))
+string-length xs = omega (arith, length-append (bytesOf 2 (length xs)) xs, digits-length 2 (length xs))
 
 module _ (doc : List ℕ) where
   -- ---- what is read is laid out
@@ -82,7 +83,7 @@ module _ (doc : List ℕ) where
           let k : length xs ≡ n = part-length doc (at + 2) n l in
           record {
             start = refl;
-            sits = sits-join (bytesOf 2 (length xs)) xs (rw k p) (rw (bytes-length 2 (length xs)) (sits-part doc (at + 2) n l));
+            sits = sits-join (bytesOf 2 (length xs)) xs (rw k p) (rw (digits-length 2 (length xs)) (sits-part doc (at + 2) n l));
             next = omega (arith, k, string-length xs);
             text = (w, omega (arith, k));
           }
@@ -96,10 +97,10 @@ module _ (doc : List ℕ) where
   number-read {at} n v h s =
       let t = s .to in
       let e = s .is in
-      number-got doc n at (omega (arith, bytes-length n v)) ∙ ap got (ap bigEndian (rw (bytes-length n v) at e) ∙ bytes-value n v h)
+      number-got doc n at (omega (arith, digits-length n v)) ∙ ap got (ap bigEndian (rw (digits-length n v) at e) ∙ value-digits-below n v h)
 
   pub string-content : {at : ℕ} (xs : List ℕ) → Sits doc at (stringBytes xs) → Sits doc (at + 2) xs
-  string-content xs s = rw (bytes-length 2 (length xs)) at (sits-rest (bytesOf 2 (length xs)) xs s)
+  string-content xs s = rw (digits-length 2 (length xs)) at (sits-rest (bytesOf 2 (length xs)) xs s)
 
   pub string-read : StringLaw → {at : ℕ} (xs : List ℕ) → Text xs → Sits doc at (stringBytes xs)
       → stringAt doc at ≡ got (record { start = at + 2; size = length xs; count = 0; next = at + 2 + length xs })

@@ -17,7 +17,8 @@ use Rattle.form.specs.Table.{Head, widthOf, holds, intsAt, valueBy}
 use Rattle.form.specs.Reading.{Span, bytesAt, stringAt, countAt, arrayAt, leafAt}
 use Rattle.form.proofs.Spans.{part-length}
 use Rattle.form.proofs.Fields.{bytes-got, array-got}
-use Rattle.form.proofs.Signs.{bytes-length, bytes-value, value-bytes, bits-below, signed-bits, bits-signed, signed-fits}
+use Rattle.form.proofs.Digits.{digits-length, value-digits-below, bits-below, signed-bits, bits-signed, signed-fits}
+use Rattle.form.proofs.Places.{value-bytes}
 use Rattle.demands.specs.Reading.{Bytes}
 use Rattle.demands.proofs.Sits.{Sits, sits-first, sits-rest, sits-join, sits-part}
 use Rattle.demands.proofs.Answers.{Answers, Accepted, Numbered, bind-answers, weaker, got-answers}
@@ -35,19 +36,19 @@ pub ints-length : (w : ℕ) (vs : List ℤ) → length (intsBytes w vs) ≡ leng
 unfolding intsBytes
 ints-length w [] = omega arith
 ints-length w (v ∷ vs) =
-    simp length-append (omega (arith, ints-length w vs, bytes-length w (bitsOf w v)))
+    simp length-append (omega (arith, ints-length w vs, digits-length w (bitsOf w v)))
 
 module _ (doc : List ℕ) where
   int-read : (at w : ℕ) (v : ℤ) → FitsIn w v → Sits doc at (intBytes w v) → signedOf w (bigEndian (part doc at w)) ≡ v
   int-read at w v f s =
-      let e : part doc at w ≡ intBytes w v = rw (bytes-length w (bitsOf w v)) at (s .is) in
-      ap (λ l. signedOf w (bigEndian l)) e ∙ ap (signedOf w) (bytes-value w (bitsOf w v) (bits-below w v f)) ∙ signed-bits w v f
+      let e : part doc at w ≡ intBytes w v = rw (digits-length w (bitsOf w v)) at (s .is) in
+      ap (λ l. signedOf w (bigEndian l)) e ∙ ap (signedOf w) (value-digits-below w (bitsOf w v) (bits-below w v f)) ∙ signed-bits w v f
 
   ints-read : (at w : ℕ) (vs : List ℤ) → AllFit w vs → Sits doc at (intsBytes w vs) → intsAt doc w (length vs) at ≡ vs
   unfolding AllFit intsBytes intsAt
   ints-read at w [] f s = refl
   ints-read at w (v ∷ vs) f s =
-      let r = rw (bytes-length w (bitsOf w v)) at (sits-rest (intBytes w v) (intsBytes w vs) s) in
+      let r = rw (digits-length w (bitsOf w v)) at (sits-rest (intBytes w v) (intsBytes w vs) s) in
       (λ i. int-read at w v (f .0) (sits-first (intBytes w v) (intsBytes w vs) s) i ∷ ints-read (at + w) w vs (f .1) r i)
 
   -- ---- what is laid out is read
@@ -61,21 +62,21 @@ module _ (doc : List ℕ) where
       × (at + 4 + length vs * w ≡ at + length bs) × (intsAt doc w (length vs) (at + 4) ≡ vs)
   array-read at w vs bs a e s =
       let s′ : Sits doc at (bytesOf 4 (length vs) ++ intsBytes w vs) = rw e at s in
-      let r : Sits doc (at + 4) (intsBytes w vs) = rw (bytes-length 4 (length vs)) at (sits-rest (bytesOf 4 (length vs)) (intsBytes w vs) s′) in
+      let r : Sits doc (at + 4) (intsBytes w vs) = rw (digits-length 4 (length vs)) at (sits-rest (bytesOf 4 (length vs)) (intsBytes w vs) s′) in
       let n = number-read doc 4 (length vs) (omega (arith, a .1)) (sits-first (bytesOf 4 (length vs)) (intsBytes w vs) s′) in (
         array-got doc w at (length vs) n (a .1) ∙ bytes-got doc (length vs * w) (length vs) (at + 4) (omega (arith, r .to, ints-length w vs)),
-        rw e (omega (arith, ints-length w vs, length-append (bytesOf 4 (length vs)) (intsBytes w vs), bytes-length 4 (length vs))),
+        rw e (omega (arith, ints-length w vs, length-append (bytesOf 4 (length vs)) (intsBytes w vs), digits-length 4 (length vs))),
         ints-read (at + 4) w vs (a .0) r,
       )
 
   module _ (at : ℕ) (bs : List ℕ) (s : Sits doc at bs) where
     fixed : (w v : ℕ) → bs ≡ bytesOf w v → (bytesAt doc w 0 at ≡ got (record { start = at; size = w; count = 0; next = at + w })) × (at + w ≡ at + length bs)
-    fixed w v e = let l = ap length e ∙ bytes-length w v in (bytes-got doc w 0 at (omega (arith, s .to, l)), omega (arith, l))
+    fixed w v e = let l = ap length e ∙ digits-length w v in (bytes-got doc w 0 at (omega (arith, s .to, l)), omega (arith, l))
 
     float-read : (w v : ℕ) → v < valuesIn w → bs ≡ bytesOf w v → bigEndian (part doc at w) ≡ v
     float-read w v h e =
-        let l = ap length e ∙ bytes-length w v in
-        ap bigEndian (rw l at (s .is) ∙ e) ∙ bytes-value w v h
+        let l = ap length e ∙ digits-length w v in
+        ap bigEndian (rw l at (s .is) ∙ e) ∙ value-digits-below w v h
 
     pub leaf-read : StringLaw → (t : Tag) → holds (kindOf t) ≡ false → Payload t bs → Valid t → Answers Accepted (ReadAs at bs t) (leafAt doc (kindOf t) at)
     unfolding leafAt Payload Valid valueBy kindOf widthOf
@@ -156,8 +157,8 @@ module _ (doc : List ℕ) where
             let k = part-length doc (at + 4) (n * w) l in
             record {
               bs = bytesOf 4 n ++ body;
-              sits = sits-join (bytesOf 4 n) body c (rw (bytes-length 4 n) (sits-part doc (at + 4) (n * w) l));
-              next = omega (arith, k, length-append (bytesOf 4 n) body, bytes-length 4 n);
+              sits = sits-join (bytesOf 4 n) body c (rw (digits-length 4 n) (sits-part doc (at + 4) (n * w) l));
+              next = omega (arith, k, length-append (bytesOf 4 n) body, digits-length 4 n);
               is = λ name len. f name len n (bytesOf 4 n ++ body) (i .1, omega (arith, i .2, h)) (λ j. bytesOf 4 (sym (i .2) j) ++ i .0 j);
             }
 

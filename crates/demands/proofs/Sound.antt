@@ -15,7 +15,7 @@ use Rattle.form.specs.Tree.{Tag, Tags, nil, more, kindOf, many, tagCount, tagsC
 use Rattle.form.specs.Layout.{stringBytes, ListId, Payload, Elements, EntryBytes}
 use Rattle.form.specs.Table.{Forest, none, node, size, _⊕_, holds, valueBy, tagsOf, entriesOf}
 use Rattle.form.specs.Reading.{One, Run, Inside, Span, ListHead, Entry, end, named, heldOne, before, hasName, entryAt, listHeadAt, leafAt, leafOne, elements, entries, listAt, compoundAt, containerAt, payloadBy, insideAt}
-use Rattle.form.proofs.Signs.{bytes-length}
+use Rattle.form.proofs.Digits.{digits-length}
 use Rattle.demands.specs.Reading.{Bytes}
 use Rattle.demands.proofs.Sits.{Sits, sits-join, sits-nil}
 use Rattle.demands.proofs.Answers.{Answers, Numbered, bind-answers, guard-answers, got-answers, no-answers}
@@ -197,18 +197,18 @@ module _ (doc : List ℕ) (wf : StringLaw) (bytes : Bytes doc) (room : ℕ) wher
     list-sound at n l r =
         bind-answers (listHeadAt doc at) _ (head-sound doc bytes at)
         (λ h i. bind-answers (elements doc (readAt doc room d) (h .count) (h .kind) (at + 5) n) _
-        (tags-sound (h .count) (h .kind) (at + 5) n (λ p. (omega (arith, i .some-is p), omega (arith, i .some-is p, i .id-le))) (omega (arith, i .sits .to, bytes-length 4 (h .count))) r)
+        (tags-sound (h .count) (h .kind) (at + 5) n (λ p. (omega (arith, i .some-is p), omega (arith, i .some-is p, i .id-le))) (omega (arith, i .sits .to, digits-length 4 (h .count))) r)
         (λ r w. got-answers (held h i r w)))
       where
         held : (h : ListHead) → HeadIs doc at h → (r : Run) → TagsSound doc room d (h .kind) (h .count) (at + 5) n r
             → HeldSound doc room (suc d) 9 at n (record { forest = r .forest; count = h .count; kind = h .kind; next = r .next })
         held h i r w =
             let hd = i .id ∷ bytesOf 4 (h .count) in
-            let five : at + length hd ≡ at + 5 = omega (arith, bytes-length 4 (h .count)) in
+            let five : at + length hd ≡ at + 5 = omega (arith, digits-length 4 (h .count)) in
             record {
               bs = hd ++ w .bs;
               sits = sits-join hd (w .bs) (i .sits) (rw five (w .sits));
-              next = omega (arith, w .next, length-append (bytesOf 4 (h .count)) (w .bs), bytes-length 4 (h .count));
+              next = omega (arith, w .next, length-append (bytesOf 4 (h .count)) (w .bs), digits-length 4 (h .count));
               is = λ name len. record {
                 kind-is = refl;
                 lays = (i .id, w .bs, list-id (h .kind) (i .id) (tagsOf doc (r .forest)) (w .one-kind) (i .id-le) (λ p. i .some-is (omega (arith, w .many-is, p)) .0), w .lays, ap (λ c. i .id ∷ bytesOf 4 c ++ w .bs) (sym (w .many-is)));

@@ -1,7 +1,8 @@
 pub mod Answer
 pub mod Spans
 pub mod Numbers
-pub mod Signs
+pub mod Digits
+pub mod Places
 pub mod Table
 pub mod Fields
 pub mod Payloads

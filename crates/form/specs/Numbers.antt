@@ -17,7 +17,7 @@ digits zero v = []
 digits (suc w) v = digits w (v / 256) ++ (v % 256 ∷ [])
 
 -- Byte order: the digits that bytes are, and back. Rule 1's order has the highest first, as they stand. Another order is another
--- line here and in raw's `digit_at`: what is proved of digits does not change.
+-- line here and in raw's `place_of`: what is proved of digits does not change.
 abbrev pub ordered : List ℕ → List ℕ
 ordered bs = bs
 

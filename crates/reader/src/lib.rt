@@ -93,13 +93,7 @@ fn number(doc: &[u8], n: usize, at: usize) -> Num
     if doc.len() - at < n {
         return Num::Short(at);
     }
-    let mut v: usize = 0;
-    let mut i: usize = 0;
-    while i < n {
-        v = v * 256 + wide(doc[at + i]);
-        i += 1;
-    }
-    Num::Is(v)
+    Num::Is(raw::number_at(doc, at, n) as usize)
 }
 
 // The n bytes at `at`.

@@ -1,0 +1,4 @@
+pub mod Order
+pub mod Turns
+pub mod Signs
+pub mod Inverse

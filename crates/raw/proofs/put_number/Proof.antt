@@ -1,0 +1,85 @@
+-- `raw::put_number` meets its contract. The loop's invariant: what the slice will be, once the digits left are written, stays the same.
+-- Assumes nothing.
+use Prim.Native.Nat.{_+_, _-_, _/_, _%_, _≤_, _<_}
+use mathlib.Core.Path.{_≡_, refl, subst, sym, ap, _∙_}
+use native.Mathlib.Omega.{arith}
+use lib.ListN.{length, set, length-set}
+use Rattle.form.specs.Numbers.{bytesOf}
+use Rattle.form.specs.Spans.{over}
+use Rattle.raw.proofs.Order.{place-inside}
+use Rattle.raw.proofs.Turns.{finished, put-start, put-turn, put-end}
+use Rattle.raw.proofs.put_number.Statement.{statement}
+use Rattle.raw.proofs.put_number.Tie as tie
+
+abbrev Inv-loop : tie.InvT-loop
+Inv-loop d₀ at width v rest₀ left₀ d rest left =
+    (left ≤ width) × (length d ≡ length d₀) × (finished d at width left rest ≡ over d₀ at (bytesOf width v))
+
+abbrev μ-loop : tie.MeasureT-loop
+μ-loop d₀ at width v rest₀ left₀ d rest left = left
+
+loop-holds : tie.Need-loop-holds Inv-loop μ-loop
+loop-holds c =
+    let a = c .before in
+    (omega arith, refl, put-start (a .args .d .now) (a .args .at) (a .args .width) (a .args .v) (a .pre .1))
+
+sub-left : tie.Need-sub-left Inv-loop μ-loop
+sub-left c = omega arith
+
+cast-d : tie.Need-cast-d Inv-loop μ-loop
+cast-d c = omega arith
+
+place-of-requires : tie.Need-place-of-requires Inv-loop μ-loop
+place-of-requires c κs =
+    let a = c .before .before .before in
+    (omega (arith, c .loop-test .taken, c .before .loop .inv .0), omega (arith, a .pre .1, a .good .0 .1))
+
+-- The number's bytes lie in the slice at each turn.
+room : (c : tie.After-place-of Inv-loop μ-loop) → c .before .before .before .before .args .at + c .before .before .before .before .args .width ≤ length (c .before .before .loop .d)
+room c = omega (arith, c .before .before .before .before .pre .1, c .before .before .loop .inv .1)
+
+slice-write-d : tie.Need-slice-write-d Inv-loop μ-loop
+slice-write-d c =
+    let a = c .before .before .before .before in
+    let l = c .before .before .loop in
+    subst (λ k. k < length (l .d)) (sym (c .place-of .ensures))
+    (place-inside (a .args .at) (a .args .width) (l .left - 1) (length (l .d)) (omega (arith, c .before .loop-test .taken, l .inv .0)) (room c))
+
+loop-less : tie.Need-loop-less Inv-loop μ-loop
+loop-less c = omega arith
+
+loop-again : tie.Need-loop-again Inv-loop μ-loop
+loop-again c =
+    let a = c .before .before .before .before in
+    let l = c .before .before .loop in (
+      omega arith,
+      simp length-set (l .inv .1),
+      ap (λ k. finished (set (l .d) k (l .rest % 256)) (a .args .at) (a .args .width) (l .left - 1) (l .rest / 256)) (c .place-of .ensures)
+          ∙ put-turn (l .d) (a .args .at) (a .args .width) (l .left) (l .rest) (omega (arith, c .before .loop-test .taken)) (l .inv .0) (room c)
+          ∙ l .inv .2,
+    )
+
+same-length : tie.Need-same-length Inv-loop μ-loop
+same-length c = c .before .loop .inv .1
+
+returns : tie.Need-returns Inv-loop μ-loop
+returns c =
+    let a = c .before .before .before in
+    let l = c .before .loop in
+    sym (put-end (l .d) (a .args .at) (a .args .width) (l .left) (l .rest) (omega (arith, c .loop-test .left)) (omega (arith, a .pre .1, l .inv .1))) ∙ l .inv .2
+
+pub put-number-spec : {M : Type 1} → statement M
+put-number-spec =
+    tie.close
+    (tie.spec
+    Inv-loop
+    μ-loop
+    loop-holds
+    sub-left
+    cast-d
+    place-of-requires
+    slice-write-d
+    loop-less
+    loop-again
+    same-length
+    returns)

@@ -1,0 +1,65 @@
+/* Tikfazrul: NBT read by a proved library. Link libnbt.a (`rt staticlib nbt`, or tools/native-staticlib nbt for the processor at hand).
+ *
+ * Every function takes its slices as a pointer and a number of elements, and fills `answer`, eight words that the caller lends:
+ *
+ *   [0]  0 where the input is accepted, else the number of the refusal
+ *   [1]  the place of the refusal
+ *
+ * and further words as each function says. Words that a function does not name are 0. A null pointer with the number 0 is an empty slice.
+ * No function allocates, keeps a pointer or touches memory other than what it is lent, and each answers for every input. Slices that a
+ * function is lent to write to must not overlap the others.
+ *
+ * The refusals that the functions below give:
+ *
+ *    1  the data ends           the first byte of the field that is not whole
+ *    2  the root is no compound 0
+ *    3  no such tag id          the id byte
+ *    4  not modified UTF-8      the string's first content byte (tikfazrul_check_mutf8: the first sequence that can't be read)
+ *    5  a count below 0         its first byte
+ *    6  a name twice            the id byte of the later entry
+ *    7  over 512 deep           the first payload byte
+ *    8  the table is full       the first payload byte
+ *    9  over 16,777,216 bytes   0
+ *   15  not UTF-8               tikfazrul_check_utf8: the first sequence that can't be read
+ */
+#ifndef TIKFAZRUL_H
+#define TIKFAZRUL_H
+
+#include <stddef.h>
+#include <stdint.h>
+
+#ifdef __cplusplus
+extern "C" {
+#endif
+
+/* The words of a record in a table, from word 8 * n on for record n. Records stand in file order, the root first. Spans count bytes of the
+ * document, without length prefixes. */
+enum {
+    TIKFAZRUL_KIND = 0,        /* the tag's id, 1 to 12 */
+    TIKFAZRUL_NAME = 1,        /* where the name's content begins; 0 for a list's element */
+    TIKFAZRUL_NAME_LENGTH = 2, /* in bytes */
+    TIKFAZRUL_START = 3,       /* where the payload's content begins; 0 for a list or a compound */
+    TIKFAZRUL_LENGTH = 4,      /* in bytes; 0 for a list or a compound */
+    TIKFAZRUL_COUNT = 5,       /* children, or elements of an array; else 0 */
+    TIKFAZRUL_LIST_KIND = 6,   /* a list's first child's kind; else 0 */
+    TIKFAZRUL_END = 7,         /* the number of the first record outside the subtree */
+    TIKFAZRUL_WORDS = 8
+};
+
+/* Reads a document into a table of records. Accepted: [2] is the number of bytes consumed, [3] the number of records, and the records' words
+ * stand from table[0] on; no other word changes. Refused (1 to 9): every word of the table is 0. The table has room for table_len / 8
+ * records, 1,048,576 at the most. */
+void tikfazrul_read(const uint8_t *doc, size_t doc_len, uint32_t *table, size_t table_len, uint64_t answer[8]);
+
+/* Whether bytes are modified UTF-8 (java.io.DataInput) of Unicode scalar values. Refused: 4, at the offset where the first sequence that
+ * can't be read begins. */
+void tikfazrul_check_mutf8(const uint8_t *bytes, size_t len, uint64_t answer[8]);
+
+/* Whether bytes are UTF-8. Refused: 15, at the offset where the first sequence that can't be read begins. */
+void tikfazrul_check_utf8(const uint8_t *bytes, size_t len, uint64_t answer[8]);
+
+#ifdef __cplusplus
+}
+#endif
+
+#endif
