@@ -1,5 +1,5 @@
--- The theorems on reading, as specs/Reading.antt states them: sound, complete, unambiguous, never 0. All but `canonical` are given the
--- one law of strings that they rest on, `wf`: the computed test of a string is the declared one.
+-- The theorems on reading, as specs/Reading.antt states them: sound, complete, unambiguous, canonical, never 0.
+-- Assumes nothing.
 use Prim.Native.Nat.{_+_, _<_}
 use mathlib.Core.List.{_++_}
 use mathlib.Core.Path.{_≡_, refl, sym, ap, subst, _∙_}
@@ -9,6 +9,7 @@ use borrow.Author.Tests.{leb-false}
 use lib.ListN.{length}
 use Rattle.form.specs.Answer.{documentLimit}
 use Rattle.form.specs.Spans.{part}
+use Rattle.form.proofs.Strings.{wellFormed-iff}
 use Rattle.form.specs.Tree.{entriesCount}
 use Rattle.form.specs.Layout.{entryBytes, layout}
 use Rattle.form.specs.Table.{valueOf}
@@ -25,34 +26,37 @@ pub canonical : IsCanonical
 unfolding layout
 canonical d = record { body = entryBytes (d .root); entries = entries-laid (d .root); is = refl }
 
-module _ (wf : StringLaw) where
-  -- What is accepted is laid out as the tag layout says.
-  pub sound : IsSound
-  sound doc bytes room x e = of-got e (document-sound wf doc room bytes)
+-- The one law of strings that they rest on: the computed test of a string is the declared one.
+wf : StringLaw
+wf = wellFormed-iff
 
-  -- All that is laid out so is accepted, whatever follows it, with the tree that was laid out.
-  pub complete : IsComplete
-  unfolding documentAt
-  complete d bs rest room laid lawful fits small =
-      let doc = bs ++ rest in
-      let r = root-read wf doc room d bs (sits-front bs rest) laid lawful fits in
-      let a = accepted (documentAt doc room) (guard-answers (leb (length doc) documentLimit) _ _ _ (λ e. absurd (omega (arith, leb-false (length doc) documentLimit e, small))) (λ e. r)) in
-      record { x = a .0; accepted = a .1; consumed = a .2 .0; tree = a .2 .1 }
+-- What is accepted is laid out as the tag layout says.
+pub sound : IsSound
+sound doc bytes room x e = of-got e (document-sound wf doc room bytes)
 
-  -- So a layout has one reading.
-  pub unambiguous : IsUnambiguous
-  unambiguous d₁ d₂ bs₁ rest₁ bs₂ rest₂ lawful₁ lawful₂ laid₁ laid₂ e =
-      let doc = bs₁ ++ rest₁ in
-      let room = 1 + entriesCount (d₁ .root) + entriesCount (d₂ .root) in
-      let s₁ = sits-front bs₁ rest₁ in
-      let s₂ : Sits doc 0 bs₂ = subst (λ l. Sits l 0 bs₂) (sym e) (sits-front bs₂ rest₂) in
-      let a₁ = accepted (rootAt doc room) (root-read wf doc room d₁ bs₁ s₁ laid₁ lawful₁ (omega arith)) in
-      let a₂ = accepted (rootAt doc room) (root-read wf doc room d₂ bs₂ s₂ laid₂ lawful₂ (omega arith)) in
-      let x : a₁ .0 ≡ a₂ .0 = cc (a₁ .1, a₂ .1) in
-      let tree : d₁ ≡ d₂ = sym (a₁ .2 .1) ∙ ap (λ (y : One). valueOf doc (y .head) (y .inner)) x ∙ a₂ .2 .1 in
-      let long : length bs₁ ≡ length bs₂ = sym (a₁ .2 .0) ∙ ap (λ (y : One). y .next) x ∙ a₂ .2 .0 in
-      (tree, sym (s₁ .is) ∙ ap (part doc 0) long ∙ s₂ .is)
+-- All that is laid out so is accepted, whatever follows it, with the tree that was laid out.
+pub complete : IsComplete
+unfolding documentAt
+complete d bs rest room laid lawful fits small =
+    let doc = bs ++ rest in
+    let r = root-read wf doc room d bs (sits-front bs rest) laid lawful fits in
+    let a = accepted (documentAt doc room) (guard-answers (leb (length doc) documentLimit) _ _ _ (λ e. absurd (omega (arith, leb-false (length doc) documentLimit e, small))) (λ e. r)) in
+    record { x = a .0; accepted = a .1; consumed = a .2 .0; tree = a .2 .1 }
 
-  -- No document is answered with the number 0.
-  pub never-zero : IsNeverZero
-  never-zero doc bytes room p e = let z : 0 < 0 = of-no e (document-sound wf doc room bytes) in omega arith
+-- So a layout has one reading.
+pub unambiguous : IsUnambiguous
+unambiguous d₁ d₂ bs₁ rest₁ bs₂ rest₂ lawful₁ lawful₂ laid₁ laid₂ e =
+    let doc = bs₁ ++ rest₁ in
+    let room = 1 + entriesCount (d₁ .root) + entriesCount (d₂ .root) in
+    let s₁ = sits-front bs₁ rest₁ in
+    let s₂ : Sits doc 0 bs₂ = subst (λ l. Sits l 0 bs₂) (sym e) (sits-front bs₂ rest₂) in
+    let a₁ = accepted (rootAt doc room) (root-read wf doc room d₁ bs₁ s₁ laid₁ lawful₁ (omega arith)) in
+    let a₂ = accepted (rootAt doc room) (root-read wf doc room d₂ bs₂ s₂ laid₂ lawful₂ (omega arith)) in
+    let x : a₁ .0 ≡ a₂ .0 = cc (a₁ .1, a₂ .1) in
+    let tree : d₁ ≡ d₂ = sym (a₁ .2 .1) ∙ ap (λ (y : One). valueOf doc (y .head) (y .inner)) x ∙ a₂ .2 .1 in
+    let long : length bs₁ ≡ length bs₂ = sym (a₁ .2 .0) ∙ ap (λ (y : One). y .next) x ∙ a₂ .2 .0 in
+    (tree, sym (s₁ .is) ∙ ap (part doc 0) long ∙ s₂ .is)
+
+-- No document is answered with the number 0.
+pub never-zero : IsNeverZero
+never-zero doc bytes room p e = let z : 0 < 0 = of-no e (document-sound wf doc room bytes) in omega arith

@@ -1,8 +1,16 @@
 pub mod Answer
+pub mod Picks
 pub mod Spans
+pub mod Drops
 pub mod Numbers
 pub mod Digits
 pub mod Places
+pub mod Coding
+pub mod Units
+pub mod Scalars
+pub mod Utf8
+pub mod Walks
+pub mod Strings
 pub mod Table
 pub mod Fields
 pub mod Payloads

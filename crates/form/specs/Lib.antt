@@ -3,6 +3,7 @@ pub mod Spans
 pub mod Numbers
 pub mod Strings
 pub mod Decoding
+pub mod Vectors
 pub mod Tree
 pub mod Layout
 pub mod Table

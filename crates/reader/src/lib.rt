@@ -3,7 +3,6 @@
 ghost use mathlib.Core.Path.{_≡_};
 ghost use Prim.Native.Nat.{ℕ, suc, _+_, _*_, _≤_, _<_, _^_};
 ghost use lib.ListN.{length, replicate};
-ghost use Rattle.form.specs.Decoding.{wellFormed};
 ghost use Rattle.form.specs.Table.{none, holds, widthOf};
 ghost use Rattle.form.specs.Spans.{over, same, part};
 ghost use Rattle.siblings.specs.Holding.{among, Holds};
@@ -115,12 +114,6 @@ fn bytes_at(doc: &[u8], n: usize, count: usize, at: usize) -> Part
     }
 }
 
-fn is_well_formed(s: &[u8]) -> bool
-    ensures { λ r. ⌜ r ≡ wellFormed (now (s .entry)) ⌝ }
-{
-    true
-}
-
 // A string: its length, its content (1), which is well formed (4).
 fn string_at(doc: &[u8], at: usize) -> Part
     requires { ⌜ at ≤ length (now doc) ⌝ }
@@ -140,7 +133,7 @@ fn string_at(doc: &[u8], at: usize) -> Part
                 };
             }
             let end = start + n;
-            if !is_well_formed(&doc[start..end]) {
+            if !mutf8::is_well_formed(&doc[start..end]) {
                 return Part::No {
                     number: form::BAD_STRING,
                     place: start,

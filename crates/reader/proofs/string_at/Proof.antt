@@ -18,7 +18,7 @@ use Rattle.reader.proofs.string_at.Statement.{statement}
 use Rattle.reader.proofs.string_at.Tie as tie
 use Rattle.reader.proofs.string_at.Reads as reads
 use Rattle.reader.proofs.string_at.Lts as lts
-use Rattle.reader.proofs.is_well_formed.Reads as is-well-formed-reads
+use Rattle.mutf8.proofs.is_well_formed.Reads as is-well-formed-reads
 use Rattle.reader.proofs.number.Reads as number-reads
 
 -- the length that was read

@@ -1,0 +1,5 @@
+pub mod Groups
+pub mod Fronts
+pub mod Walks
+pub mod Alike
+pub mod Puts

@@ -1,0 +1,41 @@
+-- Laws of bytes written at a place: what stores leave, and how many bytes a scalar value takes.
+-- Assumes nothing.
+use Prim.Native.Nat.{ℕ, _+_, _-_, _/_, _%_, _≤_, _<_}
+use mathlib.Core.Path.{_≡_, refl, sym, ap, _∙_}
+use mathlib.Core.List.{List, [], _∷_, _++_}
+use native.Mathlib.Numerals.{add-one, add-two}
+use native.Mathlib.Omega.{arith}
+use lib.ListN.{length, set, length-append}
+use Rattle.form.specs.Spans.{over}
+use Rattle.form.specs.Strings.{twoBytes, threeBytes, unitBytes, highHalf, lowHalf, scalarBytes}
+use Rattle.form.proofs.Table.{sets-over, over-over}
+use Rattle.form.proofs.Units.{ub-one, ub-nul, ub-two, ub-three}
+use Rattle.form.proofs.Scalars.{sb-low, sb-high}
+
+-- ---- stores
+
+pub one-put : (o : List ℕ) (at a : ℕ) → at + 1 ≤ length o → set o at a ≡ over o at (a ∷ [])
+one-put o at a h = sets-over (a ∷ []) o at h
+
+pub two-put : (o : List ℕ) (at x y a b : ℕ) → at + 2 ≤ length o → x ≡ a → y ≡ b → set (set o at x) (at + 1) y ≡ over o at (a ∷ b ∷ [])
+two-put o at x y a b h p q = rw (p, q, add-one) (sets-over (a ∷ b ∷ []) o at h)
+
+pub three-put : (o : List ℕ) (at x y z a b c : ℕ) → at + 3 ≤ length o → x ≡ a → y ≡ b → z ≡ c
+    → set (set (set o at x) (at + 1) y) (at + 2) z ≡ over o at (a ∷ b ∷ c ∷ [])
+three-put o at x y z a b c h p q r = rw (p, q, r, add-one, add-two) (sets-over (a ∷ b ∷ c ∷ []) o at h)
+
+-- ---- lengths
+
+pub half-length : (u : ℕ) → 2048 ≤ u → length (unitBytes u) ≡ 3
+half-length u h = rw (ub-three u h) refl
+
+pub pair-length : (c : ℕ) → 65536 ≤ c → length (scalarBytes c) ≡ 6
+pair-length c h = rw (sb-high c h, length-append) (omega (arith, half-length (highHalf c) (omega arith), half-length (lowHalf c) (omega arith)))
+
+-- the two halves, one behind the other
+pub pair-put : (o o₁ o₂ : List ℕ) (c at : ℕ) → 65536 ≤ c → at + 6 ≤ length o → o₁ ≡ over o at (unitBytes (highHalf c)) → o₂ ≡ over o₁ (at + 3) (unitBytes (lowHalf c))
+    → o₂ ≡ over o at (scalarBytes c)
+pair-put o o₁ o₂ c at h l p q =
+    let e = half-length (highHalf c) (omega arith) in
+    let f : over (over o at (unitBytes (highHalf c))) (at + length (unitBytes (highHalf c))) (unitBytes (lowHalf c)) ≡ over o at (unitBytes (highHalf c) ++ unitBytes (lowHalf c)) = over-over o at (unitBytes (highHalf c)) (omega (arith, e)) (unitBytes (lowHalf c)) in
+    q ∙ rw (p, sb-high c h, ← e) f

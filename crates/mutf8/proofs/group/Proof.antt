@@ -1,0 +1,14 @@
+use lib.Bits.{mask-lt}
+use Rattle.mutf8.proofs.Groups.{grouped}
+use native.Mathlib.Omega.{arith}
+use Rattle.mutf8.proofs.group.Statement.{statement}
+use Rattle.mutf8.proofs.group.Tie as tie
+
+cast-result : tie.Need-cast-result
+cast-result c = omega (arith, mask-lt (c .args .u) 6)
+
+returns : tie.Need-returns
+returns c = grouped (c .args .u)
+
+pub group-spec : {M : Type 1} → statement M
+group-spec = tie.close (tie.spec cast-result returns)

@@ -1,0 +1,18 @@
+use Prim.Native.Nat.{_+_}
+use mathlib.Core.Path.{_≡_, ap, refl}
+use native.Mathlib.Omega.{arith}
+use lib.Bits.{mask-lt, and-mask, bitAnd}
+use Rattle.form.specs.Decoding.{pairOf}
+use Rattle.mutf8.proofs.Groups.{joined}
+use Rattle.mutf8.proofs.pair.Statement.{statement}
+use Rattle.mutf8.proofs.pair.Tie as tie
+
+add-result : tie.Need-add-result
+add-result c = rw (joined 10 (bitAnd (c .args .hi) 1023) (c .args .lo) (omega (arith, mask-lt (c .args .hi) 10))) (omega (arith, mask-lt (c .args .hi) 10))
+
+returns : tie.Need-returns
+unfolding pairOf
+returns c = rw (joined 10 (bitAnd (c .args .hi) 1023) (c .args .lo) (omega (arith, mask-lt (c .args .hi) 10)), and-mask (c .args .hi) 10)
+
+pub pair-spec : {M : Type 1} → statement M
+pair-spec = tie.close (tie.spec add-result returns)

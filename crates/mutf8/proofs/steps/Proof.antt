@@ -1,0 +1,54 @@
+-- Right since each turn reads one value more, and the answer is where none was read or the stop was reached.
+use Prim.Native.Nat.{_-_, _≤_}
+use native.Mathlib.Omega.{arith}
+use borrow.Author.Needs.{needs}
+use lib.ListN.{length}
+use Rattle.form.specs.Decoding.{scalarOf}
+use Rattle.form.proofs.Scalars.{mutf8}
+use Rattle.mutf8.specs.Runs.{Walked, none}
+use Rattle.mutf8.proofs.Fronts.{told}
+use Rattle.mutf8.proofs.Walks.{walked-more, reach}
+use Rattle.mutf8.proofs.steps.Statement.{statement}
+use Rattle.mutf8.proofs.steps.Tie as tie
+
+abbrev Inv-loop : tie.InvT-loop
+Inv-loop s at stop i₀ i = (at ≤ i) × (i ≤ length s) × Walked scalarOf s at i
+
+abbrev μ-loop : tie.MeasureT-loop
+μ-loop s at stop i₀ i = length s - i
+
+loop-holds : tie.Need-loop-holds Inv-loop μ-loop
+loop-holds c = (omega arith, c .before .pre .0, none)
+
+scalar-at-requires : tie.Need-scalar-at-requires Inv-loop μ-loop
+scalar-at-requires c κs = search needs
+
+enum-known-n : tie.Need-enum-known-n Inv-loop μ-loop
+enum-known-n c = search needs
+
+add-i : tie.Need-add-i Inv-loop μ-loop
+add-i c = omega (arith, reach mutf8 (c .before .before .before .before .before .before .before .args .s .now) (c .before .before .before .before .before .loop .i) _ _ (c .before .before .before .scalar-at .result) (c .before .n .given .1) (c .before .before .before .scalar-at .ensures))
+
+loop-less : tie.Need-loop-less Inv-loop μ-loop
+loop-less c = omega (arith, reach mutf8 (c .before .before .before .before .before .before .before .args .s .now) (c .before .before .before .before .before .loop .i) _ _ (c .before .before .before .scalar-at .result) (c .before .n .given .1) (c .before .before .before .scalar-at .ensures))
+
+loop-again : tie.Need-loop-again Inv-loop μ-loop
+loop-again c =
+    let l = c .before .before .before .before .before .loop in
+    let r = reach mutf8 (c .before .before .before .before .before .before .before .args .s .now) (l .i) _ _ (c .before .before .before .scalar-at .result) (c .before .n .given .1) (c .before .before .before .scalar-at .ensures) in
+    (omega (arith, l .inv .0, r .0), r .1, walked-more _ _ _ _ (c .before .before .before .scalar-at .result) (c .before .n .given .1) (c .before .before .before .scalar-at .ensures) (l .inv .2))
+
+enum-told : tie.Need-enum-told Inv-loop μ-loop
+enum-told c = search needs
+
+returns : tie.Need-returns Inv-loop μ-loop
+returns c =
+    let v = c .before .before .before .before .loop .inv in
+    record { on = v .0; within = v .1; walked = v .2; halted = λ _. told _ (c .before .before .scalar-at .ensures) (c .enum-told .given .1) }
+
+returns-2 : tie.Need-returns-2 Inv-loop μ-loop
+returns-2 c = let v = c .before .loop .inv in record { on = v .0; within = v .1; walked = v .2; halted = λ h. absurd (omega arith) }
+
+pub steps-spec : {M : Type 1} → statement M
+steps-spec =
+    tie.close (tie.spec Inv-loop μ-loop loop-holds scalar-at-requires enum-known-n add-i loop-less loop-again enum-told returns returns-2)

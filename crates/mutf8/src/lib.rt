@@ -1,0 +1,638 @@
+// Modified UTF-8 (rule 2) and UTF-8: the value at a place, whether a slice is well formed and where it is not, and one value written.
+// Text is passed in blocks of 64 bytes without a branch for each byte; what no block takes is read value by value.
+ghost use mathlib.Core.Path.{_≡_};
+ghost use mathlib.Core.Bool.{true};
+ghost use Prim.Native.Nat.{ℕ, _+_, _*_, _%_, _≤_, _<_};
+ghost use lib.ListN.{length, drop};
+ghost use Rattle.form.specs.Spans.{over};
+ghost use Rattle.form.specs.Strings.{twoBytes, threeBytes, unitBytes, scalarBytes, utf8Bytes};
+ghost use Rattle.form.specs.Decoding.{six, twoOf, threeOf, fourOf, unitOf, pairOf, scalarOf, utf8Of, wellFormed, Judged};
+ghost use Rattle.mutf8.specs.Answers.{sequenceOf, verdictOf, Wrote};
+ghost use Rattle.mutf8.specs.Runs.{Passed, Stepped, Plain, Fits, Fitting, Edge};
+
+// What stands at a place: a value and how many bytes it takes, or nothing that can be read.
+pub enum Front {
+    Is(u32, usize),
+    Stuck,
+}
+
+// Well formed, or the offset at which the first sequence that can't be read begins.
+pub enum Checked {
+    Good,
+    Bad(usize),
+}
+
+// The place behind what was written, or no room for it.
+pub enum Put {
+    To(usize),
+    Full,
+}
+
+// A six-bit group shifted in below what is there.
+fn join(hi: u32, b: u8) -> u32
+    requires { ⌜ hi < 65536 ⌝ }
+    ensures { λ r. ⌜ r ≡ six hi b ⌝ }
+{
+    (hi << 6) | ((b & 0x3F) as u32)
+}
+
+// A unit in two bytes: C0 80 is 0, and no other below 128 is written so.
+fn two(a: u8, b: u8) -> Front
+    ensures { λ r. ⌜ sequenceOf r ≡ twoOf a b ⌝ }
+{
+    if b < 128 {
+        return Front::Stuck;
+    }
+    if 192 <= b {
+        return Front::Stuck;
+    }
+    let u = join((a % 32) as u32, b);
+    if u == 0 {
+        return Front::Is(u, 2);
+    }
+    if u < 128 {
+        return Front::Stuck;
+    }
+    Front::Is(u, 2)
+}
+
+// A unit in three bytes: none below 2048.
+fn three(a: u8, b: u8, c: u8) -> Front
+    ensures { λ r. ⌜ sequenceOf r ≡ threeOf a b c ⌝ }
+{
+    if b < 128 {
+        return Front::Stuck;
+    }
+    if 192 <= b {
+        return Front::Stuck;
+    }
+    if c < 128 {
+        return Front::Stuck;
+    }
+    if 192 <= c {
+        return Front::Stuck;
+    }
+    let u = join(join((a % 16) as u32, b), c);
+    if u < 2048 {
+        return Front::Stuck;
+    }
+    Front::Is(u, 3)
+}
+
+// The 16-bit unit at a place.
+fn unit_at(s: &[u8], at: usize) -> Front
+    ensures { λ r. ⌜ sequenceOf r ≡ unitOf (drop at (now (s .entry))) ⌝ }
+{
+    if s.len() <= at {
+        return Front::Stuck;
+    }
+    let a = s[at];
+    if a == 0 {
+        return Front::Stuck;
+    }
+    if a < 128 {
+        return Front::Is(a as u32, 1);
+    }
+    if a < 192 {
+        return Front::Stuck;
+    }
+    let left = s.len() - at;
+    if left < 2 {
+        return Front::Stuck;
+    }
+    let b = s[at + 1];
+    if a < 224 {
+        return two(a, b);
+    }
+    if 240 <= a {
+        return Front::Stuck;
+    }
+    if left < 3 {
+        return Front::Stuck;
+    }
+    let c = s[at + 2];
+    three(a, b, c)
+}
+
+// The two halves of a pair assembled into one scalar value.
+fn pair(hi: u32, lo: u32) -> u32
+    ensures { λ r. ⌜ r ≡ pairOf hi lo ⌝ }
+{
+    0x10000 + (((hi & 0x3FF) << 10) | (lo & 0x3FF))
+}
+
+// The scalar value of modified UTF-8 at a place.
+pub fn scalar_at(s: &[u8], at: usize) -> Front
+    ensures { λ r. ⌜ sequenceOf r ≡ scalarOf (drop at (now (s .entry))) ⌝ }
+{
+    match unit_at(s, at) {
+        Front::Is(u, n) => {
+            if u < 0xD800 {
+                return Front::Is(u, n);
+            }
+            if 0xE000 <= u {
+                return Front::Is(u, n);
+            }
+            if 0xDC00 <= u {
+                return Front::Stuck;
+            }
+            match unit_at(s, at + n) {
+                Front::Is(v, m) => {
+                    if v < 0xDC00 {
+                        return Front::Stuck;
+                    }
+                    if 0xE000 <= v {
+                        return Front::Stuck;
+                    }
+                    Front::Is(pair(u, v), n + m)
+                }
+                Front::Stuck => Front::Stuck,
+            }
+        }
+        Front::Stuck => Front::Stuck,
+    }
+}
+
+// A scalar value of UTF-8 in four bytes.
+fn four(a: u8, b: u8, c: u8, d: u8) -> Front
+    ensures { λ r. ⌜ sequenceOf r ≡ fourOf a b c d ⌝ }
+{
+    if b < 128 {
+        return Front::Stuck;
+    }
+    if 192 <= b {
+        return Front::Stuck;
+    }
+    if c < 128 {
+        return Front::Stuck;
+    }
+    if 192 <= c {
+        return Front::Stuck;
+    }
+    if d < 128 {
+        return Front::Stuck;
+    }
+    if 192 <= d {
+        return Front::Stuck;
+    }
+    let u = join(join(join((a % 8) as u32, b), c), d);
+    if u < 0x10000 {
+        return Front::Stuck;
+    }
+    if 0x110000 <= u {
+        return Front::Stuck;
+    }
+    Front::Is(u, 4)
+}
+
+// The scalar value of UTF-8 at a place.
+pub fn utf8_at(s: &[u8], at: usize) -> Front
+    ensures { λ r. ⌜ sequenceOf r ≡ utf8Of (drop at (now (s .entry))) ⌝ }
+{
+    if s.len() <= at {
+        return Front::Stuck;
+    }
+    let a = s[at];
+    if a == 0 {
+        return Front::Is(0, 1);
+    }
+    if 240 <= a {
+        if 248 <= a {
+            return Front::Stuck;
+        }
+        if s.len() - at < 4 {
+            return Front::Stuck;
+        }
+        return four(a, s[at + 1], s[at + 2], s[at + 3]);
+    }
+    match unit_at(s, at) {
+        Front::Is(u, n) => {
+            if u == 0 {
+                return Front::Stuck;
+            }
+            if u < 0xD800 {
+                return Front::Is(u, n);
+            }
+            if u < 0xE000 {
+                return Front::Stuck;
+            }
+            Front::Is(u, n)
+        }
+        Front::Stuck => Front::Stuck,
+    }
+}
+
+// Whether it holds still where b has to be 1 to 127.
+fn still_plain(all: bool, b: u8) -> bool
+    ensures { λ r. ⌜ (r ≡ true → (all ≡ true) × (0 < b) × (b < 128)) ⌝ }
+{
+    if b == 0 {
+        return false;
+    }
+    if 127 < b {
+        return false;
+    }
+    all
+}
+
+// Whether n bytes from a place on are 1 to 127 each. No branch for each byte, so that the compiler takes sixteen at once.
+fn all_plain(s: &[u8], at: usize, n: usize) -> bool
+    requires { ⌜ at + n ≤ length (now s) ⌝ }
+    ensures { λ r. ⌜ (r ≡ true → Plain (now (s .entry)) at (at + n)) ⌝ }
+{
+    let mut all = true;
+    let mut k: usize = 0;
+    while k < n {
+        all = still_plain(all, s[at + k]);
+        k = k + 1;
+    }
+    all
+}
+
+// The same of all bytes from a place on, by the first n and the last n, which overlap or meet.
+fn both_plain(s: &[u8], at: usize, n: usize) -> bool
+    requires { ⌜ (at + n ≤ length (now s)) × (length (now s) ≤ at + n + n) ⌝ }
+    ensures { λ r. ⌜ (r ≡ true → Plain (now (s .entry)) at (length (now (s .entry)))) ⌝ }
+{
+    if all_plain(s, at, n) {
+        return all_plain(s, s.len() - n, n);
+    }
+    false
+}
+
+// The same where fewer than 64 are left, by no more than two blocks.
+fn ends_plain(s: &[u8], at: usize) -> bool
+    requires { ⌜ (at ≤ length (now s)) × (length (now s) < at + 64) ⌝ }
+    ensures { λ r. ⌜ (r ≡ true → Plain (now (s .entry)) at (length (now (s .entry)))) ⌝ }
+{
+    let left = s.len() - at;
+    if left < 4 {
+        return all_plain(s, at, left);
+    }
+    if left < 8 {
+        return both_plain(s, at, 4);
+    }
+    if left < 16 {
+        return both_plain(s, at, 8);
+    }
+    if left < 32 {
+        return both_plain(s, at, 16);
+    }
+    both_plain(s, at, 32)
+}
+
+// 1 where a byte that follows a lead byte is due behind p and, before it, q; else 0.
+fn due(q: u8, p: u8) -> u8
+    ensures { λ r. ⌜ (p < 192 → q < 224 → r ≡ 0) × (192 ≤ p → r ≡ 1) × (224 ≤ q → r ≡ 1) ⌝ }
+{
+    if 192 <= p {
+        return 1;
+    }
+    if 224 <= q {
+        return 1;
+    }
+    0
+}
+
+// 1 where b is a byte that follows a lead byte; else 0.
+fn follows(b: u8) -> u8
+    ensures { λ r. ⌜ (b < 128 → r ≡ 0) × (192 ≤ b → r ≡ 0) × (128 ≤ b → b < 192 → r ≡ 1) ⌝ }
+{
+    if b < 128 {
+        return 0;
+    }
+    if 192 <= b {
+        return 0;
+    }
+    1
+}
+
+// 0 only where the two are the same.
+fn differ(x: u8, y: u8) -> u8
+    ensures { λ r. ⌜ (r ≡ 0 → x ≡ y) ⌝ }
+{
+    if x == y { 0 } else { 1 }
+}
+
+// 0 only where b is no zero byte, begins no overlong form of two bytes and no four bytes.
+fn wrong(b: u8) -> u8
+    ensures { λ r. ⌜ (r ≡ 0 → (0 < b) × (b < 240) × (192 ≤ b → 194 ≤ b)) ⌝ }
+{
+    if b == 0 {
+        return 1;
+    }
+    if 240 <= b {
+        return 1;
+    }
+    if b == 0xC0 {
+        return 1;
+    }
+    if b == 0xC1 {
+        return 1;
+    }
+    0
+}
+
+// 0 only where b behind p makes no overlong form of three bytes and no half of a pair.
+fn barred(p: u8, b: u8) -> u8
+    ensures { λ r. ⌜ (r ≡ 0 → (p ≡ 224 → 160 ≤ b) × (p ≡ 237 → b < 160)) ⌝ }
+{
+    let lead: u8 = if b < 160 { 0xE0 } else { 0xED };
+    if p == lead { 1 } else { 0 }
+}
+
+// The greater of the two.
+fn raise(top: u8, x: u8) -> u8
+    ensures { λ r. ⌜ (top ≤ r) × (x ≤ r) ⌝ }
+{
+    if top < x { x } else { top }
+}
+
+// 0 only where b fits behind p and, before it, q.
+fn odd(q: u8, p: u8, b: u8) -> u8
+    ensures { λ r. ⌜ (r ≡ 0 → Fits q p b) ⌝ }
+{
+    raise(raise(differ(due(q, p), follows(b)), wrong(b)), barred(p, b))
+}
+
+// Whether each of 64 bytes from a place on fits behind the two before it; again with no branch for each byte.
+fn all_fit(s: &[u8], at: usize) -> bool
+    requires { ⌜ (2 ≤ at) × (at + 64 ≤ length (now s)) ⌝ }
+    ensures { λ r. ⌜ (r ≡ true → Fitting (now (s .entry)) at (at + 64)) ⌝ }
+{
+    let mut top: u8 = 0;
+    let mut k: usize = 0;
+    while k < 64 {
+        let at_k = at + k;
+        top = raise(top, odd(s[at_k - 2], s[at_k - 1], s[at_k]));
+        k = k + 1;
+    }
+    if top == 0 { true } else { false }
+}
+
+// Whether no sequence that began before a place goes on there.
+fn is_edge(s: &[u8], at: usize) -> bool
+    requires { ⌜ (2 ≤ at) × (at ≤ length (now s)) ⌝ }
+    ensures { λ r. ⌜ (r ≡ true → Edge (now (s .entry)) at) ⌝ }
+{
+    if 192 <= s[at - 1] {
+        return false;
+    }
+    if 224 <= s[at - 2] {
+        return false;
+    }
+    true
+}
+
+// A place at most two before this one, without the lead bytes whose sequences go on behind it.
+fn whole(s: &[u8], at: usize) -> usize
+    requires { ⌜ (2 ≤ at) × (at ≤ length (now s)) ⌝ }
+    ensures { λ r. ⌜ (r ≤ at) × (at ≤ r + 2) ⌝ }
+{
+    if 192 <= s[at - 1] {
+        return at - 1;
+    }
+    if 224 <= s[at - 2] {
+        return at - 2;
+    }
+    at
+}
+
+// Goes on by up to eight blocks of sequences that both codings read alike.
+fn blocks(s: &[u8], at: usize) -> usize
+    requires { ⌜ Edge (now s) at × (at ≤ length (now s)) ⌝ }
+    ensures { λ r. ⌜ Passed (now (s .entry)) at r ⌝ }
+{
+    let mut i = at;
+    let mut left: usize = 8;
+    while 0 < left {
+        if s.len() - i < 64 {
+            return i;
+        }
+        let next = whole(s, i + 64);
+        if is_edge(s, next) {
+            if all_fit(s, i) {
+                i = next;
+                left = left - 1;
+                continue;
+            }
+        }
+        return i;
+    }
+    i
+}
+
+// The same from any place, where a block may begin there.
+fn mixed(s: &[u8], at: usize) -> usize
+    requires { ⌜ at ≤ length (now s) ⌝ }
+    ensures { λ r. ⌜ Passed (now (s .entry)) at r ⌝ }
+{
+    if at < 2 {
+        return at;
+    }
+    if is_edge(s, at) {
+        return blocks(s, at);
+    }
+    at
+}
+
+// Goes on by blocks: plain ones while there are, then some that are not; the last bytes by two that overlap.
+fn pass(s: &[u8], at: usize) -> usize
+    requires { ⌜ at ≤ length (now s) ⌝ }
+    ensures { λ r. ⌜ Passed (now (s .entry)) at r ⌝ }
+{
+    let mut i = at;
+    while 64 <= s.len() - i {
+        if all_plain(s, i, 64) {
+            i = i + 64;
+            continue;
+        }
+        return mixed(s, i);
+    }
+    if ends_plain(s, i) {
+        return s.len();
+    }
+    i
+}
+
+// A place at most 64 bytes on.
+fn ahead(length: usize, at: usize) -> usize
+    requires { ⌜ at ≤ length ⌝ }
+    ensures { λ r. ⌜ (at ≤ r) × (r ≤ length) × (at < length → at < r) ⌝ }
+{
+    if length - at < 64 { length } else { at + 64 }
+}
+
+// Goes on value by value of modified UTF-8, up to `stop` or one that can't be read.
+fn steps(s: &[u8], at: usize, stop: usize) -> usize
+    requires { ⌜ (at ≤ length (now s)) × (stop ≤ length (now s)) ⌝ }
+    ensures { λ r. ⌜ Stepped scalarOf (now (s .entry)) at stop r ⌝ }
+{
+    let mut i = at;
+    while i < stop {
+        match scalar_at(s, i) {
+            Front::Is(_, n) => {
+                i = i + n;
+            }
+            Front::Stuck => {
+                return i;
+            }
+        }
+    }
+    i
+}
+
+// Whether the whole of s is modified UTF-8.
+pub fn check(s: &[u8]) -> Checked
+    ensures { λ r. ⌜ Judged scalarBytes scalarOf (now (s .entry)) (verdictOf r) ⌝ }
+{
+    let mut i = 0;
+    while i < s.len() {
+        let j = pass(s, i);
+        if 32 <= j - i {
+            i = j;
+            continue;
+        }
+        let stop = ahead(s.len(), j);
+        let r = steps(s, j, stop);
+        if r < stop {
+            return Checked::Bad(r);
+        }
+        i = r;
+    }
+    Checked::Good
+}
+
+// Refusal 4's test.
+pub fn is_well_formed(s: &[u8]) -> bool
+    ensures { λ r. ⌜ r ≡ wellFormed (now (s .entry)) ⌝ }
+{
+    match check(s) {
+        Checked::Good => true,
+        Checked::Bad(_) => false,
+    }
+}
+
+// Goes on value by value of UTF-8, up to `stop` or one that can't be read.
+fn utf8_steps(s: &[u8], at: usize, stop: usize) -> usize
+    requires { ⌜ (at ≤ length (now s)) × (stop ≤ length (now s)) ⌝ }
+    ensures { λ r. ⌜ Stepped utf8Of (now (s .entry)) at stop r ⌝ }
+{
+    let mut i = at;
+    while i < stop {
+        match utf8_at(s, i) {
+            Front::Is(_, n) => {
+                i = i + n;
+            }
+            Front::Stuck => {
+                return i;
+            }
+        }
+    }
+    i
+}
+
+// Whether the whole of s is UTF-8.
+pub fn check_utf8(s: &[u8]) -> Checked
+    ensures { λ r. ⌜ Judged utf8Bytes utf8Of (now (s .entry)) (verdictOf r) ⌝ }
+{
+    let mut i = 0;
+    while i < s.len() {
+        let j = pass(s, i);
+        if 32 <= j - i {
+            i = j;
+            continue;
+        }
+        let stop = ahead(s.len(), j);
+        let r = utf8_steps(s, j, stop);
+        if r < stop {
+            return Checked::Bad(r);
+        }
+        i = r;
+    }
+    Checked::Good
+}
+
+// How many bytes a scalar value takes in modified UTF-8.
+pub fn length_of(c: u32) -> usize
+    ensures { λ r. ⌜ r ≡ length (scalarBytes c) ⌝ }
+{
+    if c == 0 {
+        return 2;
+    }
+    if c < 128 {
+        return 1;
+    }
+    if c < 2048 {
+        return 2;
+    }
+    if c < 0x10000 {
+        return 3;
+    }
+    6
+}
+
+// The lowest six-bit group, as a byte that follows a lead byte.
+fn group(u: u32) -> u8
+    ensures { λ r. ⌜ r ≡ 128 + u % 64 ⌝ }
+{
+    ((u & 0x3F) as u8) | 0x80
+}
+
+// Two bytes: the upper group on a lead byte, and the lower.
+fn put_two(u: u32, out: &mut [u8], at: usize)
+    requires { ⌜ (u < 2048) × (at + 2 ≤ length (now out)) ⌝ }
+    ensures { λ r. ⌜ now (out .exit) ≡ over (now (out .entry)) at (twoBytes u) ⌝ }
+{
+    out[at] = ((u >> 6) as u8) | 0xC0;
+    out[at + 1] = group(u);
+}
+
+// Three bytes: the upper group on a lead byte, and two below it.
+fn put_three(u: u32, out: &mut [u8], at: usize)
+    requires { ⌜ (u < 65536) × (at + 3 ≤ length (now out)) ⌝ }
+    ensures { λ r. ⌜ now (out .exit) ≡ over (now (out .entry)) at (threeBytes u) ⌝ }
+{
+    out[at] = ((u >> 12) as u8) | 0xE0;
+    out[at + 1] = group(u >> 6);
+    out[at + 2] = group(u);
+}
+
+// A 16-bit unit in one, two or three bytes.
+fn put_unit(u: u32, out: &mut [u8], at: usize)
+    requires { ⌜ (u < 65536) × (at + length (unitBytes u) ≤ length (now out)) ⌝ }
+    ensures { λ r. ⌜ now (out .exit) ≡ over (now (out .entry)) at (unitBytes u) ⌝ }
+{
+    if u == 0 {
+        put_two(u, out, at);
+        return;
+    }
+    if u < 128 {
+        out[at] = u as u8;
+        return;
+    }
+    if u < 2048 {
+        put_two(u, out, at);
+        return;
+    }
+    put_three(u, out, at);
+}
+
+// A scalar value in modified UTF-8 at a place: above the basic plane as its two halves.
+pub fn put_scalar(c: u32, out: &mut [u8], at: usize) -> Put
+    requires { ⌜ (c < 1114112) × (at ≤ length (now out)) ⌝ }
+    ensures { λ r. ⌜ Wrote (now (out .entry)) at (scalarBytes c) r (now (out .exit)) ⌝ }
+{
+    let size = length_of(c);
+    if out.len() - at < size {
+        return Put::Full;
+    }
+    if c < 0x10000 {
+        put_unit(c, out, at);
+        return Put::To(at + size);
+    }
+    let v = c - 0x10000;
+    put_unit(0xD800 + (v >> 10), out, at);
+    put_unit(0xDC00 + (v & 0x3FF), out, at + 3);
+    Put::To(at + size)
+}
