@@ -43,51 +43,56 @@ fn print_answer(answer: Answer, table: &[u32]) {
     }
 }
 
+// The first n bytes as a document.
+fn print_document(doc: &[u8], n: usize, table: &mut [u32]) {
+    if n <= doc.len() {
+        let answer = reader::read(&doc[..n], table);
+        print_answer(answer, table);
+    }
+}
+
 // The document that a line's digits stand for, listed; or that the line is bad.
-fn print_line(line: &[u8], len: usize) {
-    let mut bytes = [0u8; 4096];
-    let mut words = [0u32; 4096];
-    let doc: &mut [u8] = &mut bytes;
-    let table: &mut [u32] = &mut words;
+fn print_line(line: &[u8], len: usize, doc: &mut [u8], table: &mut [u32]) {
     match lines::unhex(line, len, doc) {
         Hex::Bad => {
             io::write_all(1, b" badline\n");
         }
-        Hex::Bytes(n) => {
-            if n <= doc.len() {
-                let answer = reader::read(&doc[..n], table);
-                print_answer(answer, table);
-            }
-        }
+        Hex::Bytes(n) => print_document(doc, n, table),
     }
 }
 
-// Which line it is, from 1.
-fn print_place(number: u64) {
+// Which line it is, from 1: as many as the turns that are gone.
+fn print_place(turns: u64) {
     io::write_all(1, b"doc ");
-    io::print_decimal(1, number);
+    io::print_decimal(1, u64::MAX - turns);
 }
 
-// The turns are for the loop to be seen to end: no input uses them up.
-fn main() {
-    let mut chunk = io::large_buffer();
-    let mut line = [0u8; 8192];
+// Every line in turn, by way of lent buffers. The turns are for the loop to be seen to end: no input uses them up.
+fn list_lines(chunk: &mut [u8], line: &mut [u8], doc: &mut [u8], table: &mut [u32]) {
     let mut input = lines::start();
     let mut turns = u64::MAX;
     while 0 < turns {
         turns -= 1;
-        match lines::next_line(&mut chunk, input, &mut line) {
+        match lines::next_line(chunk, input, line) {
             Line::End => return,
             Line::Long { input: rest } => {
-                print_place(u64::MAX - turns);
+                print_place(turns);
                 io::write_all(1, b" badline\n");
                 input = rest;
             }
             Line::Got { len, input: rest } => {
-                print_place(u64::MAX - turns);
-                print_line(&line, len);
+                print_place(turns);
+                print_line(line, len, doc, table);
                 input = rest;
             }
         }
     }
+}
+
+fn main() {
+    let mut chunk = io::large_buffer();
+    let mut line = [0u8; 8192];
+    let mut doc = [0u8; 4096];
+    let mut table = [0u32; 4096];
+    list_lines(&mut chunk, &mut line, &mut doc, &mut table);
 }

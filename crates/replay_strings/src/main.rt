@@ -42,25 +42,31 @@ fn print_bytes(bytes: &[u8], n: usize) {
 }
 
 // What a step of the conversion leaves: the places in the bytes and in the output, or the end.
-enum Moved {
+enum Turn {
     To(usize, usize),
     End,
 }
 
 // One scalar value, from UTF-8 to modified UTF-8.
-fn moved(s: &[u8], at: usize, out: &mut [u8], to: usize) -> Moved {
-    if s.len() <= at || out.len() < to {
-        return Moved::End;
+fn moved(s: &[u8], at: usize, out: &mut [u8], to: usize) -> Turn {
+    if s.len() <= at {
+        return Turn::End;
+    }
+    if out.len() < to {
+        return Turn::End;
     }
     match mutf8::utf8_at(s, at) {
-        Front::Stuck => Moved::End,
+        Front::Stuck => Turn::End,
         Front::Is(c, n) => {
-            if 0x10FFFF < c || s.len() - at < n {
-                return Moved::End;
+            if 0x10FFFF < c {
+                return Turn::End;
+            }
+            if s.len() - at < n {
+                return Turn::End;
             }
             match mutf8::put_scalar(c, out, to) {
-                Put::Full => Moved::End,
-                Put::To(q) => Moved::To(at + n, q),
+                Put::Full => Turn::End,
+                Put::To(q) => Turn::To(at + n, q),
             }
         }
     }
@@ -74,8 +80,8 @@ fn convert(s: &[u8], out: &mut [u8]) -> usize {
     while 0 < turns {
         turns -= 1;
         match moved(s, at, out, to) {
-            Moved::End => return to,
-            Moved::To(a, t) => {
+            Turn::End => return to,
+            Turn::To(a, t) => {
                 at = a;
                 to = t;
             }
@@ -88,54 +94,59 @@ fn convert(s: &[u8], out: &mut [u8]) -> usize {
 fn print_converted(s: &[u8], out: &mut [u8]) {
     match mutf8::check_utf8(s) {
         Checked::Bad(_) => {
-            io::write_all(1, b"-");
+            io::write_all(1, b"-\n");
         }
         Checked::Good => {
             let n = convert(s, out);
             print_bytes(out, n);
+            io::write_all(1, b"\n");
         }
     }
-    io::write_all(1, b"\n");
+}
+
+// The answers to the first n bytes.
+fn print_answers(bytes: &[u8], n: usize, out: &mut [u8]) {
+    if n <= bytes.len() {
+        print_verdict(mutf8::check(&bytes[..n]));
+        print_verdict(mutf8::check_utf8(&bytes[..n]));
+        print_converted(&bytes[..n], out);
+    }
 }
 
 // The answers to a line.
-fn print_line(line: &[u8], len: usize) {
-    let mut bytes = [0u8; 1024];
-    let mut room = [0u8; 2048];
-    let s: &mut [u8] = &mut bytes;
-    let out: &mut [u8] = &mut room;
-    match lines::unhex(line, len, s) {
+fn print_line(line: &[u8], len: usize, bytes: &mut [u8], out: &mut [u8]) {
+    match lines::unhex(line, len, bytes) {
         Hex::Bad => {
             io::write_all(1, b"badline\n");
         }
-        Hex::Bytes(n) => {
-            if n <= s.len() {
-                print_verdict(mutf8::check(&s[..n]));
-                print_verdict(mutf8::check_utf8(&s[..n]));
-                print_converted(&s[..n], out);
-            }
-        }
+        Hex::Bytes(n) => print_answers(bytes, n, out),
     }
 }
 
-// The turns are for the loop to be seen to end: no input uses them up.
-fn main() {
-    let mut chunk = io::large_buffer();
-    let mut line = [0u8; 2048];
+// Every line in turn, by way of lent buffers. The turns are for the loop to be seen to end: no input uses them up.
+fn replay(chunk: &mut [u8], line: &mut [u8], bytes: &mut [u8], out: &mut [u8]) {
     let mut input = lines::start();
     let mut turns = u64::MAX;
     while 0 < turns {
         turns -= 1;
-        match lines::next_line(&mut chunk, input, &mut line) {
+        match lines::next_line(chunk, input, line) {
             Line::End => return,
             Line::Long { input: rest } => {
                 io::write_all(1, b"badline\n");
                 input = rest;
             }
             Line::Got { len, input: rest } => {
-                print_line(&line, len);
+                print_line(line, len, bytes, out);
                 input = rest;
             }
         }
     }
+}
+
+fn main() {
+    let mut chunk = io::large_buffer();
+    let mut line = io::buffer();
+    let mut bytes = io::buffer();
+    let mut out = io::buffer();
+    replay(&mut chunk, &mut line, &mut bytes, &mut out);
 }
