@@ -1,0 +1,246 @@
+#!/usr/bin/env python3
+"""Writes the cases of crates/listing: stdin has a document a line, in hexadecimal, stdout what the listing program must print.
+
+    tests/replay/listing.py crates/listing
+
+The answers are worked out by a second reader, below, that is written from document 01 alone and looks at names entry by entry. It is run
+on the marked documents first, whose answers 01 gives.
+"""
+import random
+import sys
+
+WIDTH = {1: 1, 2: 2, 3: 4, 4: 8, 5: 4, 6: 8, 7: 1, 11: 4, 12: 8}
+ROOM, DEPTH = 512, 512
+
+
+class Refused(Exception):
+    pass
+
+
+def units(b):
+    """The 16-bit units of modified UTF-8, or None."""
+    out, i = [], 0
+    while i < len(b):
+        a = b[i]
+        rest = b[i + 1:i + 3]
+        if 1 <= a < 0x80:
+            u, n = a, 1
+        elif 0xC0 <= a < 0xE0 and len(rest) >= 1:
+            u, n = (a & 31) << 6 | rest[0] & 63, 2
+        elif 0xE0 <= a < 0xF0 and len(rest) >= 2:
+            u, n = (a & 15) << 12 | (rest[0] & 63) << 6 | rest[1] & 63, 3
+        else:
+            return None
+        if any(c >> 6 != 2 for c in b[i + 1:i + n]):
+            return None
+        if n != (1 if 1 <= u < 0x80 else 2 if u < 0x800 else 3):
+            return None
+        out.append(u)
+        i += n
+    return out
+
+
+def well_formed(b):
+    us = units(b)
+    if us is None:
+        return False
+    i = 0
+    while i < len(us):
+        if 0xD800 <= us[i] < 0xDC00:
+            if i + 1 == len(us) or not 0xDC00 <= us[i + 1] < 0xE000:
+                return False
+            i += 1
+        elif 0xDC00 <= us[i] < 0xE000:
+            return False
+        i += 1
+    return True
+
+
+class Reader:
+    def __init__(self, doc):
+        self.d, self.records = doc, []
+
+    def field(self, at, n):
+        if at + n > len(self.d):
+            raise Refused(1, at)
+        return self.d[at:at + n]
+
+    def string(self, at):
+        n = int.from_bytes(self.field(at, 2), "big")
+        if not well_formed(self.field(at + 2, n)):
+            raise Refused(4, at + 2)
+        return at + 2, n
+
+    def count(self, at):
+        n = int.from_bytes(self.field(at, 4), "big", signed=True)
+        if n < 0:
+            raise Refused(5, at)
+        return n
+
+    def payload(self, kind, name, at, deep):
+        """Reads a payload at depth `deep`, and answers the place past it."""
+        if len(self.records) == ROOM:
+            raise Refused(8, at)
+        record = [kind, name[1], 0, 0]
+        self.records.append(record)
+        if kind in (9, 10) and deep > DEPTH:
+            raise Refused(7, at)
+        if kind <= 6:
+            record[2] = WIDTH[kind]
+            self.field(at, WIDTH[kind])
+            return at + WIDTH[kind]
+        if kind == 8:
+            at, record[2] = self.string(at)
+            return at + record[2]
+        if kind == 9:
+            id = self.field(at, 1)[0]
+            self.field(at + 1, 4)
+            n = int.from_bytes(self.d[at + 1:at + 5], "big", signed=True)
+            if id > 12 or id == 0 and n != 0:
+                raise Refused(3, at)
+            record[3] = self.count(at + 1)
+            at += 5
+            for _ in range(n):
+                at = self.payload(id, (0, 0), at, deep + 1)
+            return at
+        if kind == 10:
+            names = set()
+            while True:
+                id = self.field(at, 1)[0]
+                if id == 0:
+                    return at + 1
+                name = self.string(at + 1)
+                if id > 12:
+                    raise Refused(3, at)
+                word = bytes(self.d[name[0]:sum(name)])
+                if word in names:
+                    raise Refused(6, at)
+                names.add(word)
+                record[3] += 1
+                at = self.payload(id, name, sum(name), deep + 1)
+        record[3] = self.count(at)
+        record[2] = record[3] * WIDTH[kind]
+        self.field(at + 4, record[2])
+        return at + 4 + record[2]
+
+    def root(self):
+        if self.field(0, 1)[0] != 10:
+            raise Refused(2, 0)
+        name = self.string(1)
+        return self.payload(10, name, sum(name), 1)
+
+
+def listed(number, line):
+    digits = "0123456789abcdefABCDEF"
+    if len(line) % 2 or len(line) > 8192 or any(c not in digits for c in line):
+        return [f"doc {number} badline"]
+    reader = Reader(bytes.fromhex(line))
+    try:
+        consumed = reader.root()
+    except Refused as e:
+        return [f"doc {number} refused {e.args[0]} {e.args[1]}"]
+    return [f"doc {number} ok {consumed} {len(reader.records)}"] + [f"{i} " + " ".join(map(str, r)) for i, r in enumerate(reader.records)]
+
+
+def marked():
+    for line, answer in [
+        ("0A0000", ["doc 1 refused 1 3"]),
+        ("0A000000", ["doc 1 ok 4 1", "0 10 0 0 0"]),
+        ("0A00016101000162FF00", ["doc 1 ok 10 2", "0 10 1 0 1", "1 1 1 1 0"]),
+        ("0A00000900016C0D0000000000", ["doc 1 refused 3 7"]),
+        ("0A00000900016C01FFFFFFFF00", ["doc 1 refused 5 8"]),
+        ("0A00000100016201010001620200", ["doc 1 refused 6 8"]),
+    ]:
+        assert listed(1, line) == answer, (line, listed(1, line))
+        yield line
+
+
+def string(b):
+    return len(b).to_bytes(2, "big") + b
+
+
+def random_payload(r, kind, deep):
+    if kind <= 6:
+        return bytes(r.randrange(256) for _ in range(WIDTH[kind]))
+    if kind == 8:
+        return string(r.choice([b"", b"reef", "Größe".encode(), b"\xC0\x80", b"\xED\xA0\xBD\xED\xB8\x80", "€".encode()]))
+    if kind in (7, 11, 12):
+        n = r.choice([0, 1, 3])
+        return n.to_bytes(4, "big") + bytes(r.randrange(256) for _ in range(n * WIDTH[kind]))
+    if kind == 9:
+        n = r.choice([0, 1, 2, 5]) if deep else 0
+        id = r.randrange(1, 13) if n else r.randrange(13)
+        return bytes([id]) + n.to_bytes(4, "big") + b"".join(random_payload(r, id, deep - 1) for _ in range(n))
+    return random_entries(r, deep - 1) if deep else b"\0"
+
+
+def random_entries(r, deep):
+    out = b""
+    names = r.sample([b"", b"a", b"b", b"SceneId", b"OriginLon", b"OriginLat", b"\xC0\x80", "ä".encode()], r.randrange(5))
+    for name in names:
+        kind = r.randrange(1, 13)
+        out += bytes([kind]) + string(name) + random_payload(r, kind, deep)
+    return out + b"\0"
+
+
+def damaged(r, d):
+    d = bytearray(d)
+    for _ in range(r.choice([1, 1, 2])):
+        way = r.randrange(4)
+        at = r.randrange(len(d))
+        if way == 0:
+            d[at] = r.choice([0, 1, 8, 9, 10, 12, 13, 0x7F, 0x80, 0xC0, 0xED, 0xF0, 0xFF, r.randrange(256)])
+        elif way == 1:
+            del d[at:]
+        elif way == 2:
+            d[at:at] = bytes([r.randrange(256)])
+        else:
+            d[at:at + 1] = d[at:at + 8]
+        if not d:
+            break
+    return bytes(d)
+
+
+def cases():
+    r = random.Random(20261115)
+    yield from marked()
+    yield ""
+    yield from ["0", "0A000", "0A0000 00", "zz", "0A0000g0", "0A000000\r", " 0A000000", "\t"]
+    exact = bytes.fromhex("0A0000070000") + (4096 - 11).to_bytes(4, "big") + bytes(4096 - 11) + b"\0"
+    assert len(exact) == 4096
+    yield exact.hex()
+    yield (exact + b"\0").hex()
+    yield "0" * 8193
+    yield "x" * 70000
+    for n in (510, 511):  # 512 records, and one more
+        yield (bytes.fromhex("0A0000090000") + b"\1" + n.to_bytes(4, "big") + bytes(n) + b"\0").hex()
+    for lists in (510, 511, 512):  # room ends first where there is a record more
+        d = bytes.fromhex("0A0000090000") + b"\x09\0\0\0\1" * (lists - 1) + b"\0\0\0\0\0" + b"\0"
+        yield d.hex()
+    for d in ["00", "09", "FF0000", "0A", "0A00", "0A000161", "0A000200", "0A0001FF00", "0A0002C08000", "0A0001C000", "0A0006EDA0BDEDB88000", "0A0003EDA0BD00",
+              "0A00000D000100", "0A00000D0001FF", "0A000001", "0A00000100", "0A0000010000", "0A00000100016101000161", "0A0000080000000200", "0A00000800000002C18100",
+              "0A0000090000", "0A00000900000D", "0A00000900000D00000000", "0A000009000000FFFFFFFF", "0A00000900000000000001", "0A0000090000017FFFFFFF",
+              "0A00000700007FFFFFFF", "0A00000C00007FFFFFFF", "0A00000B0000FFFFFFFF", "0A00000B000080000000", "0A0000010000000100000000", "0A00000A0000010000000100000000",
+              "0A000001000161000100016200010001610000", "0A000001000161000100016200010001610D", "0A0000010001610001000161"]:
+        yield d
+    for i in range(1500):
+        d = bytes([10]) + string(r.choice([b"", b"root", "Höhe".encode()])) + random_entries(r, r.randrange(4))
+        yield d.hex().upper() if i % 2 else d.hex()
+        for _ in range(2):
+            yield damaged(r, d).hex()
+
+
+def main(folder):
+    lines = [*cases(), "0A000000"]  # the last has no line feed
+    out, seen = [], {}
+    for number, line in enumerate(lines, 1):
+        answer = listed(number, line)
+        out += answer
+        word = " ".join(answer[0].split()[2:4]) if "refused" in answer[0] else answer[0].split()[2]
+        seen[word] = seen.get(word, 0) + 1
+    open(folder + "/stdin", "w", newline="").write("\n".join(lines))
+    open(folder + "/stdout", "w", newline="").write("\n".join(out) + "\n")
+    print(len(lines), "documents:", ", ".join(f"{k} {v}" for k, v in sorted(seen.items())))
+
+
+main(sys.argv[1])
