@@ -15,3 +15,6 @@ pub mod Table
 pub mod Fields
 pub mod Payloads
 pub mod Runs
+pub mod Leaves
+pub mod Tables
+pub mod Rows

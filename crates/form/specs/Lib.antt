@@ -7,4 +7,5 @@ pub mod Vectors
 pub mod Tree
 pub mod Layout
 pub mod Table
+pub mod Tables
 pub mod Reading

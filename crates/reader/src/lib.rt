@@ -160,7 +160,7 @@ fn array_at(doc: &[u8], w: usize, at: usize) -> Part
             place: p,
         },
         Num::Is(n) => {
-            if n < 2147483648 {
+            if n < BELOW_ZERO {
                 bytes_at(doc, n * w, n, at + 4)
             } else {
                 Part::No {
@@ -172,6 +172,10 @@ fn array_at(doc: &[u8], w: usize, at: usize) -> Part
     }
 }
 
+// A count's four bytes from here on are below 0 as an i32.
+const BELOW_ZERO: usize = 2147483648;
+
+// How many bytes kinds 1 to 6 take, and an element of kinds 7, 11 and 12 (rule 4).
 const WIDTHS: [u8; 13] = [0, 1, 2, 4, 8, 4, 8, 1, 0, 0, 0, 4, 8];
 
 fn width_of(kind: u8) -> usize
@@ -229,7 +233,7 @@ fn list_head(doc: &[u8], at: usize) -> Start
                     place: at,
                 };
             }
-            if n < 2147483648 {
+            if n < BELOW_ZERO {
                 Start::Is { kind, count: n }
             } else {
                 Start::No {

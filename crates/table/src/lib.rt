@@ -1,11 +1,16 @@
 // A record's words (rule 6): the one place that knows how many there are and which is which. Reader, writer and query go through
-// these functions.
+// these functions. Then rule 7: whether words form a table.
 ghost use mathlib.Core.Path.{_≡_};
-ghost use Prim.Native.Nat.{_+_, _*_, _≤_, _<_, _^_};
+ghost use mathlib.Core.Bool.{true};
+ghost use Prim.Native.Nat.{ℕ, _+_, _*_, _≤_, _<_, _^_};
 ghost use lib.ListN.{length};
 ghost use Rattle.form.specs.Spans.{over};
-ghost use Rattle.form.specs.Table.{word as wordOf};
+ghost use Rattle.form.specs.Table.{word as wordOf, widthOf, holds};
+ghost use Rattle.form.specs.Tables.{leafFits};
+ghost use Rattle.form.proofs.Leaves.{isArray};
+ghost use Rattle.form.proofs.Rows.{ChildIs, LeafRow, listKindAt, ContainerRow, RowIs};
 ghost use Rattle.table.specs.Records.{recordWords, leafOf, containerOf, Small};
+ghost use Rattle.table.specs.Check.{VerdictIs, Says, HopsAre};
 
 // How many words a record has.
 pub const WORDS: usize = 8;
@@ -117,4 +122,247 @@ pub fn leaf(
         list_kind: 0,
         end: end as u32,
     }
+}
+
+// ---- rule 7
+
+// Whether words form a table (rule 7; where not, refusal 10), if they and the document are within the limits (where not, refusal 9).
+pub enum Verdict {
+    Table,
+    NoTable,
+    OverLimit,
+}
+
+// The children of a container: how many there are, or that they do not tile it.
+enum Hops {
+    All(usize),
+    Broken,
+}
+
+// The kinds that hold records: lists and compounds.
+pub fn is_container(kind: usize) -> bool
+    ensures { λ r. ⌜ r ≡ holds kind ⌝ }
+{
+    if kind == 9 {
+        return true;
+    }
+    kind == 10
+}
+
+// The kinds of arrays.
+fn is_array(kind: usize) -> bool
+    ensures { λ r. ⌜ r ≡ isArray kind ⌝ }
+{
+    if kind == 7 {
+        return true;
+    }
+    if kind == 11 {
+        return true;
+    }
+    kind == 12
+}
+
+// How many bytes kinds 1 to 6 take, and an element of an array, by kind.
+const WIDTHS: [usize; 13] = [0, 1, 2, 4, 8, 4, 8, 1, 0, 0, 0, 4, 8];
+
+// The bytes of kinds 1 to 6, and of an element of an array.
+fn width_of(kind: usize) -> usize
+    requires { ⌜ kind ≤ 12 ⌝ }
+    ensures { λ r. ⌜ r ≡ widthOf kind ⌝ }
+{
+    WIDTHS[kind]
+}
+
+// Whether a span lies in a document.
+fn span_fits(start: usize, len: usize, doc_len: usize) -> bool
+    ensures { λ r. ⌜ Says r (start + len ≤ «doc_len») ⌝ }
+{
+    if doc_len < len {
+        return false;
+    }
+    start <= doc_len - len
+}
+
+// Rule 4: the payload's length and the count of what holds no records.
+fn leaf_fits(kind: usize, len: usize, count: usize) -> bool
+    requires { ⌜ count < 2 ^ 32 ⌝ }
+    ensures { λ r. ⌜ r ≡ leafFits kind len count ⌝ }
+{
+    if kind == 8 {
+        return count == 0;
+    }
+    if is_array(kind) {
+        return len == count * width_of(kind);
+    }
+    if kind == 0 {
+        return false;
+    }
+    if 6 < kind {
+        return false;
+    }
+    if len != width_of(kind) {
+        return false;
+    }
+    count == 0
+}
+
+// Whether record i agrees with rules 4 and 6 as one that holds no records.
+fn leaf_agrees(doc_len: usize, table: &[u32], i: usize) -> bool
+    requires { ⌜ 8 * i + 8 ≤ length (now table) ⌝ }
+    ensures { λ r. ⌜ Says r (LeafRow «doc_len» (now (table .entry)) i) ⌝ }
+{
+    let len = word(table, i, LENGTH);
+    if !leaf_fits(word(table, i, KIND), len, word(table, i, COUNT)) {
+        return false;
+    }
+    if !span_fits(word(table, i, START), len, doc_len) {
+        return false;
+    }
+    if word(table, i, LIST_KIND) != 0 {
+        return false;
+    }
+    word(table, i, END) == i + 1
+}
+
+// Whether record j may be a child in a container that ends at `end`; the elements of a list have no name.
+fn child_agrees(table: &[u32], end: usize, list: bool, j: usize) -> bool
+    requires { ⌜ 8 * j + 8 ≤ length (now table) ⌝ }
+    ensures { λ r. ⌜ Says r (ChildIs (now (table .entry)) list end j) ⌝ }
+{
+    let next = word(table, j, END);
+    if next <= j {
+        return false;
+    }
+    if end < next {
+        return false;
+    }
+    if !list {
+        return true;
+    }
+    if word(table, j, NAME) != 0 {
+        return false;
+    }
+    word(table, j, NAME_LENGTH) == 0
+}
+
+// Hops through a container's children by their end words, from record `from` up to `end`. Where the records before it agree, no record
+// is a child of two containers, so all hops together are no more than the records.
+fn hop_through(table: &[u32], from: usize, end: usize, list: bool) -> Hops
+    requires { ⌜ (from ≤ end) × (8 * end ≤ length (now table)) ⌝ }
+    ensures { λ r. ⌜ HopsAre (now (table .entry)) list end from r ⌝ }
+{
+    let mut j = from;
+    let mut count = 0;
+    while j < end {
+        if !child_agrees(table, end, list, j) {
+            return Hops::Broken;
+        }
+        count += 1;
+        j = word(table, j, END);
+    }
+    Hops::All(count)
+}
+
+// The list kind that record i of n must have.
+fn list_kind_at(table: &[u32], n: usize, i: usize) -> usize
+    requires { ⌜ (i < n) × (length (now table) ≡ 8 * n) ⌝ }
+    ensures { λ r. ⌜ r ≡ listKindAt (now (table .entry)) i ⌝ }
+{
+    if word(table, i, KIND) != 9 {
+        return 0;
+    }
+    if word(table, i, COUNT) == 0 {
+        return 0;
+    }
+    if n <= i + 1 {
+        return 0;
+    }
+    word(table, i + 1, KIND)
+}
+
+// Whether record i of n, a list or a compound, agrees with rule 6, and its children tile it.
+fn container_agrees(table: &[u32], n: usize, i: usize) -> bool
+    requires { ⌜ (i < n) × (length (now table) ≡ 8 * n) × (holds (wordOf (now table) i 0) ≡ true) ⌝ }
+    ensures { λ r. ⌜ Says r (ContainerRow (now (table .entry)) n i) ⌝ }
+{
+    if word(table, i, START) != 0 {
+        return false;
+    }
+    if word(table, i, LENGTH) != 0 {
+        return false;
+    }
+    if word(table, i, LIST_KIND) != list_kind_at(table, n, i) {
+        return false;
+    }
+    let end = word(table, i, END);
+    if end <= i {
+        return false;
+    }
+    if n < end {
+        return false;
+    }
+    let count = word(table, i, COUNT);
+    match hop_through(table, i + 1, end, word(table, i, KIND) == 9) {
+        Hops::All(hops) => hops == count,
+        Hops::Broken => false,
+    }
+}
+
+// Whether record i of n agrees with rules 4 and 6.
+fn record_agrees(doc_len: usize, table: &[u32], n: usize, i: usize) -> bool
+    requires { ⌜ (i < n) × (length (now table) ≡ 8 * n) ⌝ }
+    ensures { λ r. ⌜ Says r (RowIs «doc_len» (now (table .entry)) n i) ⌝ }
+{
+    if !span_fits(word(table, i, NAME), word(table, i, NAME_LENGTH), doc_len) {
+        return false;
+    }
+    if is_container(word(table, i, KIND)) {
+        return container_agrees(table, n, i);
+    }
+    leaf_agrees(doc_len, table, i)
+}
+
+// Whether each of n records agrees with rules 4 and 6; the first that does not ends the search.
+fn records_agree(doc_len: usize, table: &[u32], n: usize) -> bool
+    requires { ⌜ length (now table) ≡ 8 * n ⌝ }
+    ensures { λ r. ⌜ Says r ((i : ℕ) → i < n → RowIs «doc_len» (now (table .entry)) n i) ⌝ }
+{
+    let mut i = 0;
+    while i < n {
+        if !record_agrees(doc_len, table, n, i) {
+            return false;
+        }
+        i += 1;
+    }
+    true
+}
+
+// Rule 7: whether the words form a table over a document of doc_len bytes (refusal 9 comes before 10). Linear in the records, with no
+// stack.
+pub fn is_table(doc_len: usize, table: &[u32]) -> Verdict
+    ensures { λ r. ⌜ VerdictIs «doc_len» (now (table .entry)) r ⌝ }
+{
+    let n = table.len() / WORDS;
+    if form::DOCUMENT < doc_len {
+        return Verdict::OverLimit;
+    }
+    if WORDS * form::RECORDS < table.len() {
+        return Verdict::OverLimit;
+    }
+    if table.len() != WORDS * n {
+        return Verdict::NoTable;
+    }
+    if n == 0 {
+        return Verdict::NoTable;
+    }
+    if word(table, 0, KIND) != 10 {
+        return Verdict::NoTable;
+    }
+    if word(table, 0, END) != n {
+        return Verdict::NoTable;
+    }
+    if records_agree(doc_len, table, n) {
+        return Verdict::Table;
+    }
+    Verdict::NoTable
 }

@@ -20,19 +20,21 @@ all-fit-spec =
     (tie.spec
     Inv-loop
     μ-loop
-    (λ c. (omega arith, λ _. fitting-none _ _ _ (omega arith))) -- loop-holds
-    (λ c. search needs) -- add-at-k
-    (λ c. search needs) -- sub-odd
-    (λ c. search needs) -- shared-slice-read-odd
-    (λ c. search needs) -- sub-odd-2
-    (λ c. search needs) -- shared-slice-read-odd-2
-    (λ c. search needs) -- shared-slice-read-odd-3
-    (λ c κs. search needs) -- odd-requires
-    (λ c κs. search needs) -- raise-requires
-    (λ c. search needs) -- add-k
-    (λ c. omega arith) -- loop-less
-    (λ c. let l = c .before .before .before .before .before .before .loop in let at = c .before .before .before .before .before .before .before .before .args .at in
-    (omega arith, λ h. let e : at + (l .k + 1) ≡ at + l .k + 1 = omega arith in
-    rw e (fitting-more _ _ _ (l .inv .1 (omega (arith, c .raise .ensures))) (c .before .odd .ensures (omega (arith, c .raise .ensures)))))) -- loop-again
-    (λ c. λ _. let e : c .before .before .loop .k ≡ 64 = omega arith in rw e at (c .before .before .loop .inv .1 (c .if1 .taken))) -- returns
-    (λ c. λ e. absurd (false-true e))) -- returns-2
+    (λ c. (omega arith, λ _. fitting-none _ _ _ (omega arith)))  -- loop-holds
+    (λ c. search needs)  -- add-at-k
+    (λ c. search needs)  -- sub-odd
+    (λ c. search needs)  -- shared-slice-read-odd
+    (λ c. search needs)  -- sub-odd-2
+    (λ c. search needs)  -- shared-slice-read-odd-2
+    (λ c. search needs)  -- shared-slice-read-odd-3
+    (λ c κs. search needs)  -- odd-requires
+    (λ c κs. search needs)  -- raise-requires
+    (λ c. search needs)  -- add-k
+    (λ c. omega arith)  -- loop-less
+    (λ c. let l = c .before .before .before .before .before .before .loop in let at = c .before .before .before .before .before .before .before .before .args .at in (
+      omega arith,
+      λ h. let e : at + (l .k + 1) ≡ at + l .k + 1 = omega arith in
+          rw e (fitting-more _ _ _ (l .inv .1 (omega (arith, c .raise .ensures))) (c .before .odd .ensures (omega (arith, c .raise .ensures)))),
+    ))  -- loop-again
+    (λ c. λ _. let e : c .before .before .loop .k ≡ 64 = omega arith in rw e at (c .before .before .loop .inv .1 (c .if1 .taken)))  -- returns
+    (λ c. λ e. absurd (false-true e)))  -- returns-2

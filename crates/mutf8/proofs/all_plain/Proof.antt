@@ -35,9 +35,11 @@ loop-less c = omega arith
 
 loop-again : tie.Need-loop-again Inv-loop μ-loop
 loop-again c =
-    let l = c .before .before .before .loop in let at = c .before .before .before .before .before .args .at in
-    (omega arith, λ h. let z = c .still-plain .ensures h in let e : at + (l .k + 1) ≡ at + l .k + 1 = omega arith in
-    rw e (plain-more _ _ _ (l .inv .1 (z .0)) (z .1) (z .2)))
+    let l = c .before .before .before .loop in let at = c .before .before .before .before .before .args .at in (
+      omega arith,
+      λ h. let z = c .still-plain .ensures h in let e : at + (l .k + 1) ≡ at + l .k + 1 = omega arith in
+          rw e (plain-more _ _ _ (l .inv .1 (z .0)) (z .1) (z .2)),
+    )
 
 returns : tie.Need-returns Inv-loop μ-loop
 returns c = λ h. let e : c .before .loop .k ≡ c .before .before .before .args .n = omega arith in rw e at (c .before .loop .inv .1 h)

@@ -8,8 +8,8 @@ pub is-well-formed-spec : {M : Type 1} → statement M
 is-well-formed-spec =
     tie.close
     (tie.spec
-    (λ c κs. search needs) -- check-requires
-    (λ c. search needs) -- enum-told
-    (λ c. search needs) -- enum-told-2
-    (λ c. judged-by _ (c .before .before .check .result) _ (c .enum-told .given .1) (c .before .before .check .ensures)) -- returns
-    (λ c. judged-by _ (c .before .before .check .result) _ (c .enum-told2 .given .1) (c .before .before .check .ensures))) -- returns-2
+    (λ c κs. search needs)  -- check-requires
+    (λ c. search needs)  -- enum-told
+    (λ c. search needs)  -- enum-told-2
+    (λ c. judged-by _ (c .before .before .check .result) _ (c .enum-told .given .1) (c .before .before .check .ensures))  -- returns
+    (λ c. judged-by _ (c .before .before .check .result) _ (c .enum-told2 .given .1) (c .before .before .check .ensures)))  -- returns-2

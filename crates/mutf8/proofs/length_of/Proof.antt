@@ -11,8 +11,8 @@ pub length-of-spec : {M : Type 1} → statement M
 length-of-spec =
     tie.close
     (tie.spec
-    (λ c. let x = c .before .args .c in rw (sb-low x (omega arith), ub-nul x (omega arith)) refl) -- returns
-    (λ c. let x = c .before .before .args .c in rw (sb-low x (omega arith), ub-one x (omega arith) (omega arith)) refl) -- returns-2
-    (λ c. let x = c .before .before .before .args .c in rw (sb-low x (omega arith), ub-two x (omega arith) (omega arith)) refl) -- returns-3
-    (λ c. let x = c .before .before .before .before .args .c in rw (sb-low x (omega arith), ub-three x (omega arith)) refl) -- returns-4
-    (λ c. let x = c .before .before .before .before .args .c in sym (pair-length x (omega arith)))) -- returns-5
+    (λ c. let x = c .before .args .c in rw (sb-low x (omega arith), ub-nul x (omega arith)) refl)  -- returns
+    (λ c. let x = c .before .before .args .c in rw (sb-low x (omega arith), ub-one x (omega arith) (omega arith)) refl)  -- returns-2
+    (λ c. let x = c .before .before .before .args .c in rw (sb-low x (omega arith), ub-two x (omega arith) (omega arith)) refl)  -- returns-3
+    (λ c. let x = c .before .before .before .before .args .c in rw (sb-low x (omega arith), ub-three x (omega arith)) refl)  -- returns-4
+    (λ c. let x = c .before .before .before .before .args .c in sym (pair-length x (omega arith))))  -- returns-5

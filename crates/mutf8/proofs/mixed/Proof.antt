@@ -9,8 +9,8 @@ pub mixed-spec : {M : Type 1} → statement M
 mixed-spec =
     tie.close
     (tie.spec
-    (λ c. passed-none _ _ (c .before .before .pre)) -- returns
-    (λ c κs. search needs) -- is-edge-requires
-    (λ c κs. (c .before .is-edge .ensures (c .if2 .taken), c .before .before .before .before .pre)) -- blocks-requires
-    (λ c. search needs) -- returns-2
-    (λ c. passed-none _ _ (c .before .before .before .before .pre))) -- returns-3
+    (λ c. passed-none _ _ (c .before .before .pre))  -- returns
+    (λ c κs. search needs)  -- is-edge-requires
+    (λ c κs. (c .before .is-edge .ensures (c .if2 .taken), c .before .before .before .before .pre))  -- blocks-requires
+    (λ c. search needs)  -- returns-2
+    (λ c. passed-none _ _ (c .before .before .before .before .pre)))  -- returns-3

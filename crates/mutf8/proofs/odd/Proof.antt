@@ -11,13 +11,13 @@ pub odd-spec : {M : Type 1} → statement M
 odd-spec =
     tie.close
     (tie.spec
-    (λ c κs. search needs) -- due-requires
-    (λ c κs. search needs) -- follows-requires
-    (λ c κs. search needs) -- differ-requires
-    (λ c κs. search needs) -- wrong-requires
-    (λ c κs. search needs) -- raise-requires
-    (λ c κs. search needs) -- barred-requires
-    (λ c κs. search needs) -- raise-requires-2
+    (λ c κs. search needs)  -- due-requires
+    (λ c κs. search needs)  -- follows-requires
+    (λ c κs. search needs)  -- differ-requires
+    (λ c κs. search needs)  -- wrong-requires
+    (λ c κs. search needs)  -- raise-requires
+    (λ c κs. search needs)  -- barred-requires
+    (λ c κs. search needs)  -- raise-requires-2
     (λ c. λ e. let h = c .raise2 .ensures in let g = c .before .before .raise .ensures in
     fits-of (c .before .before .before .before .before .before .due .ensures) (c .before .before .before .before .before .follows .ensures)
-    (c .before .before .before .before .differ .ensures (omega arith)) (c .before .before .before .wrong .ensures (omega arith)) (c .before .barred .ensures (omega arith)))) -- returns
+    (c .before .before .before .before .differ .ensures (omega arith)) (c .before .before .before .wrong .ensures (omega arith)) (c .before .barred .ensures (omega arith))))  -- returns

@@ -19,14 +19,14 @@ pass-spec =
     (tie.spec
     Inv-loop
     μ-loop
-    (λ c. (c .before .pre, passed-none _ _ (c .before .pre))) -- loop-holds
-    (λ c. omega arith) -- sub-loop
-    (λ c κs. omega arith) -- all-plain-requires
-    (λ c. omega arith) -- add-i
-    (λ c. omega arith) -- loop-less
-    (λ c. (omega arith, passed-join _ _ _ _ (c .before .before .before .loop .inv .1) (plain-passed _ _ _ (omega arith) (omega arith) (c .before .all-plain .ensures (c .if1 .taken))))) -- loop-again
-    (λ c κs. c .before .before .before .loop .inv .0) -- mixed-requires
-    (λ c. passed-join _ _ _ _ (c .before .before .before .before .loop .inv .1) (c .mixed .ensures)) -- returns
-    (λ c κs. (c .before .loop .inv .0, omega arith)) -- ends-plain-requires
-    (λ c. let v = c .before .before .before .loop .inv in passed-join _ _ _ _ (v .1) (plain-passed _ _ _ (v .0) (omega arith) (c .before .ends-plain .ensures (c .if2 .taken)))) -- returns-2
-    (λ c. c .before .before .before .loop .inv .1)) -- returns-3
+    (λ c. (c .before .pre, passed-none _ _ (c .before .pre)))  -- loop-holds
+    (λ c. omega arith)  -- sub-loop
+    (λ c κs. omega arith)  -- all-plain-requires
+    (λ c. omega arith)  -- add-i
+    (λ c. omega arith)  -- loop-less
+    (λ c. (omega arith, passed-join _ _ _ _ (c .before .before .before .loop .inv .1) (plain-passed _ _ _ (omega arith) (omega arith) (c .before .all-plain .ensures (c .if1 .taken)))))  -- loop-again
+    (λ c κs. c .before .before .before .loop .inv .0)  -- mixed-requires
+    (λ c. passed-join _ _ _ _ (c .before .before .before .before .loop .inv .1) (c .mixed .ensures))  -- returns
+    (λ c κs. (c .before .loop .inv .0, omega arith))  -- ends-plain-requires
+    (λ c. let v = c .before .before .before .loop .inv in passed-join _ _ _ _ (v .1) (plain-passed _ _ _ (v .0) (omega arith) (c .before .ends-plain .ensures (c .if2 .taken))))  -- returns-2
+    (λ c. c .before .before .before .loop .inv .1))  -- returns-3

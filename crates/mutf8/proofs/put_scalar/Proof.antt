@@ -67,10 +67,12 @@ returns-3 : tie.Need-returns-3
 returns-3 c =
     let a = c .before .before .before .before .before .before .before .before .before .before .before .before .args in
     let e = c .before .before .before .before .before .before .before .before .before .before .length-of .ensures in
-    let p = pair-length (a .c) (omega arith) in
-    (omega (arith, e), omega arith,
-    pair-put (a .out .now) _ _ (a .c) (a .at) (omega arith) (omega (arith, e, p)) (c .before .before .before .before .before .before .put-unit2 .ensures)
-    (rw (← and-mask (a .c - 65536) 10) (c .before .before .put-unit3 .ensures)))
+    let p = pair-length (a .c) (omega arith) in (
+      omega (arith, e),
+      omega arith,
+      pair-put (a .out .now) _ _ (a .c) (a .at) (omega arith) (omega (arith, e, p)) (c .before .before .before .before .before .before .put-unit2 .ensures)
+          (rw (← and-mask (a .c - 65536) 10) (c .before .before .put-unit3 .ensures)),
+    )
 
 pub put-scalar-spec : {M : Type 1} → statement M
 put-scalar-spec =

@@ -12,16 +12,16 @@ pub put-unit-spec : {M : Type 1} → statement M
 put-unit-spec =
     tie.close
     (tie.spec
-    (λ c κs. let u = c .before .before .before .args .u in (omega arith, omega (arith, ap length (ub-nul u (omega arith)), c .before .before .before .pre .1))) -- put-two-requires
-    (λ c. search needs) -- same-length
-    (λ c. let u = c .before .before .before .before .before .before .args .u in rw (ub-nul u (omega arith)) (c .before .before .put-two .ensures)) -- returns
-    (λ c. search needs) -- cast-out
-    (λ c. let u = c .before .before .before .args .u in omega (arith, ap length (ub-one u (omega arith) (omega arith)), c .before .before .before .pre .1)) -- slice-write-out
-    (λ c. search needs) -- same-length-2
-    (λ c. let a = c .before .before .before .args in let e = ub-one (a .u) (omega arith) (omega arith) in rw e (one-put (a .out .now) (a .at) (a .u) (omega (arith, ap length e, c .before .before .before .pre .1)))) -- returns-2
-    (λ c κs. let u = c .before .before .before .before .before .args .u in (omega arith, omega (arith, ap length (ub-two u (omega arith) (omega arith)), c .before .before .before .before .before .pre .1))) -- put-two-requires-2
-    (λ c. search needs) -- same-length-3
-    (λ c. let u = c .before .before .before .before .before .before .before .before .args .u in rw (ub-two u (omega arith) (omega arith)) (c .before .before .put-two2 .ensures)) -- returns-3
-    (λ c κs. let u = c .before .before .before .before .before .args .u in (omega arith, omega (arith, ap length (ub-three u (omega arith)), c .before .before .before .before .before .pre .1))) -- put-three-requires
-    (λ c. search needs) -- same-length-4
-    (λ c. let u = c .before .before .before .before .before .before .before .before .args .u in rw (ub-three u (omega arith)) (c .before .before .put-three .ensures))) -- returns-4
+    (λ c κs. let u = c .before .before .before .args .u in (omega arith, omega (arith, ap length (ub-nul u (omega arith)), c .before .before .before .pre .1)))  -- put-two-requires
+    (λ c. search needs)  -- same-length
+    (λ c. let u = c .before .before .before .before .before .before .args .u in rw (ub-nul u (omega arith)) (c .before .before .put-two .ensures))  -- returns
+    (λ c. search needs)  -- cast-out
+    (λ c. let u = c .before .before .before .args .u in omega (arith, ap length (ub-one u (omega arith) (omega arith)), c .before .before .before .pre .1))  -- slice-write-out
+    (λ c. search needs)  -- same-length-2
+    (λ c. let a = c .before .before .before .args in let e = ub-one (a .u) (omega arith) (omega arith) in rw e (one-put (a .out .now) (a .at) (a .u) (omega (arith, ap length e, c .before .before .before .pre .1))))  -- returns-2
+    (λ c κs. let u = c .before .before .before .before .before .args .u in (omega arith, omega (arith, ap length (ub-two u (omega arith) (omega arith)), c .before .before .before .before .before .pre .1)))  -- put-two-requires-2
+    (λ c. search needs)  -- same-length-3
+    (λ c. let u = c .before .before .before .before .before .before .before .before .args .u in rw (ub-two u (omega arith) (omega arith)) (c .before .before .put-two2 .ensures))  -- returns-3
+    (λ c κs. let u = c .before .before .before .before .before .args .u in (omega arith, omega (arith, ap length (ub-three u (omega arith)), c .before .before .before .before .before .pre .1)))  -- put-three-requires
+    (λ c. search needs)  -- same-length-4
+    (λ c. let u = c .before .before .before .before .before .before .before .before .args .u in rw (ub-three u (omega arith)) (c .before .before .put-three .ensures)))  -- returns-4

@@ -8,6 +8,6 @@ pub still-plain-spec : {M : Type 1} → statement M
 still-plain-spec =
     tie.close
     (tie.spec
-    (λ c. λ e. absurd (false-true e)) -- returns
-    (λ c. λ e. absurd (false-true e)) -- returns-2
-    (λ c. λ e. (e, omega arith, omega arith))) -- returns-3
+    (λ c. λ e. absurd (false-true e))  -- returns
+    (λ c. λ e. absurd (false-true e))  -- returns-2
+    (λ c. λ e. (e, omega arith, omega arith)))  -- returns-3

@@ -1,0 +1,365 @@
+-- Laws of tables (rule 7): where the words of records stand, what a table's tree says of each record, and that there is one tree.
+-- Assumes nothing.
+use Prim.Native.Nat.{ℕ, suc, _+_, _*_, _≤_, _<_}
+use mathlib.Core.Path.{_≡_, refl, sym, ap, subst, _∙_}
+use mathlib.Core.Logic.{_⊎_, inl, inr}
+use mathlib.Core.List.{List, [], _∷_, _++_, append-assoc, append-nil}
+use mathlib.Core.Bool.{Bool, true, false}
+use native.Mathlib.Omega.{arith}
+use native.Mathlib.Decide.{ℕ-discrete, decLt}
+use lib.ListN.{length, getD, take, drop, length-drop, replicate, length-replicate}
+use lib.Seq.{drop-cons, drop-drop, drop-at, getD-drop, length-take-le}
+use lib.Dec.{eqb}
+use Rattle.form.specs.Answer.{recordLimit}
+use Rattle.form.specs.Spans.{over}
+use Rattle.form.specs.Table.{Head, Forest, none, node, size, width, _⊕_, words, word, flat, wrote, widthOf}
+use Rattle.form.specs.Tables.{leafFits, LeafIs, ContainerIs, NameIs, Fair, IsTable, Within}
+use Rattle.form.proofs.Table.{flat-length}
+use Rattle.form.proofs.Leaves.{held-kind, leaf-kind}
+
+-- ---- where the words of records stand
+
+-- Record n of a table has a head's words, and ends at e.
+pub record Stands (t : List ℕ) (n : ℕ) (h : Head) (e : ℕ) : Type 0 where
+  pub room : 8 * n + 8 ≤ length t
+  pub kind : word t n 0 ≡ h .kind
+  pub name : word t n 1 ≡ h .name
+  pub name-length : word t n 2 ≡ h .name-length
+  pub start : word t n 3 ≡ h .start
+  pub size : word t n 4 ≡ h .size
+  pub count : word t n 5 ≡ h .count
+  pub list-kind : word t n 6 ≡ h .list-kind
+  pub end : word t n 7 ≡ e
+
+-- The words of some records stand in a table from record n on.
+unfoldable pub Sits : List ℕ → ℕ → Forest → Type 0
+Sits t n none = Unit {0}
+Sits t n (node h inner later) =
+    Stands t n h (n + 1 + size inner) × Sits t (n + 1) inner × Sits t (n + 1 + size inner) later
+
+-- An empty row of records stands anywhere.
+pub sits-none : (t : List ℕ) (n : ℕ) → Sits t n none
+unfolding Sits
+sits-none t n = tt
+
+module _ (t : List ℕ) (n : ℕ) (h : Head) (inner later : Forest) where
+  -- The first record, those in it and those after it stand together.
+  pub sits-node : Stands t n h (n + 1 + size inner) → Sits t (n + 1) inner → Sits t (n + 1 + size inner) later → Sits t n (node h inner later)
+  unfolding Sits
+  sits-node s i l = (s, i, l)
+
+  module _ (s : Sits t n (node h inner later)) where
+    -- The eight words of the first record.
+    pub sits-first : Stands t n h (n + 1 + size inner)
+    unfolding Sits
+    sits-first = s .0
+
+    -- The records in it stand right after it.
+    pub sits-inner : Sits t (n + 1) inner
+    unfolding Sits
+    sits-inner = s .1
+
+    -- Those after it stand where it ends.
+    pub sits-later : Sits t (n + 1 + size inner) later
+    unfolding Sits
+    sits-later = s .2
+
+    -- The first record alone, with those in it.
+    pub sits-alone : Sits t n (node h inner none)
+    unfolding Sits
+    sits-alone = (s .0, s .1, tt)
+
+-- A table is long enough for the records that stand in it.
+pub sits-room : (t : List ℕ) (n : ℕ) (f : Forest) → Sits t n f → 8 * n ≤ length t → 8 * (n + size f) ≤ length t
+unfolding Sits size
+sits-room t n none s l = omega arith
+sits-room t n (node h inner later) s l =
+    let r = s .0 .room in
+    let i = sits-room t (n + 1) inner (s .1) (omega arith) in
+    omega (arith, sits-room t (n + 1 + size inner) later (s .2) (omega arith))
+
+-- Records one after the other stand so.
+pub sits-append : (t : List ℕ) (n : ℕ) (f g : Forest) → Sits t n f → Sits t (n + size f) g → Sits t n (f ⊕ g)
+unfolding Sits size _⊕_
+sits-append t n none g s r = let z : n + 0 ≡ n = omega arith in rw z at r
+sits-append t n (node h inner later) g s r =
+    let z : n + (1 + size inner + size later) ≡ n + 1 + size inner + size later = omega arith in
+    (s .0, s .1, sits-append t (n + 1 + size inner) later g (s .2) (rw z at r))
+
+-- And are found so.
+pub sits-split : (t : List ℕ) (n : ℕ) (f g : Forest) → Sits t n (f ⊕ g) → Sits t n f × Sits t (n + size f) g
+unfolding Sits size _⊕_
+sits-split t n none g s = let z : n + 0 ≡ n = omega arith in (tt, rw z s)
+sits-split t n (node h inner later) g s =
+    let z : n + (1 + size inner + size later) ≡ n + 1 + size inner + size later = omega arith in
+    let r = sits-split t (n + 1 + size inner) later g (s .2) in
+    ((s .0, s .1, r .0), rw z (r .1))
+
+-- One word comes first from its place on.
+next-word : (t : List ℕ) (a b : ℕ) → a < length t → suc a ≡ b → drop a t ≡ getD t a 0 ∷ drop b t
+next-word t a b h e = drop-cons t a 0 h ∙ ap (λ (k : ℕ). getD t a 0 ∷ drop k t) e
+
+-- So do the eight words of a record.
+drop-eight : (t : List ℕ) (n : ℕ) (h : Head) (e : ℕ) → Stands t n h e → drop (8 * n) t ≡ words h e ++ drop (8 * (n + 1)) t
+drop-eight t n h e s =
+    let r = s .room in
+    let z : 8 * n ≡ 8 * n + 0 = omega arith in
+    rw (
+      z,
+      next-word t (8 * n + 0) (8 * n + 1) (omega arith) (omega arith),
+      next-word t (8 * n + 1) (8 * n + 2) (omega arith) (omega arith),
+      next-word t (8 * n + 2) (8 * n + 3) (omega arith) (omega arith),
+      next-word t (8 * n + 3) (8 * n + 4) (omega arith) (omega arith),
+      next-word t (8 * n + 4) (8 * n + 5) (omega arith) (omega arith),
+      next-word t (8 * n + 5) (8 * n + 6) (omega arith) (omega arith),
+      next-word t (8 * n + 6) (8 * n + 7) (omega arith) (omega arith),
+      next-word t (8 * n + 7) (8 * (n + 1)) (omega arith) (omega arith),
+      s .kind,
+      s .name,
+      s .name-length,
+      s .start,
+      s .size,
+      s .count,
+      s .list-kind,
+      s .end,
+    )
+    refl
+
+-- Where records stand, the words are theirs.
+pub sits-words : (t : List ℕ) (n : ℕ) (f : Forest) → Sits t n f → flat n f ++ drop (8 * (n + size f)) t ≡ drop (8 * n) t
+unfolding Sits flat size
+sits-words t n none s = let z : n + 0 ≡ n = omega arith in rw z refl
+sits-words t n (node h inner later) s =
+    let z : n + (1 + size inner + size later) ≡ n + 1 + size inner + size later = omega arith in
+    let rest = drop (8 * (n + 1 + size inner + size later)) t in
+    rw z
+    (ap (λ (l : List ℕ). words h (n + 1 + size inner) ++ l)
+    (append-assoc (flat (n + 1) inner) (flat (n + 1 + size inner) later) rest
+    ∙ ap (λ (l : List ℕ). flat (n + 1) inner ++ l) (sits-words t (n + 1 + size inner) later (s .2))
+    ∙ sits-words t (n + 1) inner (s .1))
+    ∙ sym (drop-eight t n h (n + 1 + size inner) (s .0)))
+
+-- Where the words are those of a record, it stands there.
+stands : (t : List ℕ) (n : ℕ) (h : Head) (e : ℕ) (rest : List ℕ) → drop (8 * n) t ≡ words h e ++ rest → Stands t n h e
+stands t n h e rest p = record {
+  room = omega (arith, length-drop (8 * n) t, ap length p);
+  kind = at 0;
+  name = at 1;
+  name-length = at 2;
+  start = at 3;
+  size = at 4;
+  count = at 5;
+  list-kind = at 6;
+  end = at 7;
+}
+  where
+    at : (k : ℕ) → word t n k ≡ getD (words h e ++ rest) k 0
+    at k = sym (getD-drop (8 * n) t k 0) ∙ ap (λ (l : List ℕ). getD l k 0) p
+
+-- Where the words are those of some records, they stand there.
+pub words-sit : (t : List ℕ) (n : ℕ) (f : Forest) (rest : List ℕ) → drop (8 * n) t ≡ flat n f ++ rest
+    → Sits t n f × (drop (8 * (n + size f)) t ≡ rest)
+unfolding Sits flat size
+words-sit t n none rest p = let z : n + 0 ≡ n = omega arith in (tt, rw z p)
+words-sit t n (node h inner later) rest p =
+    let z : n + (1 + size inner + size later) ≡ n + 1 + size inner + size later = omega arith in
+    let y : 8 * (n + 1) ≡ 8 * n + 8 = omega arith in
+    let a : List ℕ = flat (n + 1) inner in
+    let b : List ℕ = flat (n + 1 + size inner) later in
+    let q : drop (8 * n) t ≡ words h (n + 1 + size inner) ++ (a ++ (b ++ rest)) = p ∙ ap (λ (l : List ℕ). words h (n + 1 + size inner) ++ l) (append-assoc a b rest) in
+    let r : drop (8 * (n + 1)) t ≡ a ++ (b ++ rest) = rw y (sym (drop-drop 8 (8 * n) t) ∙ ap (drop 8) q) in
+    let i = words-sit t (n + 1) inner (b ++ rest) r in
+    let l = words-sit t (n + 1 + size inner) later rest (i .1) in
+    ((stands t n h (n + 1 + size inner) (a ++ (b ++ rest)) q, i .0, l .0), rw z (l .1))
+
+-- What was written stands there.
+pub wrote-sits : (t : List ℕ) (n : ℕ) (f : Forest) → 8 * n ≤ length t → Sits (wrote t n f) n f
+unfolding wrote over
+wrote-sits t n f l =
+    let rest = drop (8 * n + length (flat n f)) t in
+    words-sit (wrote t n f) n f rest (drop-at (take (8 * n) t) (flat n f ++ rest) (8 * n) (length-take-le (8 * n) t l)) .0
+
+-- ---- there is one tree
+
+-- Records that stand at one place, as many, are the same.
+pub same-forest : (t : List ℕ) (n : ℕ) (f g : Forest) → Sits t n f → Sits t n g → size f ≡ size g → f ≡ g
+unfolding Sits size
+same-forest t n none none s r e = refl
+same-forest t n none (node h inner later) s r e = absurd (omega arith)
+same-forest t n (node h inner later) none s r e = absurd (omega arith)
+same-forest t n (node h inner later) (node h′ inner′ later′) s r e =
+    let a = s .0 in
+    let b = r .0 in
+    let p : n + 1 + size inner ≡ n + 1 + size inner′ = sym (a .end) ∙ b .end in
+    let i : inner ≡ inner′ = same-forest t (n + 1) inner inner′ (s .1) (r .1) (omega arith) in
+    let l : later ≡ later′ = same-forest t (n + 1 + size inner) later later′ (s .2) (rw (← p) at (r .2)) (omega arith) in
+    λ k. node (record {
+      kind = (sym (a .kind) ∙ b .kind) k;
+      name = (sym (a .name) ∙ b .name) k;
+      name-length = (sym (a .name-length) ∙ b .name-length) k;
+      start = (sym (a .start) ∙ b .start) k;
+      size = (sym (a .size) ∙ b .size) k;
+      count = (sym (a .count) ∙ b .count) k;
+      list-kind = (sym (a .list-kind) ∙ b .list-kind) k;
+    }) (i k) (l k)
+
+-- Words are those of one forest at most.
+pub flat-injective : (n : ℕ) (f g : Forest) → flat n f ≡ flat n g → f ≡ g
+flat-injective n f g e = same-forest t n f g (sits f refl) (sits g e) (omega (arith, flat-length n f, flat-length n g, ap length e))
+  where
+    t : List ℕ
+    t = replicate (8 * n) 0 ++ flat n f
+
+    sits : (k : Forest) → flat n f ≡ flat n k → Sits t n k
+    sits k p = words-sit t n k [] (drop-at (replicate (8 * n) 0) (flat n f) (8 * n) (length-replicate {A = ℕ} (8 * n) 0) ∙ p ∙ sym (append-nil (flat n k))) .0
+
+-- ---- tables
+
+module _ (d : ℕ) (w : List ℕ) (t : IsTable d w) where
+  -- The words of a table's tree stand in it from record 0 on.
+  pub table-sits : Sits w 0 (node (t .head) (t .inner) none)
+  table-sits = words-sit w 0 (node (t .head) (t .inner) none) [] (t .these ∙ sym (append-nil (flat 0 (node (t .head) (t .inner) none)))) .0
+
+  -- A table has eight words to a record.
+  pub table-length : length w ≡ 8 * (1 + size (t .inner))
+  unfolding size
+  table-length = omega (arith, ap length (t .these), flat-length 0 (node (t .head) (t .inner) none))
+
+  -- No more records than the limit, where the words are within theirs.
+  pub table-records : Within d w → 1 + size (t .inner) ≤ recordLimit
+  table-records h = let l = h .words in omega (arith, table-length)
+
+-- Words are those of one tree at most, whatever the document.
+pub one-tree : (d d′ : ℕ) (w : List ℕ) (s : IsTable d w) (t : IsTable d′ w) → (s .head ≡ t .head) × (s .inner ≡ t .inner)
+one-tree d d′ w s t =
+    let e : node (s .head) (s .inner) none ≡ node (t .head) (t .inner) none = flat-injective 0 (node (s .head) (s .inner) none) (node (t .head) (t .inner) none) (sym (s .these) ∙ t .these) in
+    (cc, cc)
+
+-- ---- what rules 4 and 6 say of records side by side
+
+-- An empty row of records is fair.
+pub fair-none : (d : ℕ) (l : Bool) → Fair d l none
+unfolding Fair
+fair-none d l = tt
+
+module _ (d : ℕ) (l : Bool) (h : Head) (inner later : Forest) where
+  -- The first record, those in it and those after it are fair together.
+  pub fair-node : NameIs d l h → LeafIs d h inner ⊎ ContainerIs h inner → Fair d (eqb (h .kind) 9) inner → Fair d l later → Fair d l (node h inner later)
+  unfolding Fair
+  fair-node n s i r = (n, s, i, r)
+
+  module _ (f : Fair d l (node h inner later)) where
+    -- The first record's name.
+    pub fair-name : NameIs d l h
+    unfolding Fair
+    fair-name = f .0
+
+    -- The first record holds none, or is a list or a compound.
+    pub fair-first : LeafIs d h inner ⊎ ContainerIs h inner
+    unfolding Fair
+    fair-first = f .1
+
+    -- Its kind is 1 to 12.
+    pub fair-kind : (0 < h .kind) × (h .kind ≤ 12)
+    fair-kind = go fair-first
+      where
+        held : (h .kind ≡ 9) ⊎ (h .kind ≡ 10) → (0 < h .kind) × (h .kind ≤ 12)
+        held (inl p) = (omega arith, omega arith)
+        held (inr p) = (omega arith, omega arith)
+
+        go : LeafIs d h inner ⊎ ContainerIs h inner → (0 < h .kind) × (h .kind ≤ 12)
+        go (inl is) = leaf-kind (h .kind) (h .size) (h .count) (is .fits)
+        go (inr is) = held (held-kind (h .kind) (is .kind))
+
+    -- The records in it.
+    pub fair-inner : Fair d (eqb (h .kind) 9) inner
+    unfolding Fair
+    fair-inner = f .2
+
+    -- The records after it.
+    pub fair-later : Fair d l later
+    unfolding Fair
+    fair-later = f .3
+
+    -- The first record alone, with those in it.
+    pub fair-alone : Fair d l (node h inner none)
+    unfolding Fair
+    fair-alone = (f .0, f .1, f .2, tt)
+
+-- Records one after the other are fair together.
+pub fair-append : (d : ℕ) (l : Bool) (f g : Forest) → Fair d l f → Fair d l g → Fair d l (f ⊕ g)
+unfolding Fair _⊕_
+fair-append d l none g f r = r
+fair-append d l (node h inner later) g f r = (f .0, f .1, f .2, fair-append d l later g (f .3) r)
+
+-- And each for itself.
+pub fair-split : (d : ℕ) (l : Bool) (f g : Forest) → Fair d l (f ⊕ g) → Fair d l f × Fair d l g
+unfolding Fair _⊕_
+fair-split d l none g r = (tt, r)
+fair-split d l (node h inner later) g r = let s = fair-split d l later g (r .3) in ((r .0, r .1, r .2, s .0), s .1)
+
+-- ---- each record by its number
+
+-- Record i of n, with the records in it: its words stand there, and it is fair; `element` says whether it is an element of a list.
+pub record RecordAt (d : ℕ) (t : List ℕ) (n i : ℕ) : Type 0 where
+  pub head : Head
+  pub inner : Forest
+  pub element : Bool
+  pub sits : Sits t i (node head inner none)
+  pub fair : Fair d element (node head inner none)
+  pub within : i + 1 + size inner ≤ n
+
+-- Each number among those of fair records is a record's.
+pub record-in : (d : ℕ) (t : List ℕ) (to : ℕ) (l : Bool) (n : ℕ) (f : Forest) → Sits t n f → Fair d l f → n + size f ≤ to
+    → (i : ℕ) → n ≤ i → i < n + size f → RecordAt d t to i
+unfolding size
+record-in d t to l n none s f le i lo hi = absurd (omega arith)
+record-in d t to l n (node h inner later) s f le i lo hi =
+    go (record-in d t to (eqb (h .kind) 9) (n + 1) inner (sits-inner t n h inner later s) (fair-inner d l h inner later f))
+    (record-in d t to l (n + 1 + size inner) later (sits-later t n h inner later s) (fair-later d l h inner later f))
+    (ℕ-discrete n i) (decLt i (n + 1 + size inner))
+  where
+    go : (n + 1 + size inner ≤ to → (i : ℕ) → n + 1 ≤ i → i < n + 1 + size inner → RecordAt d t to i)
+        → (n + 1 + size inner + size later ≤ to → (i : ℕ) → n + 1 + size inner ≤ i → i < n + 1 + size inner + size later → RecordAt d t to i)
+        → Dec (n ≡ i) → Dec (i < n + 1 + size inner) → RecordAt d t to i
+    go below after (yes p) q = subst (λ (j : ℕ). RecordAt d t to j) p (record {
+      head = h;
+      inner = inner;
+      element = l;
+      sits = sits-alone t n h inner later s;
+      fair = fair-alone d l h inner later f;
+      within = omega arith;
+    })
+    go below after (no p) (yes q) = below (omega arith) i (omega arith) q
+    go below after (no p) (no q) = after (omega arith) i (omega arith) (omega arith)
+
+-- Each number below a table's record count is a record's.
+pub record-at : (d : ℕ) (w : List ℕ) (t : IsTable d w) (i : ℕ) → i < 1 + size (t .inner) → RecordAt d w (1 + size (t .inner)) i
+unfolding size
+record-at d w t i l =
+    record-in d w (1 + size (t .inner)) false 0 (node (t .head) (t .inner) none) (table-sits d w t) (t .fair) (omega arith) i (omega arith) (omega arith)
+
+-- ---- an example
+
+-- The words of document 01's third marked document, 0A00016101000162FF00, form a table.
+pub marked-table : IsTable 10 (10 ∷ 3 ∷ 1 ∷ 0 ∷ 0 ∷ 1 ∷ 0 ∷ 2 ∷ 1 ∷ 7 ∷ 1 ∷ 8 ∷ 1 ∷ 0 ∷ 0 ∷ 2 ∷ [])
+unfolding Fair flat size width leafFits widthOf
+marked-table =
+    let never : false ≡ true → ⊥ = λ e. (let y : _≡_ {A = ℕ} 0 1 = cc in omega arith) in
+    record {
+      head = record { kind = 10; name = 3; name-length = 1; start = 0; size = 0; count = 1; list-kind = 0 };
+      inner = node (record { kind = 1; name = 7; name-length = 1; start = 8; size = 1; count = 0; list-kind = 0 }) none none;
+      compound = refl;
+      fair = (
+        record { within = omega arith; nameless = λ e. absurd (never e) },
+        inr (record { kind = refl; start = refl; long = refl; count = refl; listed = refl }),
+        (
+          record { within = omega arith; nameless = λ e. absurd (never e) },
+          inl (record { fits = refl; body = omega arith; plain = refl; bare = refl }),
+          tt,
+          tt,
+        ),
+        tt,
+      );
+      these = refl;
+    }

@@ -1,0 +1,44 @@
+-- Parts of a text between two places: none, one byte more, a part of a part, the last byte.
+-- Assumes nothing.
+use mathlib.Core.Path.{_≡_, refl, sym, ap, _∙_, subst}
+use mathlib.Core.List.{List, [], _∷_}
+use Prim.Native.Nat.{ℕ, zero, suc, _+_, _-_, _≤_, _<_}
+use native.Mathlib.Numerals.{add-one}
+use native.Mathlib.Omega.{arith}
+use lib.ListN.{length, getD, take, drop, length-take, drop-of-length-le}
+use lib.Seq.{slice, slice-cons, length-slice, drop-drop, take-take, take-nil, getD-drop, getD-take, length-take-le}
+
+-- nothing lies between a place and one that is not behind it
+pub slice-none : (f t : ℕ) (l : List ℕ) → t ≤ f → slice f t l ≡ []
+slice-none f t l h = let k : length (take t l) ≤ f = omega (arith, length-take t l) in drop-of-length-le (take t l) k
+
+-- the first byte and the rest
+pub slice-first : (f t : ℕ) (l : List ℕ) → f < t → t ≤ length l → slice f t l ≡ getD l f 0 ∷ slice (f + 1) t l
+slice-first f t l h k = slice-cons f t l 0 h k ∙ ap (λ (n : ℕ). getD l f 0 ∷ slice n t l) (sym (add-one f))
+
+-- taking from behind a place
+take-drop : (f n : ℕ) (l : List ℕ) → take n (drop f l) ≡ drop f (take (f + n) l)
+take-drop zero n l = ap (λ (k : ℕ). take k l) (none n)
+  where
+    none : (n : ℕ) → n ≡ 0 + n
+    none n = omega arith
+take-drop (suc f) n [] = take-nil n ∙ sym (ap (drop (suc f)) (take-nil (suc f + n)))
+take-drop (suc f) n (b ∷ l) = take-drop f n l ∙ ap (λ (k : ℕ). drop (suc f) (take k (b ∷ l))) (moved f n)
+  where
+    moved : (f n : ℕ) → suc (f + n) ≡ suc f + n
+    moved f n = omega arith
+
+-- a front of a part
+pub slice-take : (f t n : ℕ) (l : List ℕ) → f + n ≤ t → take n (slice f t l) ≡ slice f (f + n) l
+slice-take f t n l h = take-drop f n (take t l) ∙ ap (drop f) (take-take (f + n) t l h)
+
+-- what a front leaves of a part
+pub slice-drop : (f t n : ℕ) (l : List ℕ) → drop n (slice f t l) ≡ slice (f + n) t l
+slice-drop f t n l = drop-drop n f (take t l)
+
+-- a part as so many bytes from a place on
+pub slice-from : (f t : ℕ) (l : List ℕ) → f ≤ t → slice f t l ≡ take (t - f) (drop f l)
+slice-from f t l h = ap (λ (k : ℕ). slice f k l) (whole f t h) ∙ sym (take-drop f (t - f) l)
+  where
+    whole : (f t : ℕ) → f ≤ t → t ≡ f + (t - f)
+    whole f t h = omega arith

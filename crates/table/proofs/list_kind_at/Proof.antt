@@ -1,0 +1,41 @@
+-- `table::list_kind_at` meets its contract: one case of the definition for each answer.
+-- Assumes nothing.
+use borrow.Author.Needs.{needs}
+use mathlib.Core.Path.{sym, _∙_}
+use native.Mathlib.Omega.{arith}
+use Rattle.form.proofs.Rows.{kind-other, kind-empty, kind-past, kind-first}
+use Rattle.table.proofs.list_kind_at.Statement.{statement}
+use Rattle.table.proofs.list_kind_at.Tie as tie
+
+returns : tie.Need-returns
+returns c = kind-other _ _ (λ e. c .if1 .taken (c .before .word .ensures ∙ e))
+
+returns-2 : tie.Need-returns-2
+returns-2 c =
+    kind-empty _ _ (sym (c .before .before .before .word .ensures) ∙ c .before .before .if1 .left)
+    (sym (c .before .word2 .ensures) ∙ c .if2 .taken)
+
+returns-3 : tie.Need-returns-3
+returns-3 c =
+    kind-past _ _ (sym (c .before .before .before .before .word .ensures) ∙ c .before .before .before .if1 .left)
+    (λ e. c .before .if2 .left (c .before .before .word2 .ensures ∙ e)) (omega arith)
+
+returns-4 : tie.Need-returns-4
+returns-4 c =
+    c .word3 .ensures
+    ∙ kind-first _ _ (sym (c .before .before .before .before .before .word .ensures) ∙ c .before .before .before .before .if1 .left)
+    (λ e. c .before .before .if2 .left (c .before .before .before .word2 .ensures ∙ e))
+
+pub list-kind-at-spec : {M : Type 1} → statement M
+list-kind-at-spec =
+    tie.close
+    (tie.spec
+    (λ c κs. search needs)
+    returns
+    (λ c κs. search needs)
+    returns-2
+    (λ c. search needs)
+    returns-3
+    (λ c. search needs)
+    (λ c κs. search needs)
+    returns-4)

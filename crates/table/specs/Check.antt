@@ -1,0 +1,27 @@
+-- What the contracts of rule 7's check cite: its answer by cases, and what its tests say.
+-- Assumes nothing.
+use Prim.Native.Nat.{ℕ}
+use mathlib.Core.Path.{_≡_}
+use mathlib.Core.List.{List}
+use mathlib.Core.Bool.{Bool, true, false}
+use Rattle.form.specs.Tables.{IsTable, Within}
+use Rattle.form.proofs.Rows.{Chain}
+use Rattle.table.specs.declared.Verdict.{Verdict}
+use Rattle.table.specs.declared.Hops.{Hops}
+
+-- The answer on the words of a table and a document of d bytes: over a limit (refusal 9), which comes first; else whether the words form a
+-- table, which is refusal 10 where they do not.
+abbrev pub VerdictIs : ℕ → List ℕ → Verdict → Type 0
+VerdictIs d t Verdict.Table = Within d t × IsTable d t
+VerdictIs d t Verdict.NoTable = Within d t × (IsTable d t → ⊥)
+VerdictIs d t Verdict.OverLimit = Within d t → ⊥
+
+-- A test says whether P holds.
+pub record Says (r : Bool) (P : Type 0) : Type 0 where
+  pub yes : r ≡ true → P
+  pub no : r ≡ false → P → ⊥
+
+-- The children from record j up to e are so many, or do not tile that range.
+abbrev pub HopsAre : List ℕ → Bool → ℕ → ℕ → Hops → Type 0
+HopsAre t l e j (Hops.All c) = Chain t l e j c
+HopsAre t l e j Hops.Broken = (c : ℕ) → Chain t l e j c → ⊥
