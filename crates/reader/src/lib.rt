@@ -176,14 +176,11 @@ fn array_at(doc: &[u8], w: usize, at: usize) -> Part
 const BELOW_ZERO: usize = 2147483648;
 
 // How many bytes kinds 1 to 6 take, and an element of kinds 7, 11 and 12 (rule 4).
-const WIDTHS: [u8; 13] = [0, 1, 2, 4, 8, 4, 8, 1, 0, 0, 0, 4, 8];
-
 fn width_of(kind: u8) -> usize
     requires { ⌜ kind ≤ 12 ⌝ }
     ensures { λ r. ⌜ (r ≡ widthOf kind) × (r ≤ 8) ⌝ }
 {
-    let k = wide(kind);
-    wide(WIDTHS[k])
+    table::width_of(wide(kind))
 }
 
 // A payload that holds no records.
@@ -288,7 +285,7 @@ fn entry_at(doc: &[u8], at: usize) -> Item
 fn is_container(kind: u8) -> bool
     ensures { λ r. ⌜ r ≡ holds kind ⌝ }
 {
-    kind == 9 || kind == 10
+    table::is_container(wide(kind))
 }
 
 // A payload that holds no records, read and written as record ix.

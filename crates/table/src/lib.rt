@@ -165,8 +165,8 @@ fn is_array(kind: usize) -> bool
 // How many bytes kinds 1 to 6 take, and an element of an array, by kind.
 const WIDTHS: [usize; 13] = [0, 1, 2, 4, 8, 4, 8, 1, 0, 0, 0, 4, 8];
 
-// The bytes of kinds 1 to 6, and of an element of an array.
-fn width_of(kind: usize) -> usize
+// The bytes of kinds 1 to 6, and of an element of an array (rule 4).
+pub fn width_of(kind: usize) -> usize
     requires { ⌜ kind ≤ 12 ⌝ }
     ensures { λ r. ⌜ r ≡ widthOf kind ⌝ }
 {

@@ -1,4 +1,4 @@
--- `reader::width_of` meets its contract: the constant is the definition's list.
+-- `reader::width_of` meets its contract: the width is the table's, and at most 8.
 -- Assumes nothing.
 use borrow.Author.Needs.{needs}
 use mathlib.Core.Path.{ap, _∙_}
@@ -8,8 +8,7 @@ use Rattle.reader.proofs.width_of.Statement.{statement}
 use Rattle.reader.proofs.width_of.Tie as tie
 
 returns : tie.Need-returns
-unfolding widthOf
-returns c = (c .wide2 .ensures ∙ ap widthOf (c .before .wide .ensures), rw (c .wide2 .ensures) (width-le (c .before .wide .result)))
+returns c = (c .width-of .ensures ∙ ap widthOf (c .before .wide .ensures), rw (c .width-of .ensures) (width-le (c .before .wide .result)))
 
 pub width-of-spec : {M : Type 1} → statement M
-width-of-spec = tie.close (tie.spec (λ c κs. search needs) (λ c. search needs) (λ c κs. search needs) returns)
+width-of-spec = tie.close (tie.spec (λ c κs. search needs) (λ c κs. search needs) returns)
