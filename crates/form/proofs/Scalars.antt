@@ -1,14 +1,14 @@
 -- Laws of scalar values in modified UTF-8 (rule 2): `scalarOf` reads what `scalarBytes` writes, and nothing else.
 -- Assumes nothing.
-use Prim.Native.Nat.{ℕ, zero, suc, _+_, _-_, _*_, _/_, _%_, _≤_, _<_}
-use mathlib.Core.Path.{_≡_, refl, sym, ap, _∙_}
+use Prim.Native.Nat.{ℕ, _+_, _-_, _*_, _/_, _%_, _≤_, _<_}
+use mathlib.Core.Path.{_≡_, refl, _∙_}
 use mathlib.Core.Logic.{_⊎_, inl, inr, ⊎-elim}
-use mathlib.Core.List.{List, [], _∷_, _++_, append-assoc}
+use mathlib.Core.List.{List, _++_, append-assoc}
 use native.Mathlib.Omega.{arith}
-use borrow.Author.Tests.{lt-ltb, le-ltb, le-leb, lt-leb, ne-eqb}
+use borrow.Author.Tests.{lt-ltb, le-ltb, le-leb, lt-leb}
 use lib.ListN.{length, drop, length-append}
 use lib.Seq.{drop-drop, drop-append-seam}
-use Rattle.form.specs.Strings.{unitBytes, highHalf, lowHalf, scalarBytes, IsScalar}
+use Rattle.form.specs.Strings.{unitBytes, scalarBytes, IsScalar}
 use Rattle.form.specs.Decoding.{Sequence, is, stuck, unitOf, pairOf, withLow, paired, scalarOf}
 use Rattle.form.proofs.Picks.{pick-lt, pick-le, lt-or}
 use Rattle.form.proofs.Coding.{SoundBy, Coding}

@@ -1,14 +1,13 @@
 -- The string rules (rule 2; refusals 4 and 15): what Decoding.antt computes is what Strings.antt says, both ways.
 -- Assumes nothing.
 use Prim.Native.Nat.{ℕ}
-use mathlib.Core.Path.{_≡_, refl, sym, ap, _∙_}
+use mathlib.Core.Path.{_≡_, refl, sym, _∙_}
 use mathlib.Core.Logic.{_↔_}
-use mathlib.Core.Bool.{Bool, true, false}
+use mathlib.Core.Bool.{true, false}
 use mathlib.Core.List.{List}
 use native.Mathlib.Omega.{arith}
-use Rattle.form.specs.Strings.{scalarBytes, utf8Bytes, WellFormed, WellFormedUtf8}
+use Rattle.form.specs.Strings.{scalarBytes, utf8Bytes, WellFormed}
 use Rattle.form.specs.Decoding.{Verdict, good, bad, scalarOf, utf8Of, verdict, utf8Verdict, isGood, wellFormed, Judged}
-use Rattle.form.proofs.Coding.{Coding}
 use Rattle.form.proofs.Scalars.{mutf8}
 use Rattle.form.proofs.Utf8.{utf8}
 use Rattle.form.proofs.Walks as W

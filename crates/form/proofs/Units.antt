@@ -1,11 +1,11 @@
 -- Laws of 16-bit units (rule 2): `unitOf` reads what `unitBytes` writes, and nothing else.
 -- Assumes nothing.
-use Prim.Native.Nat.{ℕ, zero, suc, _+_, _-_, _*_, _/_, _%_, _≤_, _<_}
-use mathlib.Core.Path.{_≡_, refl, sym, ap, _∙_}
+use Prim.Native.Nat.{ℕ, _+_, _/_, _%_, _≤_, _<_}
+use mathlib.Core.Path.{_≡_, refl, ap}
 use mathlib.Core.Logic.{_⊎_, inl, inr, ⊎-elim}
 use mathlib.Core.List.{List, [], _∷_, _++_}
 use native.Mathlib.Omega.{arith}
-use borrow.Author.Tests.{lt-ltb, le-ltb, le-leb, lt-leb, eq-eqb, ne-eqb}
+use borrow.Author.Tests.{lt-ltb, le-ltb, lt-leb, eq-eqb, ne-eqb}
 use lib.ListN.{length, drop, length-append}
 use Rattle.form.specs.Strings.{twoBytes, threeBytes, unitBytes}
 use Rattle.form.specs.Decoding.{Sequence, is, stuck, six, twoOf, threeOf, afterTwo, afterOne, unitOf}

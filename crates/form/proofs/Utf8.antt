@@ -1,11 +1,11 @@
 -- Laws of scalar values in UTF-8: `utf8Of` reads what `utf8Bytes` writes, and nothing else.
 -- Assumes nothing.
-use Prim.Native.Nat.{ℕ, zero, suc, _+_, _-_, _*_, _/_, _%_, _≤_, _<_}
+use Prim.Native.Nat.{ℕ, _+_, _-_, _*_, _/_, _%_, _≤_, _<_}
 use mathlib.Core.Path.{_≡_, refl, sym, ap, _∙_}
 use mathlib.Core.Logic.{_⊎_, inl, inr, ⊎-elim}
 use mathlib.Core.List.{List, [], _∷_, _++_}
 use native.Mathlib.Omega.{arith}
-use borrow.Author.Tests.{lt-ltb, le-ltb, le-leb, lt-leb, eq-eqb, ne-eqb}
+use borrow.Author.Tests.{lt-ltb, le-ltb, le-leb, lt-leb, ne-eqb}
 use lib.ListN.{length, drop, getD, length-drop}
 use Rattle.form.specs.Strings.{unitBytes, fourBytes, utf8Bytes, IsScalar}
 use Rattle.form.specs.Decoding.{Sequence, is, stuck, six, unitOf, fourOf, threeMore, unpaired, utf8Of}

@@ -1,14 +1,14 @@
 -- Laws of blocks: plain bytes, and bytes that fit behind each other, are values that both codings read alike.
 -- Assumes nothing.
-use Prim.Native.Nat.{ℕ, zero, suc, _+_, _-_, _*_, _%_, _≤_, _<_}
-use mathlib.Core.Path.{_≡_, refl, sym, ap, _∙_}
-use mathlib.Core.Logic.{_⊎_, inl, inr, ⊎-elim}
+use Prim.Native.Nat.{ℕ, zero, suc, _+_, _-_, _%_, _≤_, _<_}
+use mathlib.Core.Path.{_≡_}
+use mathlib.Core.Logic.{⊎-elim}
 use mathlib.Core.Bool.{true, false}
-use mathlib.Core.List.{List, [], _∷_}
+use mathlib.Core.List.{List, _∷_}
 use native.Mathlib.Omega.{arith}
-use borrow.Author.Tests.{lt-ltb, le-ltb, le-leb, lt-leb, eq-eqb, ne-eqb}
+use borrow.Author.Tests.{lt-ltb, le-ltb, lt-leb, ne-eqb}
 use lib.ListN.{length, drop, getD}
-use Rattle.form.specs.Decoding.{Sequence, is, stuck, six, twoOf, threeOf, unitOf, unpaired}
+use Rattle.form.specs.Decoding.{Sequence, is, six, twoOf, threeOf, unitOf}
 use Rattle.form.proofs.Picks.{lt-or}
 use Rattle.form.proofs.Drops.{drop1, drop2, drop3}
 use Rattle.mutf8.specs.Runs.{Walked, none, more, commonOf, Passed, Plain, Fits, Fitting, Edge}
@@ -32,6 +32,13 @@ plain-join s i j m n o h g = record { each = λ k a b. ⊎-elim (λ lt. h .each 
 one-common : (a : ℕ) (l : List ℕ) → 0 < a → a < 128 → commonOf (a ∷ l) ≡ is a 1
 unfolding commonOf unitOf
 one-common a l p q = simp (ne-eqb a 0 (omega arith), lt-ltb a 128 q, lt-ltb a 55296 (omega arith))
+
+-- one plain byte more, for a reader that reads what both codings read alike
+pub walked-plain : {one : List ℕ → Sequence} → ((l : List ℕ) (c n : ℕ) → commonOf l ≡ is c n → one l ≡ is c n) → (s : List ℕ) (i j : ℕ)
+    → j < length s → (0 < getD s j 0) × (getD s j 0 < 128) → Walked one s i j → Walked one s i (j + 1)
+walked-plain also s i j h b w =
+    let e : commonOf (drop j s) ≡ is (getD s j 0) 1 = rw (drop1 s j h) (one-common (getD s j 0) (drop (j + 1) s) (b .0) (b .1)) in
+    walked-join w (more {i = j} {c = getD s j 0} {n = 1} (also _ _ _ e) none)
 
 plain-run : (s : List ℕ) (n i : ℕ) → i + n ≤ length s → Plain s i (i + n) → Walked commonOf s i (i + n)
 plain-run s zero i h p = let e : i + 0 ≡ i = omega arith in rw e none

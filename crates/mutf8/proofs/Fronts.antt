@@ -4,7 +4,7 @@ use Prim.Native.Nat.{ℕ}
 use mathlib.Core.Path.{_≡_, sym, ap, _∙_}
 use mathlib.Core.List.{List}
 use Rattle.form.specs.Strings.{scalarBytes}
-use Rattle.form.specs.Decoding.{Sequence, Verdict, scalarOf, isGood, wellFormed, Judged}
+use Rattle.form.specs.Decoding.{Sequence, scalarOf, isGood, wellFormed, Judged}
 use Rattle.mutf8.specs.declared.Front.{Front}
 use Rattle.mutf8.specs.declared.Checked.{Checked}
 use Rattle.mutf8.specs.Answers.{sequenceOf, verdictOf}

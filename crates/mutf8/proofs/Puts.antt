@@ -1,16 +1,16 @@
 -- Laws of bytes written at a place: what stores leave, and how many bytes a scalar value takes.
 -- Assumes nothing.
-use Prim.Native.Nat.{ℕ, _+_, _-_, _/_, _%_, _≤_, _<_}
-use mathlib.Core.Path.{_≡_, refl, sym, ap, _∙_}
+use Prim.Native.Nat.{ℕ, _+_, _≤_}
+use mathlib.Core.Path.{_≡_, refl, _∙_}
 use mathlib.Core.List.{List, [], _∷_, _++_}
 use native.Mathlib.Numerals.{add-one, add-two}
 use native.Mathlib.Omega.{arith}
 use lib.ListN.{length, set, length-append}
 use Rattle.form.specs.Spans.{over}
-use Rattle.form.specs.Strings.{twoBytes, threeBytes, unitBytes, highHalf, lowHalf, scalarBytes}
+use Rattle.form.specs.Strings.{unitBytes, highHalf, lowHalf, scalarBytes}
 use Rattle.form.proofs.Table.{sets-over, over-over}
-use Rattle.form.proofs.Units.{ub-one, ub-nul, ub-two, ub-three}
-use Rattle.form.proofs.Scalars.{sb-low, sb-high}
+use Rattle.form.proofs.Units.{ub-three}
+use Rattle.form.proofs.Scalars.{sb-high}
 
 -- ---- stores
 

@@ -1,11 +1,10 @@
 -- Laws of values read one after the other: what both codings read alike each reads, and a walk from 0 on decides the verdict.
 -- Assumes nothing.
-use Prim.Native.Nat.{ℕ, zero, suc, _+_, _-_, _≤_, _<_}
+use Prim.Native.Nat.{ℕ, _+_, _-_, _≤_, _<_}
 use mathlib.Core.Path.{_≡_, refl, sym, ap, _∙_}
 use mathlib.Core.List.{List, [], _∷_}
-use native.Mathlib.Nat.{add-assoc}
 use native.Mathlib.Omega.{arith}
-use borrow.Author.Tests.{lt-ltb, le-ltb, le-leb, lt-leb, eq-eqb, ne-eqb}
+use borrow.Author.Tests.{lt-ltb, le-ltb, le-leb, eq-eqb, ne-eqb}
 use lib.ListN.{length, drop, length-drop}
 use Rattle.form.specs.Decoding.{Sequence, is, stuck, good, bad, unitOf, paired, unpaired, scalarOf, utf8Of, Judged}
 use Rattle.form.proofs.Picks.{pick-eq, pick-lt, pick-le}
@@ -13,7 +12,7 @@ use Rattle.form.proofs.Coding.{Coding}
 use Rattle.form.proofs.Scalars.{scalar-of}
 use Rattle.form.proofs.Walks as W
 use Rattle.mutf8.specs.declared.Front.{Front}
-use Rattle.mutf8.specs.declared.Front.the-variants.{Is, Stuck}
+use Rattle.mutf8.specs.declared.Front.the-variants.{Is}
 use Rattle.mutf8.specs.Answers.{sequenceOf}
 use Rattle.mutf8.proofs.Fronts.{told}
 use Rattle.mutf8.specs.Runs.{Walked, none, more, commonOf, Passed, Stepped}

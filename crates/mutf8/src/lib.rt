@@ -222,17 +222,22 @@ pub fn utf8_at(s: &[u8], at: usize) -> Front
     }
 }
 
-// Whether it holds still where b has to be 1 to 127.
-fn still_plain(all: bool, b: u8) -> bool
-    ensures { λ r. ⌜ (r ≡ true → (all ≡ true) × (0 < b) × (b < 128)) ⌝ }
+// The greater of the two.
+fn raise(top: u8, x: u8) -> u8
+    ensures { λ r. ⌜ (top ≤ r) × (x ≤ r) ⌝ }
 {
-    if b == 0 {
-        return false;
+    if top < x { x } else { top }
+}
+
+// 0 only where b is 1 to 127: one less is then at most 126, and a zero byte wraps to 255.
+fn unplain(b: u8) -> u8
+    ensures { λ r. ⌜ (r ≡ 0 → (0 < b) × (b < 128)) ⌝ }
+{
+    if 126 < std::num::wrapping_sub_u8(b, 1) {
+        1
+    } else {
+        0
     }
-    if 127 < b {
-        return false;
-    }
-    all
 }
 
 // Whether n bytes from a place on are 1 to 127 each. No branch for each byte, so that the compiler takes sixteen at once.
@@ -240,13 +245,13 @@ fn all_plain(s: &[u8], at: usize, n: usize) -> bool
     requires { ⌜ at + n ≤ length (now s) ⌝ }
     ensures { λ r. ⌜ (r ≡ true → Plain (now (s .entry)) at (at + n)) ⌝ }
 {
-    let mut all = true;
+    let mut top: u8 = 0;
     let mut k: usize = 0;
     while k < n {
-        all = still_plain(all, s[at + k]);
+        top = raise(top, unplain(s[at + k]));
         k = k + 1;
     }
-    all
+    if top == 0 { true } else { false }
 }
 
 // The same of all bytes from a place on, by the first n and the last n, which overlap or meet.
@@ -341,13 +346,6 @@ fn barred(p: u8, b: u8) -> u8
     if p == lead { 1 } else { 0 }
 }
 
-// The greater of the two.
-fn raise(top: u8, x: u8) -> u8
-    ensures { λ r. ⌜ (top ≤ r) × (x ≤ r) ⌝ }
-{
-    if top < x { x } else { top }
-}
-
 // 0 only where b fits behind p and, before it, q.
 fn odd(q: u8, p: u8, b: u8) -> u8
     ensures { λ r. ⌜ (r ≡ 0 → Fits q p b) ⌝ }
@@ -436,7 +434,23 @@ fn mixed(s: &[u8], at: usize) -> usize
     at
 }
 
-// Goes on by blocks: plain ones while there are, then some that are not; the last bytes by two that overlap.
+// Goes on by plain blocks of sixteen.
+fn narrow(s: &[u8], at: usize) -> usize
+    requires { ⌜ at ≤ length (now s) ⌝ }
+    ensures { λ r. ⌜ Passed (now (s .entry)) at r ⌝ }
+{
+    let mut i = at;
+    while 16 <= s.len() - i {
+        if all_plain(s, i, 16) {
+            i = i + 16;
+            continue;
+        }
+        return i;
+    }
+    i
+}
+
+// Goes on by blocks as far as they reach: plain ones, then some that are not, and again; the last bytes by two that overlap.
 fn pass(s: &[u8], at: usize) -> usize
     requires { ⌜ at ≤ length (now s) ⌝ }
     ensures { λ r. ⌜ Passed (now (s .entry)) at r ⌝ }
@@ -447,20 +461,41 @@ fn pass(s: &[u8], at: usize) -> usize
             i = i + 64;
             continue;
         }
-        return mixed(s, i);
+        let j = mixed(s, i);
+        if j <= i {
+            return narrow(s, i);
+        }
+        i = j;
     }
     if ends_plain(s, i) {
         return s.len();
     }
-    i
+    narrow(s, i)
 }
 
-// A place at most 64 bytes on.
-fn ahead(length: usize, at: usize) -> usize
-    requires { ⌜ at ≤ length ⌝ }
+// How far to go value by value: a little where blocks went from i to j, and further each time that they don't.
+fn reach_after(reach: usize, i: usize, j: usize) -> usize
+    ensures { λ r. ⌜ 0 < r ⌝ }
+{
+    if i < j {
+        return 16;
+    }
+    if 256 <= reach {
+        return reach;
+    }
+    reach + 32
+}
+
+// A place so far on, within a length.
+fn ahead(length: usize, at: usize, reach: usize) -> usize
+    requires { ⌜ (at ≤ length) × (0 < reach) ⌝ }
     ensures { λ r. ⌜ (at ≤ r) × (r ≤ length) × (at < length → at < r) ⌝ }
 {
-    if length - at < 64 { length } else { at + 64 }
+    if length - at < reach {
+        length
+    } else {
+        at + reach
+    }
 }
 
 // Goes on value by value of modified UTF-8, up to `stop` or one that can't be read.
@@ -470,6 +505,10 @@ fn steps(s: &[u8], at: usize, stop: usize) -> usize
 {
     let mut i = at;
     while i < stop {
+        if unplain(s[i]) == 0 {
+            i = i + 1;
+            continue;
+        }
         match scalar_at(s, i) {
             Front::Is(_, n) => {
                 i = i + n;
@@ -487,13 +526,11 @@ pub fn check(s: &[u8]) -> Checked
     ensures { λ r. ⌜ Judged scalarBytes scalarOf (now (s .entry)) (verdictOf r) ⌝ }
 {
     let mut i = 0;
+    let mut reach: usize = 0;
     while i < s.len() {
         let j = pass(s, i);
-        if 32 <= j - i {
-            i = j;
-            continue;
-        }
-        let stop = ahead(s.len(), j);
+        reach = reach_after(reach, i, j);
+        let stop = ahead(s.len(), j, reach);
         let r = steps(s, j, stop);
         if r < stop {
             return Checked::Bad(r);
@@ -520,6 +557,10 @@ fn utf8_steps(s: &[u8], at: usize, stop: usize) -> usize
 {
     let mut i = at;
     while i < stop {
+        if unplain(s[i]) == 0 {
+            i = i + 1;
+            continue;
+        }
         match utf8_at(s, i) {
             Front::Is(_, n) => {
                 i = i + n;
@@ -537,18 +578,16 @@ pub fn check_utf8(s: &[u8]) -> Checked
     ensures { λ r. ⌜ Judged utf8Bytes utf8Of (now (s .entry)) (verdictOf r) ⌝ }
 {
     let mut i = 0;
+    let mut reach: usize = 0;
     while i < s.len() {
         let j = pass(s, i);
-        if 32 <= j - i {
-            i = j;
-            continue;
+        reach = reach_after(reach, i, j);
+        let stop = ahead(s.len(), j, reach);
+        let k = utf8_steps(s, j, stop);
+        if k < stop {
+            return Checked::Bad(k);
         }
-        let stop = ahead(s.len(), j);
-        let r = utf8_steps(s, j, stop);
-        if r < stop {
-            return Checked::Bad(r);
-        }
-        i = r;
+        i = k;
     }
     Checked::Good
 }

@@ -1,7 +1,6 @@
 -- Right since the lead byte that is barred goes by b.
 use mathlib.Core.Path.{sym, _∙_}
 use mathlib.Core.Logic.{⊎-elim}
-use native.Mathlib.Omega.{arith}
 use borrow.Author.Needs.{needs}
 use Rattle.mutf8.proofs.barred.Statement.{statement}
 use Rattle.mutf8.proofs.barred.Tie as tie

@@ -1,7 +1,6 @@
 -- Right since each turn goes from an edge to an edge over bytes that fit.
 use Prim.Native.Nat.{_≤_}
 use native.Mathlib.Omega.{arith}
-use borrow.Author.Needs.{needs}
 use lib.ListN.{length}
 use Rattle.mutf8.specs.Runs.{Edge, Passed}
 use Rattle.mutf8.proofs.Alike.{passed-none, passed-join, fitting-passed}

@@ -1,6 +1,7 @@
+-- Right by its tests, one for each of the definition.
 use Rattle.form.specs.Decoding.{fourOf}
 use native.Mathlib.Omega.{arith}
-use borrow.Author.Tests.{lt-ltb, le-ltb, le-leb, lt-leb, eq-eqb, ne-eqb}
+use borrow.Author.Tests.{lt-ltb, le-ltb, le-leb, lt-leb}
 use borrow.Author.Needs.{needs}
 use Rattle.mutf8.proofs.four.Statement.{statement}
 use Rattle.mutf8.proofs.four.Tie as tie

@@ -1,3 +1,4 @@
+-- Right since a mask of six bits is a remainder, and the bit above it a sum.
 use lib.Bits.{mask-lt}
 use Rattle.mutf8.proofs.Groups.{grouped}
 use native.Mathlib.Omega.{arith}

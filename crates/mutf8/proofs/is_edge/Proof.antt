@@ -1,7 +1,4 @@
 -- Right by the two tests.
-use Prim.Native.Nat.{ℕ}
-use mathlib.Core.Path.{_≡_}
-use native.Mathlib.Omega.{arith}
 use borrow.Author.Needs.{needs}
 use Rattle.mutf8.proofs.Alike.{false-true}
 use Rattle.mutf8.proofs.is_edge.Statement.{statement}

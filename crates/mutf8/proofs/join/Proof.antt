@@ -1,3 +1,4 @@
+-- Right since a shift by six and a mask of six bits are a product and a remainder.
 use native.Mathlib.Omega.{arith}
 use lib.Bits.{mask-lt}
 use Rattle.mutf8.proofs.Groups.{joined}

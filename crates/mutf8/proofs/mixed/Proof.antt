@@ -1,5 +1,4 @@
 -- Right by `blocks`, which begins at an edge.
-use native.Mathlib.Omega.{arith}
 use borrow.Author.Needs.{needs}
 use Rattle.mutf8.proofs.Alike.{passed-none}
 use Rattle.mutf8.proofs.mixed.Statement.{statement}

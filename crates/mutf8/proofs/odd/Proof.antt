@@ -1,6 +1,4 @@
 -- Right since the greatest of the four answers is 0 only where each is.
-use Prim.Native.Nat.{ℕ, _≤_, _<_}
-use mathlib.Core.Path.{_≡_}
 use native.Mathlib.Omega.{arith}
 use borrow.Author.Needs.{needs}
 use Rattle.mutf8.proofs.Alike.{fits-of}

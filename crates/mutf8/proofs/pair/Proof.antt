@@ -1,5 +1,4 @@
-use Prim.Native.Nat.{_+_}
-use mathlib.Core.Path.{_≡_, ap, refl}
+-- Right since the ten bits of each half are a product and a remainder.
 use native.Mathlib.Omega.{arith}
 use lib.Bits.{mask-lt, and-mask, bitAnd}
 use Rattle.form.specs.Decoding.{pairOf}

@@ -26,7 +26,11 @@ pass-spec =
     (λ c. omega arith)  -- loop-less
     (λ c. (omega arith, passed-join _ _ _ _ (c .before .before .before .loop .inv .1) (plain-passed _ _ _ (omega arith) (omega arith) (c .before .all-plain .ensures (c .if1 .taken)))))  -- loop-again
     (λ c κs. c .before .before .before .loop .inv .0)  -- mixed-requires
-    (λ c. passed-join _ _ _ _ (c .before .before .before .before .loop .inv .1) (c .mixed .ensures))  -- returns
+    (λ c κs. c .before .before .before .before .before .loop .inv .0)  -- narrow-requires
+    (λ c. passed-join _ _ _ _ (c .before .before .before .before .before .before .loop .inv .1) (c .narrow .ensures))  -- returns
+    (λ c. omega (arith, c .before .mixed .ensures .within))  -- loop-less-2
+    (λ c. let m = c .before .mixed .ensures in (m .within, passed-join _ _ _ _ (c .before .before .before .before .before .loop .inv .1) m))  -- loop-again-2
     (λ c κs. (c .before .loop .inv .0, omega arith))  -- ends-plain-requires
-    (λ c. let v = c .before .before .before .loop .inv in passed-join _ _ _ _ (v .1) (plain-passed _ _ _ (v .0) (omega arith) (c .before .ends-plain .ensures (c .if2 .taken))))  -- returns-2
-    (λ c. c .before .before .before .loop .inv .1))  -- returns-3
+    (λ c. let v = c .before .before .before .loop .inv in passed-join _ _ _ _ (v .1) (plain-passed _ _ _ (v .0) (omega arith) (c .before .ends-plain .ensures (c .if3 .taken))))  -- returns-2
+    (λ c κs. c .before .before .before .loop .inv .0)  -- narrow-requires-2
+    (λ c. passed-join _ _ _ _ (c .before .before .before .before .loop .inv .1) (c .narrow2 .ensures)))  -- returns-3

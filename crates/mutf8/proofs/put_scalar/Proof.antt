@@ -1,11 +1,11 @@
 -- Right since the room for the whole value is tested first; above the basic plane the second half stands behind the first.
-use Prim.Native.Nat.{ℕ, _+_, _-_, _/_, _%_, _≤_, _<_}
-use mathlib.Core.Path.{_≡_, refl, sym, ap}
+use Prim.Native.Nat.{_+_, _-_}
+use mathlib.Core.Path.{ap}
 use native.Mathlib.Omega.{arith}
 use borrow.Author.Needs.{needs}
 use lib.Bits.{and-mask, mask-lt, bitAnd}
 use lib.ListN.{length}
-use Rattle.form.specs.Strings.{unitBytes, scalarBytes, highHalf, lowHalf}
+use Rattle.form.specs.Strings.{highHalf}
 use Rattle.form.proofs.Scalars.{sb-low}
 use Rattle.mutf8.proofs.Puts.{half-length, pair-length, pair-put}
 use Rattle.mutf8.proofs.put_scalar.Statement.{statement}

@@ -1,11 +1,12 @@
+-- Right by the unit that stands first and, where it is a high half, the one behind it.
 use mathlib.Core.Path.{refl}
 use lib.Seq.{drop-drop}
-use lib.ListN.{getD, length, drop, length-drop}
+use lib.ListN.{length-drop}
 use Rattle.form.proofs.Units.{unit-fits}
 use Rattle.form.proofs.Scalars.{scalar-of}
 use Rattle.mutf8.proofs.Fronts.{told}
 use native.Mathlib.Omega.{arith}
-use borrow.Author.Tests.{lt-ltb, le-ltb, le-leb, lt-leb, eq-eqb, ne-eqb}
+use borrow.Author.Tests.{lt-ltb, le-ltb, le-leb, lt-leb}
 use borrow.Author.Needs.{needs}
 use Rattle.mutf8.proofs.scalar_at.Statement.{statement}
 use Rattle.mutf8.proofs.scalar_at.Tie as tie

@@ -7,7 +7,8 @@ use Rattle.form.specs.Decoding.{scalarOf}
 use Rattle.form.proofs.Scalars.{mutf8}
 use Rattle.mutf8.specs.Runs.{Walked, none}
 use Rattle.mutf8.proofs.Fronts.{told}
-use Rattle.mutf8.proofs.Walks.{walked-more, reach}
+use Rattle.mutf8.proofs.Walks.{common-scalar, walked-more, reach}
+use Rattle.mutf8.proofs.Alike.{walked-plain}
 use Rattle.mutf8.proofs.steps.Statement.{statement}
 use Rattle.mutf8.proofs.steps.Tie as tie
 
@@ -20,22 +21,47 @@ abbrev μ-loop : tie.MeasureT-loop
 loop-holds : tie.Need-loop-holds Inv-loop μ-loop
 loop-holds c = (omega arith, c .before .pre .0, none)
 
+shared-slice-read-unplain : tie.Need-shared-slice-read-unplain Inv-loop μ-loop
+shared-slice-read-unplain c = omega arith
+
+unplain-requires : tie.Need-unplain-requires Inv-loop μ-loop
+unplain-requires c κs = search needs
+
+add-i : tie.Need-add-i Inv-loop μ-loop
+add-i c = omega arith
+
+loop-less : tie.Need-loop-less Inv-loop μ-loop
+loop-less c = omega arith
+
+loop-again : tie.Need-loop-again Inv-loop μ-loop
+loop-again c =
+    let v = c .before .before .before .before .loop .inv in
+    (omega arith, omega arith, walked-plain common-scalar _ _ _ (omega arith) (c .before .unplain .ensures (c .if1 .taken)) (v .2))
+
 scalar-at-requires : tie.Need-scalar-at-requires Inv-loop μ-loop
 scalar-at-requires c κs = search needs
 
 enum-known-n : tie.Need-enum-known-n Inv-loop μ-loop
 enum-known-n c = search needs
 
-add-i : tie.Need-add-i Inv-loop μ-loop
-add-i c = omega (arith, reach mutf8 (c .before .before .before .before .before .before .before .args .s .now) (c .before .before .before .before .before .loop .i) _ _ (c .before .before .before .scalar-at .result) (c .before .n .given .1) (c .before .before .before .scalar-at .ensures))
+-- how far the value at i reaches
+add-i-2 : tie.Need-add-i-2 Inv-loop μ-loop
+add-i-2 c =
+    let l = c .before .before .before .before .before .before .before .before .loop in
+    let s = c .before .before .before .before .before .before .before .before .before .before .args .s .now in
+    omega (arith, reach mutf8 s (l .i) _ _ (c .before .before .before .scalar-at .result) (c .before .n .given .1) (c .before .before .before .scalar-at .ensures))
 
-loop-less : tie.Need-loop-less Inv-loop μ-loop
-loop-less c = omega (arith, reach mutf8 (c .before .before .before .before .before .before .before .args .s .now) (c .before .before .before .before .before .loop .i) _ _ (c .before .before .before .scalar-at .result) (c .before .n .given .1) (c .before .before .before .scalar-at .ensures))
+loop-less-2 : tie.Need-loop-less-2 Inv-loop μ-loop
+loop-less-2 c =
+    let l = c .before .before .before .before .before .before .before .before .loop in
+    let s = c .before .before .before .before .before .before .before .before .before .before .args .s .now in
+    omega (arith, reach mutf8 s (l .i) _ _ (c .before .before .before .scalar-at .result) (c .before .n .given .1) (c .before .before .before .scalar-at .ensures))
 
-loop-again : tie.Need-loop-again Inv-loop μ-loop
-loop-again c =
-    let l = c .before .before .before .before .before .loop in
-    let r = reach mutf8 (c .before .before .before .before .before .before .before .args .s .now) (l .i) _ _ (c .before .before .before .scalar-at .result) (c .before .n .given .1) (c .before .before .before .scalar-at .ensures) in
+loop-again-2 : tie.Need-loop-again-2 Inv-loop μ-loop
+loop-again-2 c =
+    let l = c .before .before .before .before .before .before .before .before .loop in
+    let s = c .before .before .before .before .before .before .before .before .before .before .args .s .now in
+    let r = reach mutf8 s (l .i) _ _ (c .before .before .before .scalar-at .result) (c .before .n .given .1) (c .before .before .before .scalar-at .ensures) in
     (omega (arith, l .inv .0, r .0), r .1, walked-more _ _ _ _ (c .before .before .before .scalar-at .result) (c .before .n .given .1) (c .before .before .before .scalar-at .ensures) (l .inv .2))
 
 enum-told : tie.Need-enum-told Inv-loop μ-loop
@@ -43,7 +69,7 @@ enum-told c = search needs
 
 returns : tie.Need-returns Inv-loop μ-loop
 returns c =
-    let v = c .before .before .before .before .loop .inv in
+    let v = c .before .before .before .before .before .before .before .loop .inv in
     record { on = v .0; within = v .1; walked = v .2; halted = λ _. told _ (c .before .before .scalar-at .ensures) (c .enum-told .given .1) }
 
 returns-2 : tie.Need-returns-2 Inv-loop μ-loop
@@ -51,4 +77,21 @@ returns-2 c = let v = c .before .loop .inv in record { on = v .0; within = v .1;
 
 pub steps-spec : {M : Type 1} → statement M
 steps-spec =
-    tie.close (tie.spec Inv-loop μ-loop loop-holds scalar-at-requires enum-known-n add-i loop-less loop-again enum-told returns returns-2)
+    tie.close
+    (tie.spec
+    Inv-loop
+    μ-loop
+    loop-holds
+    shared-slice-read-unplain
+    unplain-requires
+    add-i
+    loop-less
+    loop-again
+    scalar-at-requires
+    enum-known-n
+    add-i-2
+    loop-less-2
+    loop-again-2
+    enum-told
+    returns
+    returns-2)

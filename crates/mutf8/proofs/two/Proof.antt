@@ -1,3 +1,4 @@
+-- Right by its tests, one for each of the definition.
 use borrow.Author.Tests.{lt-ltb, le-ltb, le-leb, lt-leb, eq-eqb, ne-eqb}
 use native.Mathlib.Omega.{arith}
 use Rattle.form.specs.Decoding.{twoOf}

@@ -1,6 +1,7 @@
+-- Right by its tests, one for each of the definition, on the bytes that stand at the place.
 use Prim.Native.Nat.{_+_}
 use mathlib.Core.Path.{refl}
-use lib.ListN.{getD, length, drop, drop-of-length-le}
+use lib.ListN.{getD, drop-of-length-le}
 use Rattle.form.proofs.Drops.{drop1, drop2, drop3}
 use Rattle.form.specs.Decoding.{unitOf}
 use native.Mathlib.Omega.{arith}

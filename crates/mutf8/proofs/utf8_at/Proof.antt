@@ -1,6 +1,6 @@
-use Prim.Native.Nat.{_+_}
+-- Right by the first byte, and by the unit where it is none of four bytes.
 use mathlib.Core.Path.{refl}
-use lib.ListN.{getD, length, drop, drop-of-length-le}
+use lib.ListN.{getD, drop-of-length-le}
 use Rattle.form.proofs.Utf8.{utf8-of, utf8-cut}
 use Rattle.mutf8.proofs.Fronts.{told}
 use Rattle.form.proofs.Drops.{drop1, drop4}
