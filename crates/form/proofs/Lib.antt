@@ -18,3 +18,5 @@ pub mod Runs
 pub mod Leaves
 pub mod Tables
 pub mod Rows
+pub mod EachKind
+pub mod Writing

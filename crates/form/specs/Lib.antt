@@ -9,3 +9,4 @@ pub mod Layout
 pub mod Table
 pub mod Tables
 pub mod Reading
+pub mod Writing

@@ -1,0 +1,130 @@
+-- Whole tables: the root's record is judged and written, and that is what rule 8 says of the table.
+-- Assumes nothing.
+use Prim.Native.Nat.{ℕ, _+_, _*_, _≤_, _<_}
+use mathlib.Core.Bool.{Bool, true, false}
+use mathlib.Core.List.{List}
+use mathlib.Core.Path.{_≡_, refl, sym, ap, subst, _∙_}
+use native.Mathlib.Omega.{arith}
+use borrow.Author.Tests.{le-leb, lt-leb}
+use lib.ListN.{length, getD}
+use Rattle.form.specs.Answer.{Out, got, no, guard, _>>_, overLimit, noTable, outputFull, depthLimit}
+use Rattle.form.specs.Spans.{over}
+use Rattle.form.specs.Table.{Head, Forest, none, node, size, word, valueOf}
+use Rattle.form.specs.Tables.{IsTable, Within}
+use Rattle.form.specs.Layout.{layout}
+use Rattle.form.specs.Reading.{hasName}
+use Rattle.form.specs.Writing.{judged, written, Gives}
+use Rattle.form.proofs.Tables.{table-sits, table-length, sits-first}
+use Rattle.table.specs.declared.Verdict.{Verdict}
+use Rattle.table.specs.Check.{VerdictIs}
+use Rattle.writer.specs.declared.Answer.{Answer}
+use Rattle.writer.specs.declared.Size.{Size}
+use Rattle.writer.specs.Pieces.{oneJudged, laid}
+use Rattle.writer.specs.Steps.{answerOut, Rows, One, OneRoom, Sized, Puts, Formed, WrittenIs, WroteIs}
+use Rattle.writer.proofs.Pieces.{judged-none, judged-node}
+use Rattle.writer.proofs.Laid.{document-laid}
+
+module _ (doc t : List ℕ) (small : Within (length doc) t) (i : IsTable (length doc) t) where
+  root-end : word t 0 7 ≡ 1 + size (i .inner)
+  root-end = sits-first t 0 (i .head) (i .inner) none (table-sits (length doc) t i) .end ∙ omega arith
+
+  -- The root stands in the table, with the records in it.
+  pub root-rows : {e : ℕ} → e ≡ word t 0 7 → Rows doc t false 0 e (node (i .head) (i .inner) none)
+  unfolding size
+  root-rows q = record {
+    sits = table-sits (length doc) t i;
+    fair = i .fair;
+    to = omega (arith, q, root-end);
+    fits = omega (arith, q, root-end, table-length (length doc) t i);
+  }
+
+  -- There is a first record.
+  pub root-room : 8 ≤ length t
+  root-room = omega (arith, table-length (length doc) t i)
+
+  -- The root's record, with those in it.
+  abbrev pub root : {e : ℕ} → e ≡ word t 0 7 → One doc t false 0 e
+  root q = record { small = small; head = i .head; inner = i .inner; rows = root-rows q }
+
+  -- The judgement of a table is that of its root.
+  root-judged : judged doc depthLimit false 0 none 0 (node (i .head) (i .inner) none) ≡ (oneJudged doc depthLimit false 0 false 0 (i .head) (i .inner) >> got tt)
+  unfolding hasName
+  root-judged =
+      judged-node doc depthLimit false 0 none 0 (i .head) (i .inner) none false refl
+      ∙ ap (λ o. oneJudged doc depthLimit false 0 false 0 (i .head) (i .inner) >> o) (judged-none doc depthLimit false 0 _ _)
+
+  module _ (o : List ℕ) {e : ℕ} (q : e ≡ word t 0 7) (r : Size)
+      (told : (p : One doc t false 0 e) → Sized (oneJudged doc depthLimit false 0 false 0 (p .head) (p .inner)) (laid doc false (node (p .head) (p .inner) none)) r) where
+    -- A record is refused.
+    pub table-no : {m p : ℕ} → r ≡ Size.No m p → Gives (written doc (i .head) (i .inner) (length o)) o (no m p) o
+    unfolding written
+    table-no {m} {p} g =
+        let z : oneJudged doc depthLimit false 0 false 0 (i .head) (i .inner) ≡ no m p = rw g at (told (root q)) in
+        let w : written doc (i .head) (i .inner) (length o) ≡ no m p = rw (root-judged, z) refl in
+        rw w (record { answer-is = refl; output-is = refl })
+
+    module _ {s : ℕ} (g : r ≡ Size.Is s) where
+      passes : (oneJudged doc depthLimit false 0 false 0 (i .head) (i .inner) ≡ got tt) × (s ≡ length (laid doc false (node (i .head) (i .inner) none)))
+      passes = rw g at (told (root q))
+
+      -- There is room for the root's bytes.
+      pub table-room : s ≤ length o → OneRoom doc t false 0 e o 0
+      table-room l = record { one = root q; room = omega (arith, passes .1, l) }
+
+      module _ (bytes : (k : ℕ) → getD doc k 0 < 256) where
+        laid-is : laid doc false (node (i .head) (i .inner) none) ≡ layout (valueOf doc (i .head) (i .inner))
+        laid-is = document-laid doc bytes (i .head) (i .inner) (i .compound) (i .fair)
+
+        long : length (layout (valueOf doc (i .head) (i .inner))) ≡ s
+        long = ap length (sym laid-is) ∙ sym (passes .1)
+
+        -- There is no room (13).
+        pub table-full : length o < s → Gives (written doc (i .head) (i .inner) (length o)) o (no outputFull 0) o
+        unfolding written
+        table-full l =
+            let w : written doc (i .head) (i .inner) (length o) ≡ no outputFull 0 =
+            rw (root-judged, passes .0, lt-leb (length (layout (valueOf doc (i .head) (i .inner)))) (length o) (omega (arith, long))) refl in
+            rw w (record { answer-is = refl; output-is = refl })
+
+        -- It is written.
+        pub table-done : (l : s ≤ length o) {o′ : List ℕ} {x : ℕ} → ((p : OneRoom doc t false 0 e o 0) → Puts (laid doc false (node (p .one .head) (p .one .inner) none)) o 0 o′ x)
+            → Gives (written doc (i .head) (i .inner) (length o)) o (got s) o′
+        unfolding written table-room
+        table-done l put =
+            let w : written doc (i .head) (i .inner) (length o) ≡ got (layout (valueOf doc (i .head) (i .inner))) =
+            rw (root-judged, passes .0, le-leb (length (layout (valueOf doc (i .head) (i .inner)))) (length o) (omega (arith, long))) refl in
+            rw w (record { answer-is = ap got (sym long); output-is = put (table-room l) .is ∙ ap (over o 0) laid-is })
+
+-- ---- the answers of a write
+
+module _ (doc t o : List ℕ) {r : Verdict} (v : VerdictIs (length doc) t r) where
+  -- A limit is passed (9).
+  pub write-large : r ≡ Verdict.OverLimit → WroteIs doc t t o (no overLimit 0) o
+  write-large e =
+      let h : Within (length doc) t → ⊥ = rw e at v in
+      record {
+        is = record { large = λ n. record { answer-is = refl; output-is = refl }; unfit = λ w n. absurd (h w); fit = λ w i. absurd (h w) };
+        kept = refl;
+      }
+
+  -- The words form no table (10).
+  pub write-unfit : r ≡ Verdict.NoTable → WroteIs doc t t o (no noTable 0) o
+  write-unfit e =
+      let h : Within (length doc) t × (IsTable (length doc) t → ⊥) = rw e at v in
+      record {
+        is = record { large = λ n. absurd (n (h .0)); unfit = λ w n. record { answer-is = refl; output-is = refl }; fit = λ w i. absurd (h .1 i) };
+        kept = refl;
+      }
+
+  -- They form a table.
+  pub write-formed : r ≡ Verdict.Table → Formed doc t
+  write-formed e = let h : Within (length doc) t × IsTable (length doc) t = rw e at v in record { small = h .0; table = h .1 }
+
+  -- And give what it gives.
+  pub write-fit : r ≡ Verdict.Table → (a : Answer) {t′ o′ : List ℕ} → WrittenIs doc t o a o′ → t′ ≡ t → WroteIs doc t t′ o (answerOut a) o′
+  write-fit e a g k =
+      let h : Formed doc t = write-formed e in
+      record {
+        is = record { large = λ n. absurd (n (h .small)); unfit = λ w n. absurd (n (h .table)); fit = λ w i. g i };
+        kept = k;
+      }

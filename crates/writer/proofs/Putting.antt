@@ -1,0 +1,225 @@
+-- Records written one after the other: how far a walk has come, and what one record gives.
+-- Assumes nothing.
+use Prim.Native.Nat.{ℕ, _+_, _*_, _≤_, _<_}
+use mathlib.Core.Bool.{Bool, true, false}
+use mathlib.Core.List.{List, [], _∷_, _++_, append-assoc}
+use mathlib.Core.Path.{_≡_, refl, sym, ap, subst, _∙_}
+use native.Mathlib.Omega.{arith}
+use borrow.Author.Tests.{eq-eqb, ne-eqb}
+use lib.ListN.{length, length-append}
+use lib.Dec.{eqb}
+use Rattle.form.specs.Numbers.{bytesOf}
+use Rattle.form.specs.Spans.{over}
+use Rattle.form.specs.Table.{Head, Forest, none, node, size, _⊕_, word}
+use Rattle.form.specs.Tables.{Within}
+use Rattle.form.proofs.Digits.{digits-length as bytes-length}
+use Rattle.form.proofs.Table.{append-none}
+use Rattle.writer.specs.Pieces.{headOf, nameBytes, listBytes, leafBytes, bodyBytes, laid}
+use Rattle.writer.specs.Steps.{Rows, SomeRoom, OneRoom, Puts}
+use Rattle.writer.proofs.Puts.{puts-none, puts-number, puts-length, puts-then}
+use Rattle.writer.proofs.Bytes.{laid-none, laid-one, laid-node, laid-append, list-length, body-list, body-compound, body-leaf}
+use Rattle.writer.proofs.Rows.{Here, rows-here, rows-none, rows-head, rows-inner}
+use Rattle.writer.proofs.Judging.{append-one}
+
+-- ---- how far a walk over records side by side has come
+
+pub record Way (doc t : List ℕ) (list : Bool) (end : ℕ) (f : Forest) (o : List ℕ) (at : ℕ) (o₁ : List ℕ) (i here : ℕ) : Type 0 where
+  pub done : Forest
+  pub rest : Forest
+  pub split : f ≡ done ⊕ rest
+  pub rows : Rows doc t list i end rest
+  pub puts : Puts (laid doc list done) o at o₁ here
+  pub room : at + length (laid doc list done) + length (laid doc list rest) ≤ length o
+
+module _ (doc t : List ℕ) (list : Bool) (end : ℕ) (o : List ℕ) (at : ℕ) where
+  -- At the start nothing is done.
+  pub way-start : {n : ℕ} (p : SomeRoom doc t list n end o at) → Way doc t list end (p .some .forest) o at o n at
+  unfolding _⊕_
+  way-start p =
+      let r = p .room in
+      record {
+        done = none;
+        rest = p .some .forest;
+        split = refl;
+        rows = p .some .rows;
+        puts = rw (laid-none doc list) (puts-none o at);
+        room = omega (arith, ap length (laid-none doc list));
+      }
+
+  module _ {f : Forest} {o₁ : List ℕ} {i here : ℕ} (w : Way doc t list end f o at o₁ i here) where
+    -- The output is as long as it was.
+    pub way-length : length o₁ ≡ length o
+    way-length = let r = w .room in puts-length (w .puts) (omega arith)
+
+    -- At the end all are done.
+    pub way-end : end ≤ i → Puts (laid doc list f) o at o₁ here
+    way-end l =
+        let z : w .rest ≡ none = rows-none doc t list i end (w .rest) (w .rows) l in
+        let all : f ≡ w .done = w .split ∙ ap (λ g. w .done ⊕ g) z ∙ append-none (w .done) in
+        subst (λ g. Puts (laid doc list g) o at o₁ here) (sym all) (w .puts)
+
+    module _ (l : i < end) where
+      first : Here doc t list i end (w .rest)
+      first = rows-here doc t list i end (w .rest) (w .rows) l
+
+      one : Forest
+      one = node (first .head) (first .inner) none
+
+      parted : length (laid doc list (w .rest)) ≡ length (laid doc list one) + length (laid doc list (first .later))
+      unfolding one
+      parted =
+          ap (λ g. length (laid doc list g)) (first .is)
+          ∙ ap length (laid-node doc list (first .head) (first .inner) (first .later))
+          ∙ length-append (laid doc list one) (laid doc list (first .later))
+
+      -- It comes after this one, and no later than the end.
+      pub way-on : {next : ℕ} → next ≡ word t i 7 → (i < next) × (next ≤ end)
+      way-on e = let x = first .on in let z = first .ends in (omega arith, omega arith)
+
+      -- There is room for the next record.
+      pub way-one : (s : Within (length doc) t) → {next : ℕ} → next ≡ word t i 7 → OneRoom doc t list i next o₁ here
+      unfolding one
+      way-one s e = record {
+        one = record { small = s; head = first .head; inner = first .inner; rows = subst (λ x. Rows doc t list i x (node (first .head) (first .inner) none)) (sym (e ∙ first .ends)) (first .one) };
+        room = omega (arith, way-length, w .puts .next, w .room, parted);
+      }
+
+      -- It is written.
+      pub way-next : (s : Within (length doc) t) → {next : ℕ} (e : next ≡ word t i 7) {o₂ : List ℕ} {there : ℕ}
+          → ((p : OneRoom doc t list i next o₁ here) → Puts (laid doc list (node (p .one .head) (p .one .inner) none)) o₁ here o₂ there)
+          → Way doc t list end f o at o₂ next there
+      unfolding way-one one
+      way-next s {next} e told =
+          let z : next ≡ _ = e ∙ first .ends in
+          let d = w .done ⊕ node (first .head) (first .inner) none in
+          let more = laid-append doc list (w .done) (node (first .head) (first .inner) none) in
+          let b = w .room in
+          record {
+            done = d;
+            rest = first .later;
+            split = w .split ∙ ap (λ y. w .done ⊕ y) (first .is) ∙ append-one (w .done) (first .head) (first .inner) (first .later);
+            rows = subst (λ y. Rows doc t list y end (first .later)) (sym z) (first .rest);
+            puts = rw more (puts-then (w .puts) (omega arith) (told (way-one s e)));
+            room = omega (arith, parted, ap length more, length-append (laid doc list (w .done)) (laid doc list (node (first .head) (first .inner) none)));
+          }
+
+-- ---- one record
+
+module _ (doc t : List ℕ) (list : Bool) (n end : ℕ) (o : List ℕ) (at : ℕ) (p : OneRoom doc t list n end o at) where
+  abbrev pub h : Head
+  h = p .one .head
+
+  abbrev pub inner : Forest
+  inner = p .one .inner
+
+  head : headOf t n ≡ h
+  head = rows-head doc t list n end h inner (p .one .rows)
+
+  name : List ℕ
+  name = nameBytes doc list h
+
+  body : List ℕ
+  body = bodyBytes doc h (laid doc (eqb (h .kind) 9) inner)
+
+  whole : length (laid doc list (node h inner none)) ≡ length name + length body
+  unfolding name body
+  whole = ap length (laid-one doc list h inner) ∙ length-append (nameBytes doc list h) (bodyBytes doc h (laid doc (eqb (h .kind) 9) inner))
+
+  -- There is room for its name.
+  pub name-room : at + length (nameBytes doc list (headOf t n)) ≤ length o
+  unfolding name
+  name-room = rw head (omega (arith, p .room, whole))
+
+  module _ {o₁ : List ℕ} {from : ℕ} (a : Puts (nameBytes doc list (headOf t n)) o at o₁ from) where
+    named : Puts name o at o₁ from
+    unfolding name
+    named = rw head at a
+
+    name-fits : at + length name ≤ length o
+    name-fits = omega (arith, p .room, whole)
+
+    long : length o₁ ≡ length o
+    long = puts-length named name-fits
+
+    left : from + length body ≤ length o₁
+    left = omega (arith, long, named .next, p .room, whole)
+
+    joined : {bs : List ℕ} {o₂ : List ℕ} {r : ℕ} → body ≡ bs → Puts bs o₁ from o₂ r → Puts (laid doc list (node h inner none)) o at o₂ r
+    unfolding name body
+    joined e b = rw (laid-one doc list h inner) (puts-then named name-fits (rw e b))
+
+    -- A leaf.
+    module _ (e : word t n 0 ≡ 9 → ⊥) (f : word t n 0 ≡ 10 → ⊥) where
+      leaf : body ≡ leafBytes doc h
+      unfolding body
+      leaf = body-leaf doc h _ (λ q. e (ap (λ x. x .kind) head ∙ q)) (λ q. f (ap (λ x. x .kind) head ∙ q))
+
+      pub leaf-room : from + length (leafBytes doc (headOf t n)) ≤ length o₁
+      leaf-room = rw head (omega (arith, left, ap length leaf))
+
+      pub put-leaf : {o₂ : List ℕ} {r : ℕ} → Puts (leafBytes doc (headOf t n)) o₁ from o₂ r → Puts (laid doc list (node h inner none)) o at o₂ r
+      put-leaf b = joined leaf (rw head at b)
+
+    -- A list: its id and count, then the elements.
+    module _ (e : word t n 0 ≡ 9) where
+      nine : h .kind ≡ 9
+      nine = ap (λ x. x .kind) (sym head) ∙ e
+
+      listed : body ≡ listBytes h ++ laid doc true inner
+      unfolding body
+      listed = body-list doc h _ nine ∙ ap (λ b. listBytes h ++ laid doc b inner) (eq-eqb (h .kind) 9 nine)
+
+      pub list-room : from + 5 ≤ length o₁
+      list-room = omega (arith, left, ap length listed, length-append (listBytes h) (laid doc true inner), list-length h)
+
+      module _ {o₂ : List ℕ} {first : ℕ} (b : Puts (listBytes (headOf t n)) o₁ from o₂ first) where
+        started : Puts (listBytes h) o₁ from o₂ first
+        started = rw head at b
+
+        list-fits : from + length (listBytes h) ≤ length o₁
+        list-fits = omega (arith, list-length h, list-room)
+
+        pub elements-fit : first + length (laid doc true inner) ≤ length o₂
+        elements-fit = omega (arith, left, ap length listed, length-append (listBytes h) (laid doc true inner), started .next, puts-length started list-fits)
+
+        pub list-rows : Rows doc t true (n + 1) end inner
+        list-rows = subst (λ x. Rows doc t x (n + 1) end inner) (eq-eqb (h .kind) 9 nine) (rows-inner doc t list n end h inner (p .one .rows))
+
+        abbrev pub list-some : SomeRoom doc t true (n + 1) end o₂ first
+        list-some = record {
+          some = record { small = p .one .small; forest = inner; rows = list-rows };
+          room = elements-fit;
+        }
+
+        pub put-list : {o₃ : List ℕ} {r : ℕ} → ((q : SomeRoom doc t true (n + 1) end o₂ first) → Puts (laid doc true (q .some .forest)) o₂ first o₃ r)
+            → Puts (laid doc list (node h inner none)) o at o₃ r
+        put-list told = joined listed (puts-then started list-fits (told list-some))
+
+    -- A compound: the entries, then the end byte.
+    module _ (e : word t n 0 ≡ 10) where
+      ten : h .kind ≡ 10
+      ten = ap (λ x. x .kind) (sym head) ∙ e
+
+      entered : body ≡ laid doc false inner ++ bytesOf 1 0
+      unfolding body
+      entered = body-compound doc h _ ten ∙ ap (λ b. laid doc b inner ++ bytesOf 1 0) (ne-eqb (h .kind) 9 (λ q. omega (arith, ten)))
+
+      pub entries-fit : from + length (laid doc false inner) + 1 ≤ length o₁
+      entries-fit = omega (arith, left, ap length entered, length-append (laid doc false inner) (bytesOf 1 0), bytes-length 1 0)
+
+      pub entry-rows : Rows doc t false (n + 1) end inner
+      entry-rows = subst (λ x. Rows doc t x (n + 1) end inner) (ne-eqb (h .kind) 9 (λ q. omega (arith, ten))) (rows-inner doc t list n end h inner (p .one .rows))
+
+      abbrev pub compound-some : SomeRoom doc t false (n + 1) end o₁ from
+      compound-some = record {
+        some = record { small = p .one .small; forest = inner; rows = entry-rows };
+        room = omega (arith, entries-fit);
+      }
+
+      module _ {o₂ : List ℕ} {last : ℕ} (told : (q : SomeRoom doc t false (n + 1) end o₁ from) → Puts (laid doc false (q .some .forest)) o₁ from o₂ last) where
+        -- There is room for the end byte.
+        pub end-room : last + 1 ≤ length o₂
+        end-room = let b = told compound-some in omega (arith, entries-fit, b .next, puts-length b (omega (arith, entries-fit)))
+
+        pub put-compound : {o₃ : List ℕ} → o₃ ≡ over o₂ last (bytesOf 1 0) → Puts (laid doc list (node h inner none)) o at o₃ (last + 1)
+        put-compound g = joined entered (puts-then (told compound-some) (omega (arith, entries-fit)) (puts-number 1 0 (last + 1) refl g))
