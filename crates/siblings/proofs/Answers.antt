@@ -141,7 +141,7 @@ nothing : (t : List ℕ) (stop i : ℕ) → siblings t stop zero i ≡ []
 unfolding siblings
 nothing t stop i = refl
 
-siblings-below : (t : List ℕ) (stop fuel i z : ℕ) → Mem z (siblings t stop fuel i) → z < stop
+pub siblings-below : (t : List ℕ) (stop fuel i z : ℕ) → Mem z (siblings t stop fuel i) → z < stop
 siblings-below t stop zero i z m = absurd (mem-none z (rw (nothing t stop i) at m))
 siblings-below t stop (suc fuel) i z m = go (ltb i stop) refl (siblings-below t stop fuel (endOf t i) z)
   where
@@ -150,6 +150,11 @@ siblings-below t stop (suc fuel) i z m = go (ltb i stop) refl (siblings-below t 
         let k : siblings t stop (suc fuel) i ≡ i ∷ siblings t stop fuel (endOf t i) = rw (sub-one (suc fuel)) at (siblings-on t stop (suc fuel) i (omega arith) (ltb-true i stop e)) in
         mem-cases (z < stop) z i (siblings t stop fuel (endOf t i)) (λ q. omega (arith, q, ltb-true i stop e)) r (rw k at m)
     go false e r = absurd (mem-none z (rw (siblings-none t stop (suc fuel) i (ltb-false i stop e)) at m))
+
+pub family-low : (doc t : List ℕ) (first stop : ℕ) → Family doc t first stop → (z : ℕ) → Mem z (siblings t stop stop first) → first ≤ z
+family-low doc t first stop fam z m =
+    let e = siblings-walk t stop stop first in
+    walk-low (endOf t) (length (siblings t stop stop first)) first (λ v k. fam .on v (subst (λ x. Mem v x) (sym e) k)) z (subst (λ x. Mem z x) e m)
 
 pub found-at : (low stop : ℕ) → low < stop → foundOf low stop ≡ Found.At low
 found-at low stop h = rw (foundOf, lt-ltb low stop h) refl

@@ -12,3 +12,5 @@ pub mod Forests
 pub mod Deferred
 pub mod Kept
 pub mod Orders
+pub mod Cells
+pub mod Ascents

@@ -6,13 +6,13 @@ use mathlib.Core.List.{List, [], _∷_}
 use mathlib.Core.Path.{_≡_, refl, sym, ap, _∙_}
 use native.Mathlib.Omega.{arith}
 use native.Mathlib.Numerals.{sub-one, add-one}
-use native.Mathlib.Nat.{pow-suc, pow-le-pow-right, mul-le-mul-right, add-mul}
+use native.Mathlib.Nat.{pow-suc, pow-succ', pow-le-pow-right, mul-le-mul-right, add-mul, mul-assoc}
 use borrow.Author.Tests.{eq-eqb, ne-eqb, eqb-true, ltb-true, ltb-false}
 use lib.ListN.{length, getD, take, drop, length-take, length-drop}
 use lib.Seq.{drop-cons}
 use lib.Dec.{eqb, ltb}
 use Rattle.form.specs.Spans.{same, part}
-use Rattle.siblings.specs.Links.{be, num}
+use Rattle.siblings.specs.Links.{be, fourOf, eightOf, num}
 
 pub part-length : (doc : List ℕ) (a n : ℕ) → a + n ≤ length doc → length (part doc a n) ≡ n
 part-length doc a n h = simp (length-take, length-drop) (omega arith)
@@ -32,6 +32,61 @@ pub be-none : (doc : List ℕ) (a n : ℕ) → n ≤ 0 → be (part doc a n) ≡
 unfolding be
 be-none doc a zero h = refl
 be-none doc a (suc n) h = absurd (omega arith)
+
+-- the same, with the place of the next one by another name
+be-next : (doc : List ℕ) (a n b : ℕ) → b ≡ a + 1 → a + suc n ≤ length doc → be (part doc a (suc n)) ≡ getD doc a 0 * 256 ^ n + be (part doc b n)
+be-next doc a n b e l = rw (e) (rw (sub-one (suc n)) at (be-part doc a (suc n) (omega arith) l))
+
+pow-plus : (m k : ℕ) → 256 ^ (m + k) ≡ 256 ^ m * 256 ^ k
+pow-plus zero k = let p : 0 + k ≡ k = omega arith in rw p (omega arith)
+pow-plus (suc m) k =
+    let p : suc m + k ≡ suc (m + k) = omega arith in
+    rw p (omega (arith, pow-succ' 256 (m + k), ap (λ w. w * 256 ^ k) (pow-succ' 256 m), mul-assoc 256 (256 ^ m) (256 ^ k), pow-plus m k))
+
+-- a number in two parts
+be-parts : (doc : List ℕ) (m k a : ℕ) → a + (m + k) ≤ length doc → be (part doc a (m + k)) ≡ be (part doc a m) * 256 ^ k + be (part doc (a + m) k)
+unfolding be
+be-parts doc zero k a l =
+    let p : 0 + k ≡ k = omega arith in
+    let q : a + 0 ≡ a = omega arith in
+    rw (p, q) (omega arith)
+be-parts doc (suc m) k a l =
+    let p : suc m + k ≡ suc (m + k) = omega arith in
+    let q : a + suc m ≡ a + 1 + m = omega arith in
+    rw (p, q)
+    (omega (
+      arith,
+      be-next doc a (m + k) (a + 1) refl (omega arith),
+      be-next doc a m (a + 1) refl (omega arith),
+      be-parts doc m k (a + 1) (omega arith),
+      ap (λ w. getD doc a 0 * w) (pow-plus m k),
+      mul-assoc (getD doc a 0) (256 ^ m) (256 ^ k),
+      ap (λ w. w * 256 ^ k) (be-next doc a m (a + 1) refl (omega arith)),
+      add-mul (getD doc a 0 * 256 ^ m) (be (part doc (a + 1) m)) (256 ^ k),
+    ))
+
+-- eight bytes
+be-eight : (doc : List ℕ) (a : ℕ) → a + 8 ≤ length doc → be (part doc a 8) ≡ eightOf doc a
+unfolding fourOf eightOf
+be-eight doc a l =
+    omega (
+      arith,
+      be-next doc a 7 (a + 1) refl (omega arith),
+      be-next doc (a + 1) 6 (a + 2) (omega arith) (omega arith),
+      be-next doc (a + 2) 5 (a + 3) (omega arith) (omega arith),
+      be-next doc (a + 3) 4 (a + 4) (omega arith) (omega arith),
+      be-next doc (a + 4) 3 (a + 4 + 1) (omega arith) (omega arith),
+      be-next doc (a + 4 + 1) 2 (a + 4 + 2) (omega arith) (omega arith),
+      be-next doc (a + 4 + 2) 1 (a + 4 + 3) (omega arith) (omega arith),
+      be-next doc (a + 4 + 3) 0 (a + 8) (omega arith) (omega arith),
+      be-none doc (a + 8) 0 (omega arith),
+    )
+
+be-eights : (doc : List ℕ) (a n b : ℕ) → 8 ≤ n → a + n ≤ length doc → b ≡ a + 8 → be (part doc a n) ≡ eightOf doc a * 256 ^ (n - 8) + be (part doc b (n - 8))
+be-eights doc a n b h l e =
+    ap (λ k. be (part doc a k)) (let p : n ≡ 8 + (n - 8) = omega arith in p)
+    ∙ be-parts doc 8 (n - 8) a (omega arith)
+    ∙ (rw (be-eight doc a (omega arith), e) refl)
 
 -- digits x < y before what is below the power
 digit-less : (x y p u v : ℕ) → x < y → u < p → x * p + u < y * p + v
@@ -73,6 +128,28 @@ module _ (doc : List ℕ) (bytes : (i : ℕ) → getD doc i 0 < 256) where
         let r : n - (i + 1) ≡ n - i - 1 = omega arith in
         rw (p, q, r) (omega (arith, da, db, f, ap (λ d. d * 256 ^ (n - i - 1)) e))
 
+  module _ (a b n i : ℕ) (h : 7 < n - i) (la : a + n ≤ length doc) (lb : b + n ≤ length doc) where
+    ea : be (part doc (a + i) (n - i)) ≡ eightOf doc (a + i) * 256 ^ (n - (i + 8)) + be (part doc (a + (i + 8)) (n - (i + 8)))
+    ea =
+        let q : n - (i + 8) ≡ n - i - 8 = omega arith in
+        rw q (be-eights doc (a + i) (n - i) (a + (i + 8)) (omega arith) (omega arith) (omega arith))
+
+    eb : be (part doc (b + i) (n - i)) ≡ eightOf doc (b + i) * 256 ^ (n - (i + 8)) + be (part doc (b + (i + 8)) (n - (i + 8)))
+    eb =
+        let q : n - (i + 8) ≡ n - i - 8 = omega arith in
+        rw q (be-eights doc (b + i) (n - i) (b + (i + 8)) (omega arith) (omega arith) (omega arith))
+
+    -- the same by eight digits
+    pub eight-less : eightOf doc (a + i) < eightOf doc (b + i) → be (part doc (a + i) (n - i)) < be (part doc (b + i) (n - i))
+    eight-less e =
+        rw (ea, eb)
+        (digit-less (eightOf doc (a + i)) (eightOf doc (b + i)) (256 ^ (n - (i + 8))) (be (part doc (a + (i + 8)) (n - (i + 8)))) (be (part doc (b + (i + 8)) (n - (i + 8)))) e
+        (be-below (n - (i + 8)) (a + (i + 8)) (omega arith)))
+
+    pub eight-same : (x y : ℕ) → eightOf doc (a + i) ≡ eightOf doc (b + i) → x + be (part doc (b + i) (n - i)) ≡ y + be (part doc (a + i) (n - i))
+        → x + be (part doc (b + (i + 8)) (n - (i + 8))) ≡ y + be (part doc (a + (i + 8)) (n - (i + 8)))
+    eight-same x y e f = omega (arith, ea, eb, f, ap (λ d. d * 256 ^ (n - (i + 8))) e)
+
   -- the shorter name is the lesser number
   pub num-shorter : (a n b m : ℕ) → a + n ≤ length doc → b + m ≤ length doc → n < m → num (part doc a n) < num (part doc b m)
   unfolding num
@@ -105,6 +182,17 @@ same-eq (x ∷ xs) (y ∷ ys) h =
     let p : x ≡ y = eqb-true x y (r .0) in
     let q : xs ≡ ys = same-eq xs ys (r .1) in
     λ i. p i ∷ q i
+
+same-false : (xs ys : List ℕ) → (xs ≡ ys → ⊥) → same xs ys ≡ false
+same-false xs ys n = go (same xs ys) refl
+  where
+    go : (b : Bool) → same xs ys ≡ b → same xs ys ≡ false
+    go true e = absurd (n (same-eq xs ys e))
+    go false e = e
+
+-- numbers that differ are of names that differ
+pub num-other : (xs ys : List ℕ) → (num xs ≡ num ys → ⊥) → false ≡ same xs ys
+num-other xs ys n = sym (same-false xs ys (λ e. n (ap num e)))
 
 digit-eq : (x y p u v : ℕ) → x * p + u ≡ y * p + v → u < p → v < p → x ≡ y
 digit-eq x y p u v e hu hv = go (ltb x y) refl (ltb y x) refl
@@ -141,6 +229,9 @@ module _ (doc : List ℕ) (bytes : (i : ℕ) → getD doc i 0 < 256) where
       go true f y g = absurd (omega (arith, e, num-shorter doc bytes a n b m la lb (ltb-true n m f)))
       go false f true g = absurd (omega (arith, e, num-shorter doc bytes b m a n lb la (ltb-true m n g)))
       go false f false g = eqn (omega (arith, ltb-false n m f, ltb-false m n g))
+
+  pub num-alike : (a n b m : ℕ) → a + n ≤ length doc → b + m ≤ length doc → num (part doc a n) ≡ num (part doc b m) → true ≡ same (part doc a n) (part doc b m)
+  num-alike a n b m la lb e = sym (rw (num-same a n b m la lb e) (same-self (part doc b m)))
 
 -- ---- the comparison of two spans, from the front
 

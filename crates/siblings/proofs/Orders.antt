@@ -22,6 +22,12 @@ shift k x y Order.Less h = omega arith
 shift k x y Order.Same h = omega arith
 shift k x y Order.More h = omega arith
 
+-- what is left of both, where the rest differs by as much
+pub ordered-rest : (x y u v : ℕ) (r : Order) → x + v ≡ y + u → Ordered u v r → Ordered x y r
+ordered-rest x y u v Order.Less e h = omega arith
+ordered-rest x y u v Order.Same e h = omega arith
+ordered-rest x y u v Order.More e h = omega arith
+
 pub spans-num : (doc : List ℕ) (a n b m : ℕ) (r : Order) → a + n ≤ length doc → b + m ≤ length doc → n ≡ m
     → Ordered (be (part doc a n)) (be (part doc b n)) r → Ordered (num (part doc a n)) (num (part doc b m)) r
 spans-num doc a n b m r la lb e h =

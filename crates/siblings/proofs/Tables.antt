@@ -35,6 +35,10 @@ pub slot-plain : (t : List ℕ) (i : ℕ) → (getD t (8 * i) 0 ≡ 9 → ⊥) �
 unfolding slotOf
 slot-plain t i n h = rw (slotOf, ne-eqb (getD t (8 * i) 0) 9 n, ne-eqb (getD t (8 * i) 0) 10 h) refl
 
+-- a record's kind, as the code reads it
+pub kind-is : (t : List ℕ) (i r : ℕ) → r ≡ getD t (8 * i + 0) 0 → getD t (8 * i) 0 ≡ r
+kind-is t i r e = ap (λ k. getD t k 0) (let q : 8 * i ≡ 8 * i + 0 = omega arith in q) ∙ sym e
+
 -- ---- tables that agree but for links
 
 module _ (t₀ t : List ℕ) (U : ℕ → Type 0) (g : Agree t₀ t U) where

@@ -4,4 +4,5 @@ pub mod Lists
 pub mod Forests
 pub mod Holding
 pub mod Orders
+pub mod Cells
 pub mod Marked

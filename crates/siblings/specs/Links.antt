@@ -14,6 +14,14 @@ unfoldable pub be : List ℕ → ℕ
 be [] = 0
 be (x ∷ xs) = x * 256 ^ length xs + be xs
 
+-- four bytes as a number
+unfoldable pub fourOf : List ℕ → ℕ → ℕ
+fourOf xs k = ((getD xs k 0 * 256 + getD xs (k + 1) 0) * 256 + getD xs (k + 2) 0) * 256 + getD xs (k + 3) 0
+
+-- eight bytes as a number
+unfoldable pub eightOf : List ℕ → ℕ → ℕ
+eightOf xs k = fourOf xs k * 4294967296 + fourOf xs (k + 4)
+
 -- the same with a digit 1 before them, so that what is longer is more
 unfoldable pub num : List ℕ → ℕ
 num xs = 256 ^ length xs + be xs
@@ -29,12 +37,15 @@ slotOf t i = elim (eqb (getD t (8 * i) 0) 9 || eqb (getD t (8 * i) 0) 10) [
   | false ↦ 8 * i + 6
 ]
 
+-- what a record is linked to
 unfoldable pub link : List ℕ → ℕ → ℕ
 link t i = getD t (slotOf t i) 0
 
+-- the table with a record linked to another
 unfoldable pub linked : List ℕ → ℕ → ℕ → List ℕ
 linked t i v = set t (slotOf t i) v
 
+-- a number stands in a list
 unfoldable pub Mem : ℕ → List ℕ → Type 0
 Mem z [] = ⊥
 Mem z (x ∷ xs) = (z ≡ x) ⊎ Mem z xs
@@ -49,14 +60,17 @@ unfoldable pub past : (ℕ → ℕ) → ℕ → ℕ → ℕ
 past f a zero = a
 past f a (suc n) = past f (f a) n
 
+-- less, or more, by the direction
 abbrev pub Lt : Bool → ℕ → ℕ → Type 0
 Lt true a b = a < b
 Lt false a b = b < a
 
+-- the same or equal
 abbrev pub Le : Bool → ℕ → ℕ → Type 0
 Le true a b = a ≤ b
 Le false a b = b ≤ a
 
+-- the keys of a list rise, or fall, by the direction
 unfoldable pub Sorted : Bool → (ℕ → ℕ) → List ℕ → Type 0
 Sorted u key [] = Unit {0}
 Sorted u key (x ∷ xs) = ((z : ℕ) → Mem z xs → Lt u (key x) (key z)) × Sorted u key xs

@@ -1,4 +1,5 @@
 -- Some rows of records, and the first of each whose name an earlier one has, as antt computes it.
+-- Assumes nothing.
 use Prim.Native.Nat.{ℕ}
 use mathlib.Core.List.{List, [], _∷_}
 use mathlib.Core.Path.{_≡_, refl}
@@ -17,6 +18,7 @@ table =
     ∷ 1 ∷ 2 ∷ 1 ∷ 9 ∷ 1 ∷ 0 ∷ 0 ∷ 6
     ∷ []
 
+-- the answers for five rows
 pub marked : firstRepeat (97 ∷ 98 ∷ 99 ∷ 97 ∷ 98 ∷ []) table 1 6
     ∷ firstRepeat (97 ∷ 98 ∷ 99 ∷ 97 ∷ 99 ∷ []) table 1 6
     ∷ firstRepeat (97 ∷ 98 ∷ 99 ∷ 97 ∷ 99 ∷ []) table 1 5

@@ -1,4 +1,4 @@
--- The definition: the first of the records side by side whose name an earlier one has.
+-- The definition: the first of the records side by side whose name an earlier one has, which is refused with number 6.
 -- Assumes nothing.
 use Prim.Native.Nat.{ℕ, zero, suc, _+_, _*_}
 use mathlib.Core.List.{List, [], _∷_}

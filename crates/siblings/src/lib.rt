@@ -1,4 +1,6 @@
-// The first of the records side by side whose name an earlier one has.
+// The first of the records side by side whose name an earlier one has (refusal 6). A few records are compared each with those before it. Of more,
+// each goes to a cell that its name gives; the cells are the records' free words, which are 0 before and after. Where cells do not do, the records
+// are sorted as a list through the same words.
 ghost use mathlib.Core.Path.{_≡_};
 ghost use mathlib.Core.Bool.{not};
 ghost use Prim.Native.Nat.{ℕ, suc, _+_, _-_, _*_, _≤_, _<_};
@@ -7,10 +9,11 @@ ghost use lib.ListN.{length, getD};
 ghost use Rattle.form.specs.Spans.{part, same};
 ghost use Rattle.siblings.specs.Holding.{among as amongOf, Holds};
 ghost use Rattle.siblings.specs.Names.{nameOf, endOf, siblings, firstRepeat};
-ghost use Rattle.siblings.specs.Links.{be, num, rank, slotOf, link, linked, Mem, walk, Fit};
-ghost use Rattle.siblings.specs.Lists.{Told, Alike, Lowered, Picked, Two, Lists, Row, Sorts, Chained, Unlinked, Least, Taken, Family, foundOf};
+ghost use Rattle.siblings.specs.Links.{be, fourOf, eightOf, num, rank, slotOf, link, linked, Mem, walk, Agree, Fit};
+ghost use Rattle.siblings.specs.Lists.{Told, Alike, Lowered, Picked, Two, Lists, Row, Sorts, Chained, Unlinked, Least, Taken, Family, foundOf, Climbs, Rises};
 ghost use Rattle.siblings.specs.Forests.{placeOut, refusalOf};
 ghost use Rattle.siblings.specs.Orders.{Ordered};
+ghost use Rattle.siblings.specs.Cells.{blend, turn, stirOf, markOf, markAt, homeOf, Blank, Blanked, Wiped, Cells, Probed, PlacedBy, Halved, lesserOf, Joined, Ready};
 
 // The number of a record, or nothing.
 pub enum Found {
@@ -18,10 +21,32 @@ pub enum Found {
     Nothing,
 }
 
+// The order of two things.
 enum Order {
     Less,
     Same,
     More,
+}
+
+// A cell for a record: the first that is free, or one that holds a record of the same name, or neither within reach.
+enum Spot {
+    Free(usize),
+    Twin,
+    Full,
+}
+
+// What became of a record: it stands in its cell, so many cells after its first, or another of its class has its name, or there was no cell.
+enum Placed {
+    On(usize),
+    Twin,
+    Full,
+}
+
+// The least record that has an earlier twin, or none, or it was not found out.
+enum Sought {
+    At(usize),
+    Nothing,
+    Unknown,
 }
 
 // A list of records, by the first, and the record after the last of those that were sorted.
@@ -30,14 +55,42 @@ struct Run {
     next: usize,
 }
 
+// A word as an index.
 fn wide(x: u32) -> usize
     ensures { λ r. ⌜ r ≡ x ⌝ }
 {
     x as usize
 }
 
-// The order of the n bytes at a and at b.
-fn order_bytes(doc: &[u8], a: usize, b: usize, n: usize) -> Order
+// A byte as a number.
+fn byte(x: u8) -> usize
+    ensures { λ r. ⌜ (r ≡ x) × (r < 256) ⌝ }
+{
+    x as usize
+}
+
+// Four bytes as a number, the first the highest.
+fn four(doc: &[u8], at: usize) -> usize
+    requires { ⌜ at + 4 ≤ length (now doc) ⌝ }
+    ensures { λ r. ⌜ (r ≡ fourOf (now (doc .entry)) at) × (r < 4294967296) ⌝ }
+{
+    let a = byte(doc[at]);
+    let b = byte(doc[at + 1]);
+    let c = byte(doc[at + 2]);
+    let d = byte(doc[at + 3]);
+    ((a * 256 + b) * 256 + c) * 256 + d
+}
+
+// Eight bytes as a number, the first the highest.
+fn eight(doc: &[u8], at: usize) -> usize
+    requires { ⌜ at + 8 ≤ length (now doc) ⌝ }
+    ensures { λ r. ⌜ r ≡ eightOf (now (doc .entry)) at ⌝ }
+{
+    four(doc, at) * 4294967296 + four(doc, at + 4)
+}
+
+// The order of the n bytes at a and at b, one by one.
+fn order_rest(doc: &[u8], a: usize, b: usize, n: usize) -> Order
     requires { ⌜ (a + n ≤ length (now doc)) × (b + n ≤ length (now doc)) ⌝ }
     ensures { λ r. ⌜ Ordered (be (part (now (doc .entry)) a n)) (be (part (now (doc .entry)) b n)) r ⌝ }
 {
@@ -54,6 +107,26 @@ fn order_bytes(doc: &[u8], a: usize, b: usize, n: usize) -> Order
         i += 1;
     }
     Order::Same
+}
+
+// The order of the n bytes at a and at b, eight by eight.
+fn order_bytes(doc: &[u8], a: usize, b: usize, n: usize) -> Order
+    requires { ⌜ (a + n ≤ length (now doc)) × (b + n ≤ length (now doc)) ⌝ }
+    ensures { λ r. ⌜ Ordered (be (part (now (doc .entry)) a n)) (be (part (now (doc .entry)) b n)) r ⌝ }
+{
+    let mut i: usize = 0;
+    while 7 < n - i {
+        let x = eight(doc, a + i);
+        let y = eight(doc, b + i);
+        if x < y {
+            return Order::Less;
+        }
+        if y < x {
+            return Order::More;
+        }
+        i += 8;
+    }
+    order_rest(doc, a + i, b + i, n - i)
 }
 
 // The order of two spans: the shorter first, then by bytes.
@@ -77,10 +150,10 @@ fn names(doc: &[u8], table: &[u32], i: usize, j: usize) -> Order
 {
     spans(
         doc,
-        wide(table[8 * i + 1]),
-        wide(table[8 * i + 2]),
-        wide(table[8 * j + 1]),
-        wide(table[8 * j + 2]),
+        table::word(table, i, table::NAME),
+        table::word(table, i, table::NAME_LENGTH),
+        table::word(table, j, table::NAME),
+        table::word(table, j, table::NAME_LENGTH),
     )
 }
 
@@ -119,14 +192,14 @@ fn slot(table: &[u32], i: usize) -> usize
     requires { ⌜ 8 * i + 8 ≤ length (now table) ⌝ }
     ensures { λ r. ⌜ r ≡ slotOf (now (table .entry)) i ⌝ }
 {
-    let kind = table[8 * i];
+    let kind = table::word(table, i, table::KIND);
     if kind == 9 {
-        return 8 * i + 3;
+        return table::WORDS * i + table::START;
     }
     if kind == 10 {
-        return 8 * i + 3;
+        return table::WORDS * i + table::START;
     }
-    8 * i + 6
+    table::WORDS * i + table::LIST_KIND
 }
 
 // Links record i to another, and answers what it was linked to.
@@ -174,7 +247,7 @@ fn sort(doc: &[u8], table: &mut [u32], at: usize, n: usize, up: bool) -> Run
     if n == 1 {
         return Run {
             head: at,
-            next: wide(table[8 * at + 7]),
+            next: table::word(table, at, table::END),
         };
     }
     let half = n / 2;
@@ -237,7 +310,7 @@ fn count(table: &[u32], first: usize, stop: usize) -> usize
     let mut n: usize = 0;
     let mut i = first;
     while i < stop {
-        i = wide(table[8 * i + 7]);
+        i = table::word(table, i, table::END);
         n += 1;
     }
     n
@@ -253,7 +326,7 @@ fn taken(doc: &[u8], table: &[u32], first: usize, stop: usize, i: usize) -> bool
         if twin(doc, table, j, i) {
             return true;
         }
-        j = wide(table[8 * j + 7]);
+        j = table::word(table, j, table::END);
     }
     false
 }
@@ -268,9 +341,230 @@ fn plain(doc: &[u8], table: &[u32], first: usize, stop: usize) -> usize
         if taken(doc, table, first, stop, i) {
             return i;
         }
-        i = wide(table[8 * i + 7]);
+        i = table::word(table, i, table::END);
     }
     stop
+}
+
+// Four numbers made one.
+fn mix(a: usize, b: usize, c: usize, d: usize) -> usize
+    requires { ⌜ (a < 4294967296) × (b < 4294967296) × (c < 4294967296) × (d < 4294967296) ⌝ }
+    ensures { λ r. ⌜ r ≡ blend a b c d ⌝ }
+{
+    a * 2654435761 / 4 + b * 2246822519 / 4 + c * 3266489917 / 4 + d * 3668265263 / 4
+}
+
+// The two halves of a number added and multiplied.
+fn fold(k: usize, x: usize) -> usize
+    requires { ⌜ k < 4294967296 ⌝ }
+    ensures { λ r. ⌜ r ≡ turn k x ⌝ }
+{
+    (x / 4294967296 + x % 4294967296) % 4294967296 * k
+}
+
+// Four numbers stirred into one, so that names that differ a little have numbers far apart.
+fn stir(a: usize, b: usize, c: usize, d: usize) -> usize
+    requires { ⌜ (a < 4294967296) × (b < 4294967296) × (c < 4294967296) × (d < 4294967296) ⌝ }
+    ensures { λ r. ⌜ r ≡ stirOf a b c d ⌝ }
+{
+    fold(3266489917, fold(2654435761, mix(a, b, c, d))) / 1048576
+}
+
+// A byte of the n at a, or 0 after the last.
+fn byte_or(doc: &[u8], a: usize, n: usize, k: usize) -> usize
+    requires { ⌜ a + n ≤ length (now doc) ⌝ }
+    ensures { λ r. ⌜ (r ≡ getD (part (now (doc .entry)) a n) k 0) × (r < 4294967296) ⌝ }
+{
+    if k < n { byte(doc[a + k]) } else { 0 }
+}
+
+// The mark of the n bytes at a: the same for the same bytes.
+fn mark_span(doc: &[u8], a: usize, n: usize) -> usize
+    requires { ⌜ a + n ≤ length (now doc) ⌝ }
+    ensures { λ r. ⌜ r ≡ markOf (part (now (doc .entry)) a n) ⌝ }
+{
+    if n < 4 {
+        return stir(
+            n,
+            byte_or(doc, a, n, 0),
+            byte_or(doc, a, n, 1),
+            byte_or(doc, a, n, 2),
+        );
+    }
+    if n < 8 {
+        return stir(n, 0, four(doc, a), four(doc, a + n - 4));
+    }
+    stir(
+        four(doc, a),
+        four(doc, a + 4),
+        four(doc, a + n - 8),
+        four(doc, a + n - 4),
+    )
+}
+
+// The mark of a record's name.
+fn mark(doc: &[u8], table: &[u32], i: usize) -> usize
+    requires { ⌜ Fit (now doc) (now table) i ⌝ }
+    ensures { λ r. ⌜ r ≡ markAt (now (doc .entry)) (now (table .entry)) i ⌝ }
+{
+    mark_span(
+        doc,
+        table::word(table, i, table::NAME),
+        table::word(table, i, table::NAME_LENGTH),
+    )
+}
+
+// What a record is linked to.
+fn cell(table: &[u32], i: usize) -> usize
+    requires { ⌜ 8 * i + 8 ≤ length (now table) ⌝ }
+    ensures { λ r. ⌜ r ≡ link (now (table .entry)) i ⌝ }
+{
+    wide(table[slot(table, i)])
+}
+
+// Whether the links of the records from `from` up to `to` are 0.
+fn blank(table: &[u32], from: usize, to: usize) -> bool
+    requires { ⌜ 8 * to ≤ length (now table) ⌝ }
+    ensures { λ r. ⌜ Blanked (now (table .entry)) from to r ⌝ }
+{
+    let mut k = from;
+    while k < to {
+        if cell(table, k) != 0 {
+            return false;
+        }
+        k += 1;
+    }
+    true
+}
+
+// Sets them to 0.
+fn wipe(table: &mut [u32], from: usize, to: usize)
+    requires { ⌜ (from ≤ to) × (8 * to ≤ length (now table)) ⌝ }
+    ensures { λ _. ⌜ Wiped (now (table .entry)) (now (table .exit)) from to ⌝ }
+{
+    let mut k = from;
+    while k < to {
+        relink(table, k, 0);
+        k += 1;
+    }
+}
+
+// A cell for record i, from `from` up to `to`.
+fn probe(doc: &[u8], table: &[u32], i: usize, from: usize, to: usize) -> Spot
+    requires { ⌜ (Fit (now doc) (now table) i) × (Cells (now doc) (now table) from to) ⌝ }
+    ensures { λ r. ⌜ Probed (now (doc .entry)) (now (table .entry)) i from to r ⌝ }
+{
+    let mut k = from;
+    while k < to {
+        let other = cell(table, k);
+        if other == 0 {
+            return Spot::Free(k);
+        }
+        if twin(doc, table, other, i) {
+            return Spot::Twin;
+        }
+        k += 1;
+    }
+    Spot::Full
+}
+
+// The first cell for a mark, of those from `first` up to `last`.
+fn home(first: usize, last: usize, mark: usize) -> usize
+    requires { ⌜ (first < last) × (last < 4294967296) ⌝ }
+    ensures { λ r. ⌜ (r ≡ homeOf first last mark) × (r < last) ⌝ }
+{
+    let cells = last - first;
+    first + mark / 2 % (cells - cells / 8)
+}
+
+// How far a cell is sought from one on: 128 cells, or those that are there.
+fn edge(from: usize, last: usize) -> usize
+    requires { ⌜ from < last ⌝ }
+    ensures { λ r. ⌜ (from ≤ r) × (r ≤ last) ⌝ }
+{
+    if last - from < 128 { last } else { from + 128 }
+}
+
+// Puts record i in a cell, if it is of the class.
+fn place(doc: &[u8], table: &mut [u32], i: usize, first: usize, last: usize, class: usize) -> Placed
+    requires { ⌜ (Fit (now doc) (now table) i) × (Cells (now doc) (now table) first last) × (first < last) × (last < 4294967296) ⌝ }
+    ensures { λ r. ⌜ PlacedBy (now (doc .entry)) (now (table .entry)) (now (table .exit)) i first last class r ⌝ }
+{
+    let m = mark(doc, table, i);
+    if m % 2 != class {
+        return Placed::On(0);
+    }
+    let from = home(first, last, m);
+    match probe(doc, table, i, from, edge(from, last)) {
+        Spot::Free(k) => {
+            relink(table, k, i);
+            Placed::On(k - from)
+        },
+        Spot::Twin => Placed::Twin,
+        Spot::Full => Placed::Full,
+    }
+}
+
+// Puts the records of a class in cells, one after the other, until one meets its twin, or for want of a cell, or after too many comparisons.
+fn enter(
+    doc: &[u8],
+    table: &mut [u32],
+    first: usize,
+    stop: usize,
+    last: usize,
+    class: usize,
+) -> Sought
+    requires { ⌜ (Ready (now doc) (now table) first stop last) × (Blank (now table) first last) ⌝ }
+    ensures { λ r. ⌜ (Agree (now (table .entry)) (now (table .exit)) (λ z. (first ≤ z) × (z < last))) × (Halved (now (doc .entry)) (now (table .entry)) first stop class r) ⌝ }
+{
+    let mut spare = 4 * (last - first);
+    let mut i = first;
+    while i < stop {
+        match place(doc, table, i, first, last, class) {
+            Placed::On(used) => {
+                if spare < used {
+                    return Sought::Unknown;
+                }
+                spare -= used;
+            },
+            Placed::Twin => return Sought::At(i),
+            Placed::Full => return Sought::Unknown,
+        }
+        i = table::word(table, i, table::END);
+    }
+    Sought::Nothing
+}
+
+// The least record of a class that has an earlier twin; the table is as before.
+fn half(
+    doc: &[u8],
+    table: &mut [u32],
+    first: usize,
+    stop: usize,
+    last: usize,
+    class: usize,
+) -> Sought
+    requires { ⌜ (Ready (now doc) (now table) first stop last) × (Blank (now table) first last) ⌝ }
+    ensures { λ r. ⌜ (now (table .exit) ≡ now (table .entry)) × (Halved (now (doc .entry)) (now (table .entry)) first stop class r) ⌝ }
+{
+    let r = enter(doc, table, first, stop, last, class);
+    wipe(table, first, last);
+    r
+}
+
+// The lesser of two answers.
+fn lesser(a: Sought, b: Sought) -> Sought
+    ensures { λ r. ⌜ r ≡ lesserOf a b ⌝ }
+{
+    match a {
+        Sought::Unknown => Sought::Unknown,
+        Sought::Nothing => b,
+        Sought::At(x) => match b {
+            Sought::Unknown => Sought::Unknown,
+            Sought::Nothing => Sought::At(x),
+            Sought::At(y) => if x < y { Sought::At(x) } else { Sought::At(y) },
+        },
+    }
 }
 
 // The answer that a number is: `stop` is none.
@@ -284,6 +578,109 @@ fn below(low: usize, stop: usize) -> Found
     }
 }
 
+// The least record that has an earlier twin, if it is found by cells; the table is as before.
+fn hashed(doc: &[u8], table: &mut [u32], first: usize, stop: usize, last: usize) -> Sought
+    requires { ⌜ (Ready (now doc) (now table) first stop last) × (Blank (now table) first last) ⌝ }
+    ensures { λ r. ⌜ (now (table .exit) ≡ now (table .entry)) × (Joined (now (doc .entry)) (now (table .entry)) first stop r) ⌝ }
+{
+    let even = half(doc, table, first, stop, last, 0);
+    let odd = half(doc, table, first, stop, last, 1);
+    lesser(even, odd)
+}
+
+// The record where the cells end: two cells for each of n records, or those that are there.
+fn reach(first: usize, stop: usize, n: usize) -> usize
+    requires { ⌜ first ≤ stop ⌝ }
+    ensures { λ r. ⌜ (first ≤ r) × (r ≤ stop) ⌝ }
+{
+    if (stop - first) / 2 <= n {
+        stop
+    } else {
+        first + 2 * n
+    }
+}
+
+// The same, where the cells are there and free.
+fn scattered(doc: &[u8], table: &mut [u32], first: usize, stop: usize, n: usize) -> Sought
+    requires { ⌜ Family (now doc) (now table) first stop ⌝ }
+    ensures { λ r. ⌜ (now (table .exit) ≡ now (table .entry)) × (Joined (now (doc .entry)) (now (table .entry)) first stop r) ⌝ }
+{
+    if first == 0 {
+        return Sought::Unknown;
+    }
+    if stop < first {
+        return Sought::Unknown;
+    }
+    let last = reach(first, stop, n);
+    if last - first < 32 {
+        return Sought::Unknown;
+    }
+    if table.len() / 8 < last {
+        return Sought::Unknown;
+    }
+    if blank(table, first, last) {
+        hashed(doc, table, first, stop, last)
+    } else {
+        Sought::Unknown
+    }
+}
+
+// The least of n records that has an earlier twin, or `stop`, by sorting.
+fn sorted(doc: &[u8], table: &mut [u32], first: usize, stop: usize, n: usize) -> usize
+    requires { ⌜ (Family (now doc) (now table) first stop) × (n ≡ length (siblings (now table) stop stop first)) × (0 < n) ⌝ }
+    ensures { λ r. ⌜ (now (table .exit) ≡ now (table .entry)) × (Least (now (doc .entry)) (now (table .entry)) (λ z. Mem z (siblings (now (table .entry)) stop stop first)) stop r) ⌝ }
+{
+    let run = sort(doc, table, first, n, true);
+    unlink(doc, table, run.head, n, stop)
+}
+
+// Whether the name of record i comes before that of the next, if there is a next one.
+fn climbs(doc: &[u8], table: &[u32], i: usize, next: usize, stop: usize) -> bool
+    requires { ⌜ (Fit (now doc) (now table) i) × (next < stop → Fit (now doc) (now table) next) ⌝ }
+    ensures { λ r. ⌜ Climbs (num (nameOf (now (doc .entry)) (now (table .entry)) i)) (num (nameOf (now (doc .entry)) (now (table .entry)) next)) next stop r ⌝ }
+{
+    if stop <= next {
+        return true;
+    }
+    match names(doc, table, i, next) {
+        Order::Less => true,
+        Order::Same => false,
+        Order::More => false,
+    }
+}
+
+// Whether the names rise from each record to the next, so that no two are the same.
+fn rising(doc: &[u8], table: &[u32], first: usize, stop: usize) -> bool
+    requires { ⌜ Family (now doc) (now table) first stop ⌝ }
+    ensures { λ r. ⌜ Rises (now (doc .entry)) (now (table .entry)) first stop r ⌝ }
+{
+    let mut i = first;
+    while i < stop {
+        let next = table::word(table, i, table::END);
+        if climbs(doc, table, i, next, stop) {
+            i = next;
+        } else {
+            return false;
+        }
+    }
+    true
+}
+
+// The least of many records that has an earlier twin, or `stop`.
+fn many(doc: &[u8], table: &mut [u32], first: usize, stop: usize, n: usize) -> usize
+    requires { ⌜ (Family (now doc) (now table) first stop) × (n ≡ length (siblings (now table) stop stop first)) × (0 < n) ⌝ }
+    ensures { λ r. ⌜ (now (table .exit) ≡ now (table .entry)) × (Least (now (doc .entry)) (now (table .entry)) (λ z. Mem z (siblings (now (table .entry)) stop stop first)) stop r) ⌝ }
+{
+    if rising(doc, table, first, stop) {
+        return stop;
+    }
+    match scattered(doc, table, first, stop, n) {
+        Sought::At(low) => low,
+        Sought::Nothing => stop,
+        Sought::Unknown => sorted(doc, table, first, stop, n),
+    }
+}
+
 // The first of the records side by side, from record `first` up to `stop`, whose name an earlier one has.
 pub fn first_repeat(doc: &[u8], table: &mut [u32], first: usize, stop: usize) -> Found
     requires { ⌜ Family (now doc) (now table) first stop ⌝ }
@@ -294,8 +691,7 @@ pub fn first_repeat(doc: &[u8], table: &mut [u32], first: usize, stop: usize) ->
     if n < 17 {
         return below(plain(doc, table, first, stop), stop);
     }
-    let run = sort(doc, table, first, n, true);
-    below(unlink(doc, table, run.head, n, stop), stop)
+    below(many(doc, table, first, stop, n), stop)
 }
 
 // Three less, or 0.
@@ -312,25 +708,9 @@ pub fn repeat_place(doc: &[u8], table: &mut [u32], first: usize, stop: usize) ->
     ensures { λ r. ⌜ now (table .exit) ≡ now (table .entry) ⌝ }
 {
     match first_repeat(doc, table, first, stop) {
-        Found::At(k) => Found::At(back(wide(table[8 * k + 1]))),
+        Found::At(k) => Found::At(back(table::word(table, k, table::NAME))),
         Found::Nothing => Found::Nothing,
     }
-}
-
-// Whether the n bytes at a are those at b.
-fn same_bytes(doc: &[u8], a: usize, b: usize, n: usize) -> bool
-    requires { ⌜ (a + n ≤ length (now doc)) × (b + n ≤ length (now doc)) ⌝ }
-    ensures { λ r. ⌜ r ≡ same (part (now (doc .entry)) a n) (part (now (doc .entry)) b n) ⌝ }
-{
-    let mut i: usize = 0;
-    while i < n {
-        if doc[a + i] == doc[b + i] {
-            i += 1;
-        } else {
-            return false;
-        }
-    }
-    true
 }
 
 // Whether two spans hold the same bytes.
@@ -338,10 +718,10 @@ fn same_name(doc: &[u8], a: usize, n: usize, b: usize, m: usize) -> bool
     requires { ⌜ (a + n ≤ length (now doc)) × (b + m ≤ length (now doc)) ⌝ }
     ensures { λ r. ⌜ r ≡ same (part (now (doc .entry)) a n) (part (now (doc .entry)) b m) ⌝ }
 {
-    if n == m {
-        same_bytes(doc, a, b, n)
-    } else {
-        false
+    match spans(doc, a, n, b, m) {
+        Order::Less => false,
+        Order::Same => true,
+        Order::More => false,
     }
 }
 
@@ -352,11 +732,12 @@ pub fn has_name(doc: &[u8], table: &[u32], from: usize, to: usize, start: usize,
 {
     let mut i = from;
     while i < to {
-        let at = 8 * i;
-        if same_name(doc, wide(table[at + 1]), wide(table[at + 2]), start, len) {
+        let name = table::word(table, i, table::NAME);
+        let name_len = table::word(table, i, table::NAME_LENGTH);
+        if same_name(doc, name, name_len, start, len) {
             return true;
         }
-        i = wide(table[at + 7]);
+        i = table::word(table, i, table::END);
     }
     false
 }

@@ -3,7 +3,7 @@
 use Prim.Native.Nat.{ℕ, _<_, _≤_, _+_, _*_, _-_, _/_}
 use lib.ListN.{length}
 use mathlib.Core.Bool.{not}
-use mathlib.Core.Path.{_≡_, subst}
+use mathlib.Core.Path.{_≡_, refl, subst}
 use borrow.Author.Needs.{needs}
 use borrow.Fn.Kinds.{In, Out}
 use borrow.Fn.PlainCycle.{Measures, is, falls, and}
@@ -17,7 +17,7 @@ use Rattle.siblings.proofs.sort.Reads as sort
 use Rattle.siblings.proofs.sort.Kinds as sort-kinds
 use Rattle.siblings.proofs.+sort.Lts-sort as lts
 use Rattle.siblings.proofs.merge.Reads as merge-reads
-use Rattle.siblings.proofs.wide.Reads as wide-reads
+use Rattle.table.proofs.word.Reads as word-reads
 use Rattle.siblings.proofs.+sort.{statement}
 use Rattle.siblings.proofs.+sort.Tie.{close}
 
@@ -31,7 +31,7 @@ abbrev sort-below : ℕ → In 2 sort-kinds.ps
 sort-below t = and 2 sort-kinds.ps (falls 2 sort-kinds.ps _<_ μ-sort t) sort.Pre
 
 abbrev On : ℕ → (lts.Claims → In 2 sort-kinds.ps → Out 2 sort-kinds.ps sort-kinds.r → Type 0) → Type 0
-On t F = F (wide-reads.Asked, wide-reads.Learnt, sort-below t, sort.Post, merge-reads.Asked, merge-reads.Learnt) (sort-at t) sort.Post
+On t F = F (word-reads.Asked, word-reads.Learnt, sort-below t, sort.Post, merge-reads.Asked, merge-reads.Learnt) (sort-at t) sort.Post
 
 module _ (t : ℕ) where
   room : (c : On t lts.Then1) → 8 * c .before .before .before .args .at + 8 ≤ length (c .before .before .before .args .table .now)
@@ -39,22 +39,13 @@ module _ (t : ℕ) where
       let s = c .before .before .before in
       s .pre .1 .fit (s .args .at) (walk-first _ (s .args .at) (s .args .n) (s .pre .1 .some)) .room
 
-  mul-wide : On t lts.Need-mul-wide
-  mul-wide c = omega (arith, room c)
-
-  add-wide : On t lts.Need-add-wide
-  add-wide c = omega (arith, room c)
-
-  mul-wide-2 : On t lts.Need-mul-wide-2
-  mul-wide-2 c = omega (arith, room c)
-
-  slice-read-wide : On t lts.Need-slice-read-wide
-  slice-read-wide c = omega (arith, room (c .before))
+  word-requires : On t lts.Need-word-requires
+  word-requires c κs = (room (c .before), omega arith)
 
   returns : On t lts.Need-returns
   returns c =
       let s = c .before .before .before .before .before in
-      sorts-one (s .args .doc .now) (s .args .table .now) (s .args .at) (s .args .n) (s .args .up) (c .wide .result) (c .before .before .if1 .taken) (c .wide .ensures)
+      sorts-one (s .args .doc .now) (s .args .table .now) (s .args .at) (s .args .n) (s .args .up) (c .word .result) (c .before .before .if1 .taken) (c .word .ensures)
 
   low : (c : On t lts.Else1) → (0 < c .before .before .before .args .n / 2) × (c .before .before .before .args .n / 2 < c .before .before .before .args .n)
   low c = let s = c .before .before .before in (omega (arith, c .if1 .left, s .pre .1 .some), omega (arith, c .if1 .left, s .pre .1 .some))
@@ -94,7 +85,7 @@ module _ (t : ℕ) where
       (l .sort .last .1 .0) (l .sort .result .head) (l .sort .result .next) (l .sort .ensures)
       (r .sort2 .last .1 .0) (r .sort2 .result .head) (r .sort2 .result .next) (r .sort2 .ensures)
 
-  done : (c : On t lts.After-slice-known5) →
+  done : (c : On t lts.After-slice-known4) →
       let m = c .before .before in
       let r = m .before .before .before .before in
       let s = r .before .before .before .before .before .before .before .before .before in
@@ -112,7 +103,7 @@ module _ (t : ℕ) where
       (r .sort2 .last .1 .0) (r .sort2 .result .head) (r .sort2 .result .next) (r .sort2 .ensures)
       (m .merge .last .1 .0) (m .merge .result) (m .merge .ensures))
 
-  same-length : On t lts.Need-same-length
+  same-length : On t lts.Need-same-length-2
   same-length c = done c .lists .agree .len
 
   returns-2 : On t lts.Need-returns-2
@@ -121,12 +112,9 @@ module _ (t : ℕ) where
 pub +sort-spec : {M : Type 1} → statement M
 +sort-spec =
     close μ-sort λ t.
-    lts.spec (wide-reads.Asked, wide-reads.Learnt, sort-below t, sort.Post, merge-reads.Asked, merge-reads.Learnt) (sort-at t) sort.Post
-    (mul-wide t)
-    (add-wide t)
-    (mul-wide-2 t)
-    (slice-read-wide t)
-    (λ c κs. tt)
+    lts.spec (word-reads.Asked, word-reads.Learnt, sort-below t, sort.Post, merge-reads.Asked, merge-reads.Learnt) (sort-at t) sort.Post
+    (word-requires t)
+    (λ c. refl)
     (returns t)
     (sort-requires t)
     (sub-sort t)

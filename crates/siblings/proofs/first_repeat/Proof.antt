@@ -1,17 +1,32 @@
--- `siblings::first_repeat` meets its contract: a few records are compared each with those before it; more are counted, sorted as a list, and compared
--- one with the next while the links are undone.
+-- `siblings::first_repeat` meets its contract: a few records are compared each with those before it; of more the least that has an earlier twin is sought.
 -- Assumes nothing.
-use borrow.Author.Needs.{needs}
 use native.Mathlib.Omega.{arith}
-use mathlib.Core.Path.{_≡_, refl, _∙_}
-use Rattle.siblings.proofs.Answers.{family-answer, family-row, family-chain, family-table, family-least}
+use mathlib.Core.Path.{_≡_, refl, ap, _∙_}
+use lib.ListN.{length}
+use borrow.Author.Needs.{needs}
+use Rattle.siblings.proofs.Answers.{family-answer}
 use Rattle.siblings.proofs.first_repeat.Statement.{statement}
 use Rattle.siblings.proofs.first_repeat.Tie as tie
+use Rattle.siblings.proofs.first_repeat.Reads as reads
+use Rattle.siblings.proofs.first_repeat.Lts as lts
+use Rattle.siblings.proofs.below.Reads as below-reads
+use Rattle.siblings.proofs.count.Reads as count-reads
+use Rattle.siblings.proofs.many.Reads as many-reads
+use Rattle.siblings.proofs.plain.Reads as plain-reads
 
 count-requires : tie.Need-count-requires
 count-requires c κs =
     let p = c .before .before .before .pre in
     (λ z m. (p .fit z m .room, p .on z m), p .small)
+
+plain-requires : tie.Need-plain-requires
+plain-requires c κs = search needs
+
+below-requires : tie.Need-below-requires
+below-requires c κs = search needs
+
+same-length : tie.Need-same-length
+same-length c = search needs
 
 returns : tie.Need-returns
 returns c =
@@ -22,31 +37,25 @@ returns c =
       refl,
     )
 
-sort-requires : tie.Need-sort-requires
-sort-requires c κs =
+many-requires : tie.Need-many-requires
+many-requires c κs =
     let e = c .before in
     let n = e .before in
-    family-row _ _ _ _ (n .before .before .before .before .pre) _ (n .count .ensures) (λ q. omega (arith, q, e .if1 .left))
+    (n .before .before .before .before .pre, n .count .ensures, omega (arith, e .if1 .left))
 
-unlink-requires : tie.Need-unlink-requires
-unlink-requires c κs =
-    let s = c .before .before .before in
-    let e = s .before .before in
-    let n = e .before in
-    family-chain _ _ _ _ (n .before .before .before .before .pre) _ (n .count .ensures) (λ q. omega (arith, q, e .if1 .left)) _ _ _ (s .sort .ensures)
+below-requires-2 : tie.Need-below-requires-2
+below-requires-2 c κs = search needs
+
+same-length-2 : tie.Need-same-length-2
+same-length-2 c = ap length (c .before .before .before .many .ensures .0)
 
 returns-2 : tie.Need-returns-2
 returns-2 c =
-    let u = c .before .before .before in
-    let s = u .before .before .before .before in
-    let e = s .before .before in
-    let n = e .before in
-    let k = n .before .before .before in
-    let f = k .before .pre in (
-      c .below2 .ensures
-          ∙ family-answer _ _ _ _ f (λ i. omega (arith, k .shared-slice-known .given i)) _
-          (family-least _ _ _ _ f _ (n .count .ensures) (λ q. omega (arith, q, e .if1 .left)) _ _ _ (s .sort .ensures) _ _ (u .unlink .ensures)),
-      family-table _ _ _ _ f _ (n .count .ensures) (λ q. omega (arith, q, e .if1 .left)) _ _ _ (s .sort .ensures) _ _ (u .unlink .ensures),
+    let m = c .before .before .before in
+    let n = m .before .before .before in
+    let k = n .before .before .before in (
+      c .below2 .ensures ∙ family-answer _ _ _ _ (k .before .pre) (λ i. omega (arith, k .shared-slice-known .given i)) _ (m .many .ensures .1),
+      m .many .ensures .0,
     )
 
 pub first-repeat-spec : {M : Type 1} → statement M
@@ -54,12 +63,11 @@ first-repeat-spec =
     tie.close
     (tie.spec
     count-requires
-    (λ c κs. search needs)
-    (λ c κs. search needs)
-    (λ c. search needs)
+    plain-requires
+    below-requires
+    same-length
     returns
-    sort-requires
-    unlink-requires
-    (λ c κs. search needs)
-    (λ c. search needs)
+    many-requires
+    below-requires-2
+    same-length-2
     returns-2)

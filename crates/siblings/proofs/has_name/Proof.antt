@@ -20,30 +20,30 @@ abbrev μ-loop : tie.MeasureT-loop
 
 -- what the comparison says of the table's words
 told : (c : tie.After-same-name Inv-loop μ-loop) →
-    let l = c .before .before .before .before .before .before in
+    let l = c .before .before .before .before in
     let a = l .before .before .before .args in
     same (part (a .doc .now) (getD (a .table .now) (8 * l .loop .i + 1) 0) (getD (a .table .now) (8 * l .loop .i + 2) 0)) (part (a .doc .now) (a .start) (a .len)) ≡ c .same-name .result
-told c = sym (rw (c .before .before .before .wide .ensures, c .before .wide2 .ensures) at (c .same-name .ensures))
+told c = sym (rw (c .before .before .word .ensures, c .before .word2 .ensures) at (c .same-name .ensures))
 
 same-name-requires : tie.Need-same-name-requires Inv-loop μ-loop
 same-name-requires c κs =
-    let n = c .before .before .before .before in
-    (omega (arith, seek-within (n .before .loop .inv) (n .loop-test .taken), c .before .before .wide .ensures, c .wide2 .ensures), n .before .before .before .before .pre .2)
+    let n = c .before .before in
+    (omega (arith, seek-within (n .before .loop .inv) (n .loop-test .taken), c .before .word .ensures, c .word2 .ensures), n .before .before .before .before .pre .2)
 
 returns : tie.Need-returns Inv-loop μ-loop
 returns c =
-    let n = c .before .before .before .before .before .before in
+    let n = c .before .before .before .before in
     sym (seek-hit (n .before .loop .inv) (n .loop-test .taken) (told (c .before) ∙ c .if1 .taken))
 
 loop-less : tie.Need-loop-less Inv-loop μ-loop
 loop-less c =
-    let n = c .before .before .before .before .before .before .before .before in
-    omega (arith, c .wide3 .ensures, seek-on (n .before .loop .inv) (n .loop-test .taken), n .loop-test .taken)
+    let n = c .before .before .before .before .before in
+    omega (arith, c .word3 .ensures, seek-on (n .before .loop .inv) (n .loop-test .taken), n .loop-test .taken)
 
 loop-again : tie.Need-loop-again Inv-loop μ-loop
 loop-again c =
-    let n = c .before .before .before .before .before .before .before .before in
-    rw (c .wide3 .ensures) (seek-next (n .before .loop .inv) (n .loop-test .taken) (told (c .before .before .before) ∙ c .before .before .if1 .left))
+    let n = c .before .before .before .before .before in
+    rw (c .word3 .ensures) (seek-next (n .before .loop .inv) (n .loop-test .taken) (told (c .before .before) ∙ c .before .if1 .left))
 
 returns-2 : tie.Need-returns-2 Inv-loop μ-loop
 returns-2 c = sym (seek-end (c .before .loop .inv) (c .loop-test .left))
@@ -55,21 +55,11 @@ has-name-spec =
     Inv-loop
     μ-loop
     (λ c. seek-start _ _ _ _ _ (c .before .before .pre .0))
-    (λ c. omega arith)
-    (λ c. omega arith)
-    (λ c. omega arith)
-    (λ c. omega arith)
-    (λ c κs. tt)
-    (λ c. omega arith)
-    (λ c. omega arith)
-    (λ c. omega arith)
-    (λ c κs. tt)
+    (λ c κs. (omega arith, omega arith))
+    (λ c κs. (omega arith, omega arith))
     same-name-requires
     returns
-    (λ c. omega arith)
-    (λ c. omega arith)
-    (λ c. omega arith)
-    (λ c κs. tt)
+    (λ c κs. (omega arith, omega arith))
     loop-less
     loop-again
     returns-2)

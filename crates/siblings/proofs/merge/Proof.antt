@@ -16,15 +16,12 @@ Inv-loop doc table₀ a na b nb up x₀ y₀ p₀ q₀ acc₀ table x y p q acc 
 abbrev μ-loop : tie.MeasureT-loop
 μ-loop doc table₀ a na b nb up x₀ y₀ p₀ q₀ acc₀ table x y p q acc = p + q
 
--- src/lib.rt:145:5
 loop-holds : tie.Need-loop-holds Inv-loop μ-loop
 loop-holds c = merging-start _ _ _ _ _ _ _ (c .before .before .pre)
 
--- src/lib.rt:145:15
 add-loop : tie.Need-add-loop Inv-loop μ-loop
 add-loop c = omega (arith, c .loop .inv .le, c .before .before .before .pre .few)
 
--- src/lib.rt:146:12
 pick-requires : tie.Need-pick-requires Inv-loop μ-loop
 pick-requires c κs =
     let l = c .before .before in
@@ -34,7 +31,6 @@ pick-requires c κs =
       λ h. merging-fit _ _ _ _ _ (s .pre .fit) _ _ _ _ _ _ (merging-swap (l .loop .inv)) h,
     )
 
--- src/lib.rt:147:17
 relink-requires : tie.Need-relink-requires Inv-loop μ-loop
 relink-requires c κs =
     let k = c .before .before in
@@ -43,21 +39,18 @@ relink-requires c κs =
     let h = rw (c .before .if1 .taken) at (k .pick .ensures) in
     (merging-fit _ _ _ _ _ (s .pre .fit) _ _ _ _ _ _ (l .loop .inv) (h .0) .room, l .loop .inv .small)
 
--- src/lib.rt:150:13
 sub-p : tie.Need-sub-p Inv-loop μ-loop
 sub-p c =
     let e = c .before .before .before .before in
     let h = rw (e .if1 .taken) at (e .before .pick .ensures) in
     omega (arith, h .0)
 
--- src/lib.rt:145:5
 loop-less : tie.Need-loop-less Inv-loop μ-loop
 loop-less c =
     let e = c .before .before .before .before in
     let h = rw (e .if1 .taken) at (e .before .pick .ensures) in
     omega (arith, h .0)
 
--- src/lib.rt:145:5
 loop-again : tie.Need-loop-again Inv-loop μ-loop
 loop-again c =
     let r = c .before .before in
@@ -68,7 +61,6 @@ loop-again c =
     let h = rw (e .if1 .taken) at (k .pick .ensures) in
     merging-one _ _ _ _ _ (s .pre .fit) _ _ _ _ _ _ _ _ (l .loop .inv) (h .0) (h .1) (r .relink .ensures .0) (r .relink .ensures .1)
 
--- src/lib.rt:152:17
 relink-requires-2 : tie.Need-relink-requires-2 Inv-loop μ-loop
 relink-requires-2 c κs =
     let k = c .before .before in
@@ -77,21 +69,18 @@ relink-requires-2 c κs =
     let h = rw (c .before .if1 .left) at (k .pick .ensures) in
     (merging-fit _ _ _ _ _ (s .pre .fit) _ _ _ _ _ _ (merging-swap (l .loop .inv)) (h .0) .room, l .loop .inv .small)
 
--- src/lib.rt:155:13
 sub-q : tie.Need-sub-q Inv-loop μ-loop
 sub-q c =
     let e = c .before .before .before .before in
     let h = rw (e .if1 .left) at (e .before .pick .ensures) in
     omega (arith, h .0)
 
--- src/lib.rt:145:5
 loop-less-2 : tie.Need-loop-less-2 Inv-loop μ-loop
 loop-less-2 c =
     let e = c .before .before .before .before in
     let h = rw (e .if1 .left) at (e .before .pick .ensures) in
     omega (arith, h .0)
 
--- src/lib.rt:145:5
 loop-again-2 : tie.Need-loop-again-2 Inv-loop μ-loop
 loop-again-2 c =
     let r = c .before .before in
@@ -102,11 +91,9 @@ loop-again-2 c =
     let h = rw (e .if1 .left) at (k .pick .ensures) in
     merging-two _ _ _ _ _ (s .pre .fit) _ _ _ _ _ _ _ _ (l .loop .inv) (h .0) (h .1) (r .relink2 .ensures .0) (r .relink2 .ensures .1)
 
--- src/lib.rt:136:1
 same-length : tie.Need-same-length Inv-loop μ-loop
 same-length c = c .before .loop .inv .agree .len
 
--- src/lib.rt:136:1
 returns : tie.Need-returns Inv-loop μ-loop
 returns c =
     let l = c .before in

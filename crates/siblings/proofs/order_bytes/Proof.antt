@@ -1,17 +1,18 @@
 -- `siblings::order_bytes` meets its contract: what is left differs by as much.
 -- Assumes nothing.
-use borrow.Author.Needs.{needs}
 use native.Mathlib.Omega.{arith}
 use Prim.Native.Nat.{ℕ, _+_, _-_, _≤_, _<_}
-use mathlib.Core.Path.{_≡_, sym, _∙_}
-use lib.ListN.{getD, length}
+use mathlib.Core.Path.{_≡_}
 use Rattle.form.specs.Spans.{part}
 use Rattle.siblings.specs.Links.{be}
-use Rattle.siblings.proofs.Numbers.{start-same, stop-same, step-less, step-same}
+use Rattle.siblings.proofs.Numbers.{start-same, eight-less, eight-same}
+use Rattle.siblings.proofs.Orders.{ordered-rest}
 use Rattle.siblings.proofs.order_bytes.Statement.{statement}
 use Rattle.siblings.proofs.order_bytes.Tie as tie
 use Rattle.siblings.proofs.order_bytes.Reads as reads
 use Rattle.siblings.proofs.order_bytes.Lts as lts
+use Rattle.siblings.proofs.eight.Reads as eight-reads
+use Rattle.siblings.proofs.order_rest.Reads as order-rest-reads
 
 abbrev Inv-loop : tie.InvT-loop
 Inv-loop doc a b n i₀ i = (i ≤ n) × (be (part doc a n) + be (part doc (b + i) (n - i)) ≡ be (part doc b n) + be (part doc (a + i) (n - i)))
@@ -19,75 +20,85 @@ Inv-loop doc a b n i₀ i = (i ≤ n) × (be (part doc a n) + be (part doc (b + 
 abbrev μ-loop : tie.MeasureT-loop
 μ-loop doc a b n i₀ i = n - i
 
--- src/lib.rt:37:5
 loop-holds : tie.Need-loop-holds Inv-loop μ-loop
-loop-holds c = (omega arith, start-same (c .args .doc .now) (c .args .a) (c .args .b) (c .args .n))
+loop-holds c = let s = c .before .args in (omega arith, start-same (s .doc .now) (s .a) (s .b) (s .n))
 
--- src/lib.rt:38:21
-add-x : tie.Need-add-x Inv-loop μ-loop
-add-x c = omega arith
+sub-loop : tie.Need-sub-loop Inv-loop μ-loop
+sub-loop c = omega arith
 
--- src/lib.rt:38:17
-shared-slice-read-x : tie.Need-shared-slice-read-x Inv-loop μ-loop
-shared-slice-read-x c = omega arith
+add-eight : tie.Need-add-eight Inv-loop μ-loop
+add-eight c = omega arith
 
--- src/lib.rt:39:21
-add-y : tie.Need-add-y Inv-loop μ-loop
-add-y c = omega arith
+eight-requires : tie.Need-eight-requires Inv-loop μ-loop
+eight-requires c κs = omega arith
 
--- src/lib.rt:39:17
-shared-slice-read-y : tie.Need-shared-slice-read-y Inv-loop μ-loop
-shared-slice-read-y c = omega arith
+add-eight-2 : tie.Need-add-eight-2 Inv-loop μ-loop
+add-eight-2 c = omega arith
 
--- src/lib.rt:41:13
+eight-requires-2 : tie.Need-eight-requires-2 Inv-loop μ-loop
+eight-requires-2 c κs = omega arith
+
 returns : tie.Need-returns Inv-loop μ-loop
 returns c =
-    let l = c .before .before .before in
-    let a = l .before .before .args in
-    let p = l .before .before .pre in
+    let e = c .before in
+    let l = e .before .before in
+    let k = l .before .before in
+    let a = k .before .args in
+    let p = k .before .pre in
     omega (
       arith,
-      step-less (a .doc .now) (λ j. omega (arith, c .before .before .shared-slice-known .given j)) (a .a) (a .b) (a .n) (l .before .loop .i) (l .loop-test .taken) (p .0) (p .1) (c .if1 .taken),
+      eight-less (a .doc .now) (λ j. omega (arith, k .shared-slice-known .given j)) (a .a) (a .b) (a .n) (l .before .loop .i) (l .loop-test .taken) (p .0) (p .1)
+          (omega (arith, c .if1 .taken, e .eight2 .ensures, e .before .eight .ensures)),
       l .before .loop .inv .1,
     )
 
--- src/lib.rt:44:13
 returns-2 : tie.Need-returns-2 Inv-loop μ-loop
 returns-2 c =
-    let l = c .before .before .before .before in
-    let a = l .before .before .args in
-    let p = l .before .before .pre in
+    let e = c .before .before in
+    let l = e .before .before in
+    let k = l .before .before in
+    let a = k .before .args in
+    let p = k .before .pre in
     omega (
       arith,
-      step-less (a .doc .now) (λ j. omega (arith, c .before .before .before .shared-slice-known .given j)) (a .b) (a .a) (a .n) (l .before .loop .i) (l .loop-test .taken) (p .1) (p .0) (c .if2 .taken),
+      eight-less (a .doc .now) (λ j. omega (arith, k .shared-slice-known .given j)) (a .b) (a .a) (a .n) (l .before .loop .i) (l .loop-test .taken) (p .1) (p .0)
+          (omega (arith, c .if2 .taken, e .eight2 .ensures, e .before .eight .ensures)),
       l .before .loop .inv .1,
     )
 
--- src/lib.rt:46:9
 add-i : tie.Need-add-i Inv-loop μ-loop
 add-i c = omega arith
 
--- src/lib.rt:37:5
 loop-less : tie.Need-loop-less Inv-loop μ-loop
 loop-less c = omega arith
 
--- src/lib.rt:37:5
 loop-again : tie.Need-loop-again Inv-loop μ-loop
 loop-again c =
-    let l = c .before .before .before .before in
-    let a = l .before .before .args in
-    let p = l .before .before .pre in (
-      omega arith,
-      step-same (a .doc .now) (λ j. omega (arith, c .before .before .before .shared-slice-known .given j)) (a .a) (a .b) (a .n) (l .before .loop .i) (l .loop-test .taken) (p .0) (p .1)
-          (be (part (a .doc .now) (a .a) (a .n))) (be (part (a .doc .now) (a .b) (a .n))) (omega (arith, c .before .if1 .left, c .if2 .left)) (l .before .loop .inv .1),
+    let e = c .before .before in
+    let l = e .before .before in
+    let k = l .before .before in
+    let a = k .before .args in
+    let p = k .before .pre in (
+      omega (arith, l .loop-test .taken),
+      eight-same (a .doc .now) (λ j. omega (arith, k .shared-slice-known .given j)) (a .a) (a .b) (a .n) (l .before .loop .i) (l .loop-test .taken) (p .0) (p .1)
+          (be (part (a .doc .now) (a .a) (a .n))) (be (part (a .doc .now) (a .b) (a .n)))
+          (omega (arith, c .before .if1 .left, c .if2 .left, e .eight2 .ensures, e .before .eight .ensures)) (l .before .loop .inv .1),
     )
 
--- src/lib.rt:32:1
+add-order-rest : tie.Need-add-order-rest Inv-loop μ-loop
+add-order-rest c = omega arith
+
+add-order-rest-2 : tie.Need-add-order-rest-2 Inv-loop μ-loop
+add-order-rest-2 c = omega arith
+
+sub-order-rest : tie.Need-sub-order-rest Inv-loop μ-loop
+sub-order-rest c = omega arith
+
+order-rest-requires : tie.Need-order-rest-requires Inv-loop μ-loop
+order-rest-requires c κs = (omega arith, omega arith)
+
 returns-3 : tie.Need-returns-3 Inv-loop μ-loop
-returns-3 c =
-    let l = c .before .loop in
-    let a = c .before .before .args in
-    stop-same (a .doc .now) (a .a) (a .b) (a .n) (l .i) _ _ (c .loop-test .left) (l .inv .1)
+returns-3 c = ordered-rest _ _ _ _ (c .order-rest .result) (c .before .before .loop .inv .1) (c .order-rest .ensures)
 
 pub order-bytes-spec : {M : Type 1} → statement M
 order-bytes-spec =
@@ -96,13 +107,18 @@ order-bytes-spec =
     Inv-loop
     μ-loop
     loop-holds
-    add-x
-    shared-slice-read-x
-    add-y
-    shared-slice-read-y
+    sub-loop
+    add-eight
+    eight-requires
+    add-eight-2
+    eight-requires-2
     returns
     returns-2
     add-i
     loop-less
     loop-again
+    add-order-rest
+    add-order-rest-2
+    sub-order-rest
+    order-rest-requires
     returns-3)

@@ -8,33 +8,27 @@ use Rattle.siblings.proofs.pick.Reads as reads
 use Rattle.siblings.proofs.pick.Lts as lts
 use Rattle.siblings.proofs.sooner.Reads as sooner-reads
 
--- src/lib.rt:97:9
 returns : tie.Need-returns
 returns c = (omega arith, λ l. absurd (omega arith))
 
--- src/lib.rt:100:9
 returns-2 : tie.Need-returns-2
 returns-2 c = (omega arith, λ l. absurd (omega arith))
 
--- src/lib.rt:103:9
 sooner-requires : tie.Need-sooner-requires
 sooner-requires c κs =
     let s = c .before .before .before .before .before in
     (s .pre .1 (omega (arith, c .before .if2 .left)), s .pre .2 (omega (arith, c .before .before .if1 .left)))
 
--- src/lib.rt:105:9
 sooner-requires-2 : tie.Need-sooner-requires-2
 sooner-requires-2 c κs =
     let s = c .before .before .before .before .before in
     (s .pre .2 (omega (arith, c .before .before .if1 .left)), s .pre .1 (omega (arith, c .before .if2 .left)))
 
--- src/lib.rt:92:1
 returns-3 : tie.Need-returns-3
 returns-3 c =
     let e = c .before .before in
     picked-up _ _ _ _ (omega (arith, e .if2 .left)) (omega (arith, e .before .if1 .left)) _ (c .before .if3 .taken) (c .sooner .result) (c .sooner .ensures)
 
--- src/lib.rt:92:1
 returns-4 : tie.Need-returns-4
 returns-4 c =
     let e = c .before .before in

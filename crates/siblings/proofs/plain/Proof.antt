@@ -10,7 +10,6 @@ use Rattle.siblings.proofs.plain.Tie as tie
 use Rattle.siblings.proofs.plain.Reads as reads
 use Rattle.siblings.proofs.plain.Lts as lts
 use Rattle.siblings.proofs.taken.Reads as taken-reads
-use Rattle.siblings.proofs.wide.Reads as wide-reads
 
 abbrev Inv-loop : tie.InvT-loop
 Inv-loop doc table first stop i₀ i = (f : Family doc table first stop) × Trying doc table first stop f i
@@ -24,62 +23,39 @@ room c =
     let l = i .before .loop .inv in
     l .0 .fit _ (trying-in _ _ _ _ (l .0) _ (l .1) (i .loop-test .taken)) .room
 
--- src/lib.rt:259:5
 loop-holds : tie.Need-loop-holds Inv-loop μ-loop
 loop-holds c = let f = c .before .before .pre in (f, trying-start _ _ _ _ f)
 
--- src/lib.rt:260:12
 taken-requires : tie.Need-taken-requires Inv-loop μ-loop
 taken-requires c κs =
     let l = c .before .loop .inv in
     (l .0, trying-in _ _ _ _ (l .0) _ (l .1) (c .loop-test .taken))
 
--- src/lib.rt:261:13
 returns : tie.Need-returns Inv-loop μ-loop
 returns c =
     let l = c .before .before .before .loop .inv in
     trying-hit _ _ _ _ (l .0) _ (l .1) (rw (c .if1 .taken) at (c .before .taken .ensures))
 
--- src/lib.rt:263:24
-mul-wide : tie.Need-mul-wide Inv-loop μ-loop
-mul-wide c = omega (arith, room c)
-
--- src/lib.rt:263:24
-add-wide : tie.Need-add-wide Inv-loop μ-loop
-add-wide c = omega (arith, room c)
-
--- src/lib.rt:263:18
-mul-wide-2 : tie.Need-mul-wide-2 Inv-loop μ-loop
-mul-wide-2 c = omega (arith, room c)
-
--- src/lib.rt:263:18
-shared-slice-read-wide : tie.Need-shared-slice-read-wide Inv-loop μ-loop
-shared-slice-read-wide c = omega (arith, room (c .before))
-
--- src/lib.rt:263:9
-wide-requires : tie.Need-wide-requires Inv-loop μ-loop
-wide-requires c κs = tt
-
--- src/lib.rt:259:5
 loop-less : tie.Need-loop-less Inv-loop μ-loop
 loop-less c =
-    let i = c .before .before .before .before in
+    let i = c .before .before .before in
     let l = i .before .loop .inv in
-    omega (arith, c .wide .ensures, trying-on _ _ _ _ (l .0) _ (l .1) (i .loop-test .taken), i .loop-test .taken)
+    omega (arith, c .word .ensures, trying-on _ _ _ _ (l .0) _ (l .1) (i .loop-test .taken), i .loop-test .taken)
 
--- src/lib.rt:259:5
 loop-again : tie.Need-loop-again Inv-loop μ-loop
 loop-again c =
-    let e = c .before .before in
+    let e = c .before in
     let i = e .before .before in
     let l = i .before .loop .inv in
-    (l .0, trying-next _ _ _ _ (l .0) _ (l .1) (i .loop-test .taken) (rw (e .if1 .left) at (e .before .taken .ensures)) _ (c .wide .ensures))
+    (l .0, trying-next _ _ _ _ (l .0) _ (l .1) (i .loop-test .taken) (rw (e .if1 .left) at (e .before .taken .ensures)) _ (c .word .ensures))
 
--- src/lib.rt:254:1
 returns-2 : tie.Need-returns-2 Inv-loop μ-loop
 returns-2 c =
     let l = c .before .loop .inv in
     trying-end _ _ _ _ (l .0) _ (l .1) (c .loop-test .left)
+
+word-requires : tie.Need-word-requires Inv-loop μ-loop
+word-requires c κs = (room c, omega arith)
 
 pub plain-spec : {M : Type 1} → statement M
 plain-spec =
@@ -90,11 +66,7 @@ plain-spec =
     loop-holds
     taken-requires
     returns
-    mul-wide
-    add-wide
-    mul-wide-2
-    shared-slice-read-wide
-    wide-requires
+    word-requires
     loop-less
     loop-again
     returns-2)

@@ -1,7 +1,7 @@
-use mathlib.Core.Path.{_≡_, ap, _∙_}
-use lib.ListN.{getD, set}
 -- `siblings::relink` meets its contract.
 -- Assumes nothing.
+use mathlib.Core.Path.{_≡_, ap, _∙_}
+use lib.ListN.{getD, set}
 use native.Mathlib.Omega.{arith}
 use Rattle.siblings.specs.Links.{link, linked, slotOf}
 use Rattle.siblings.proofs.Tables.{slot-range}
@@ -13,45 +13,36 @@ use Rattle.siblings.proofs.relink.Lts as lts
 use Rattle.siblings.proofs.slot.Reads as slot-reads
 use Rattle.siblings.proofs.wide.Reads as wide-reads
 
--- src/lib.rt:129:9
 slot-requires : tie.Need-slot-requires
 slot-requires c κs = search needs
 
--- src/lib.rt:130:20
 mul-wide : tie.Need-mul-wide
 mul-wide c = omega (arith, c .slot .ensures, slot-range (c .before .before .before .args .table .now) (c .before .before .before .args .i))
 
--- src/lib.rt:130:20
 slice-read-wide : tie.Need-slice-read-wide
 slice-read-wide c =
     let s = c .before .before .before .before in
     omega (arith, c .before .slot .ensures, slot-range (s .args .table .now) (s .args .i))
 
--- src/lib.rt:130:9
 wide-requires : tie.Need-wide-requires
 wide-requires c κs = search needs
 
--- src/lib.rt:131:16
 cast-table : tie.Need-cast-table
 cast-table c = search needs
 
--- src/lib.rt:131:5
 mul-table : tie.Need-mul-table
 mul-table c =
     let s = c .before .before .before .before .before in
     omega (arith, c .before .before .slot .ensures, slot-range (s .args .table .now) (s .args .i))
 
--- src/lib.rt:131:5
 slice-write-table : tie.Need-slice-write-table
 slice-write-table c =
     let s = c .before .before .before .before .before in
     omega (arith, c .before .before .slot .ensures, slot-range (s .args .table .now) (s .args .i))
 
--- src/lib.rt:125:1
 same-length : tie.Need-same-length
 same-length c = search needs
 
--- src/lib.rt:125:1
 returns : tie.Need-returns
 unfolding link linked
 returns c =

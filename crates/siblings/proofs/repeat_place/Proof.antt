@@ -30,7 +30,7 @@ returns : tie.Need-returns
 returns c =
     let k = c .before .before .before in
     let f = k .before .before .before .before .before in
-    (place-is _ _ _ _ _ _ _ _ (is k) (f .first-repeat .ensures .1) (c .before .wide .ensures) (c .back .ensures), f .first-repeat .ensures .1)
+    (place-is _ _ _ _ _ _ _ _ (is k) (f .first-repeat .ensures .1) (c .before .word .ensures) (c .back .ensures), f .first-repeat .ensures .1)
 
 returns-2 : tie.Need-returns-2
 returns-2 c =
@@ -43,11 +43,7 @@ repeat-place-spec =
     (tie.spec
     (λ c κs. search needs)
     (λ c. search needs)
-    (λ c. omega (arith, room c))
-    (λ c. omega (arith, room c))
-    (λ c. omega (arith, room c))
-    (λ c. omega (arith, room (c .before)))
-    (λ c κs. search needs)
+    (λ c κs. (room (c .before), omega arith))
     (λ c κs. search needs)
     (λ c. search needs)
     (λ c. search needs)

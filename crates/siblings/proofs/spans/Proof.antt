@@ -10,23 +10,19 @@ use Rattle.siblings.proofs.spans.Reads as reads
 use Rattle.siblings.proofs.spans.Lts as lts
 use Rattle.siblings.proofs.order_bytes.Reads as order-bytes-reads
 
--- src/lib.rt:57:9
 returns : tie.Need-returns
 returns c =
     let s = c .before .before in
     num-shorter (s .args .doc .now) (λ j. omega (arith, c .before .shared-slice-known .given j)) _ _ _ _ (s .pre .0) (s .pre .1) (c .if1 .taken)
 
--- src/lib.rt:60:9
 returns-2 : tie.Need-returns-2
 returns-2 c =
     let s = c .before .before .before in
     num-shorter (s .args .doc .now) (λ j. omega (arith, c .before .before .shared-slice-known .given j)) _ _ _ _ (s .pre .1) (s .pre .0) (c .if2 .taken)
 
--- src/lib.rt:62:5
 order-bytes-requires : tie.Need-order-bytes-requires
 order-bytes-requires c κs = search needs
 
--- src/lib.rt:52:1
 returns-3 : tie.Need-returns-3
 returns-3 c =
     let s = c .before .before .before .before in

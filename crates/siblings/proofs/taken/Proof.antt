@@ -10,7 +10,6 @@ use Rattle.siblings.proofs.taken.Tie as tie
 use Rattle.siblings.proofs.taken.Reads as reads
 use Rattle.siblings.proofs.taken.Lts as lts
 use Rattle.siblings.proofs.twin.Reads as twin-reads
-use Rattle.siblings.proofs.wide.Reads as wide-reads
 
 abbrev Inv-loop : tie.InvT-loop
 Inv-loop doc table first stop i j₀ j = (f : Family doc table first stop) × Asking doc table first stop f i j
@@ -25,18 +24,15 @@ room c =
     let p = i .before .before .before .before .pre in
     p .0 .fit _ (asking-in _ _ _ _ (l .0) _ _ (l .1) (p .1) (i .loop-test .taken)) .room
 
--- src/lib.rt:244:5
 loop-holds : tie.Need-loop-holds Inv-loop μ-loop
 loop-holds c = let f = c .before .before .pre .0 in (f, asking-start _ _ _ _ f _)
 
--- src/lib.rt:245:12
 twin-requires : tie.Need-twin-requires Inv-loop μ-loop
 twin-requires c κs =
     let l = c .before .loop .inv in
     let p = c .before .before .before .before .pre in
     (p .0 .fit _ (asking-in _ _ _ _ (l .0) _ _ (l .1) (p .1) (c .loop-test .taken)), p .0 .fit _ (p .1))
 
--- src/lib.rt:246:13
 returns : tie.Need-returns Inv-loop μ-loop
 returns c =
     let i = c .before .before in
@@ -44,48 +40,28 @@ returns c =
     let p = i .before .before .before .before .pre in
     asking-hit _ _ _ _ (l .0) _ _ (l .1) (p .1) (i .loop-test .taken) (rw (c .if1 .taken) at (c .before .twin .ensures))
 
--- src/lib.rt:248:24
-mul-wide : tie.Need-mul-wide Inv-loop μ-loop
-mul-wide c = omega (arith, room c)
-
--- src/lib.rt:248:24
-add-wide : tie.Need-add-wide Inv-loop μ-loop
-add-wide c = omega (arith, room c)
-
--- src/lib.rt:248:18
-mul-wide-2 : tie.Need-mul-wide-2 Inv-loop μ-loop
-mul-wide-2 c = omega (arith, room c)
-
--- src/lib.rt:248:18
-shared-slice-read-wide : tie.Need-shared-slice-read-wide Inv-loop μ-loop
-shared-slice-read-wide c = omega (arith, room (c .before))
-
--- src/lib.rt:248:9
-wide-requires : tie.Need-wide-requires Inv-loop μ-loop
-wide-requires c κs = tt
-
--- src/lib.rt:244:5
 loop-less : tie.Need-loop-less Inv-loop μ-loop
 loop-less c =
-    let i = c .before .before .before .before in
+    let i = c .before .before .before in
     let l = i .before .loop .inv in
     let p = i .before .before .before .before .pre in
-    omega (arith, c .wide .ensures, asking-on _ _ _ _ (l .0) _ _ (l .1) (p .1) (i .loop-test .taken), i .loop-test .taken)
+    omega (arith, c .word .ensures, asking-on _ _ _ _ (l .0) _ _ (l .1) (p .1) (i .loop-test .taken), i .loop-test .taken)
 
--- src/lib.rt:244:5
 loop-again : tie.Need-loop-again Inv-loop μ-loop
 loop-again c =
-    let e = c .before .before in
+    let e = c .before in
     let i = e .before .before in
     let l = i .before .loop .inv in
     let p = i .before .before .before .before .pre in
-    (l .0, asking-next _ _ _ _ (l .0) _ _ (l .1) (p .1) (i .loop-test .taken) (rw (e .if1 .left) at (e .before .twin .ensures)) _ (c .wide .ensures))
+    (l .0, asking-next _ _ _ _ (l .0) _ _ (l .1) (p .1) (i .loop-test .taken) (rw (e .if1 .left) at (e .before .twin .ensures)) _ (c .word .ensures))
 
--- src/lib.rt:239:1
 returns-2 : tie.Need-returns-2 Inv-loop μ-loop
 returns-2 c =
     let l = c .before .loop .inv in
     asking-end _ _ _ _ (l .0) _ _ (l .1) (c .before .before .before .before .pre .1) (c .loop-test .left)
+
+word-requires : tie.Need-word-requires Inv-loop μ-loop
+word-requires c κs = (room c, omega arith)
 
 pub taken-spec : {M : Type 1} → statement M
 taken-spec =
@@ -96,11 +72,7 @@ taken-spec =
     loop-holds
     twin-requires
     returns
-    mul-wide
-    add-wide
-    mul-wide-2
-    shared-slice-read-wide
-    wide-requires
+    word-requires
     loop-less
     loop-again
     returns-2)

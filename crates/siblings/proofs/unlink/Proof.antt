@@ -16,18 +16,15 @@ Inv-loop doc table₀ head n none x₀ left₀ low₀ table x left low = Scan do
 abbrev μ-loop : tie.MeasureT-loop
 μ-loop doc table₀ head n none x₀ left₀ low₀ table x left low = left
 
--- src/lib.rt:191:5
 loop-holds : tie.Need-loop-holds Inv-loop μ-loop
 loop-holds c = scan-start _ _ _ _ _ (c .before .before .pre)
 
--- src/lib.rt:192:13
 relink-requires : tie.Need-relink-requires Inv-loop μ-loop
 relink-requires c κs =
     let l = c .before .before in
     let s = l .before .before .before in
     (scan-here _ _ _ _ _ (s .pre) _ _ _ _ (l .loop .inv) .room, omega arith)
 
--- src/lib.rt:193:9
 lower-requires : tie.Need-lower-requires Inv-loop μ-loop
 lower-requires c κs =
     let r = c .before .before .before in
@@ -36,15 +33,12 @@ lower-requires c κs =
     let s = l .before .before .before in
     scan-fits _ _ _ _ _ (s .pre) _ _ _ _ (l .loop .inv) (i .loop-test .taken) _ _ (r .relink .ensures .0) (r .relink .ensures .1)
 
--- src/lib.rt:195:9
 sub-left : tie.Need-sub-left Inv-loop μ-loop
 sub-left c = omega arith
 
--- src/lib.rt:191:5
 loop-less : tie.Need-loop-less Inv-loop μ-loop
 loop-less c = omega arith
 
--- src/lib.rt:191:5
 loop-again : tie.Need-loop-again Inv-loop μ-loop
 loop-again c =
     let r = c .before .before .before .before in
@@ -53,20 +47,17 @@ loop-again c =
     let s = l .before .before .before in
     scan-on _ _ _ _ _ (s .pre) _ _ _ _ (l .loop .inv) (i .loop-test .taken) _ _ (r .relink .ensures .0) (r .relink .ensures .1) _ (c .lower .ensures)
 
--- src/lib.rt:197:5
 relink-requires-2 : tie.Need-relink-requires-2 Inv-loop μ-loop
 relink-requires-2 c κs =
     let l = c .before .before in
     let s = l .before .before .before in
     (scan-here _ _ _ _ _ (s .pre) _ _ _ _ (l .loop .inv) .room, omega arith)
 
--- src/lib.rt:184:1
 same-length : tie.Need-same-length Inv-loop μ-loop
 same-length c =
     let r = c .before .before in
     r .relink2 .kept .0 ∙ r .before .before .before .loop .inv .frame .len
 
--- src/lib.rt:184:1
 returns : tie.Need-returns Inv-loop μ-loop
 returns c =
     let r = c .before .before in
