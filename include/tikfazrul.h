@@ -1,4 +1,4 @@
-/* Tikfazrul: NBT read by a proved library. Link libnbt.a (`rt staticlib nbt`, or tools/native-staticlib nbt for the processor at hand).
+/* Tikfazrul: NBT read and written by a proved library. Link libnbt.a (`rt staticlib nbt`, or tools/native-staticlib nbt for the processor at hand).
  *
  * Every function takes its slices as a pointer and a number of elements, and fills `answer`, eight words that the caller lends:
  *
@@ -14,12 +14,17 @@
  *    1  the data ends           the first byte of the field that is not whole
  *    2  the root is no compound 0
  *    3  no such tag id          the id byte
- *    4  not modified UTF-8      the string's first content byte (tikfazrul_check_mutf8: the first sequence that can't be read)
+ *    4  not modified UTF-8      the string's first content byte (tikfazrul_check_mutf8: the first sequence that can't be read;
+ *                               tikfazrul_write: the record)
  *    5  a count below 0         its first byte
- *    6  a name twice            the id byte of the later entry
- *    7  over 512 deep           the first payload byte
+ *    6  a name twice            the id byte of the later entry (tikfazrul_write: the later record)
+ *    7  over 512 deep           the first payload byte (tikfazrul_write: the record)
  *    8  the table is full       the first payload byte
- *    9  over 16,777,216 bytes   0
+ *    9  over a limit            0: a document over 16,777,216 bytes, or a table to check or to write over 8,388,608 words
+ *   10  no table                0: the words form no table (tikfazrul_write)
+ *   11  a mixed list            the record of another kind than its list's first
+ *   12  over 65,535 bytes       the record whose name or string it is
+ *   13  the output is full      0
  *   15  not UTF-8               tikfazrul_check_utf8: the first sequence that can't be read
  */
 #ifndef TIKFAZRUL_H
@@ -50,6 +55,15 @@ enum {
  * stand from table[0] on; no other word changes. Refused (1 to 9): every word of the table is 0. The table has room for table_len / 8
  * records, 1,048,576 at the most. */
 void tikfazrul_read(const uint8_t *doc, size_t doc_len, uint32_t *table, size_t table_len, uint64_t answer[8]);
+
+/* Whether words form a table over a document of doc_len bytes: what tikfazrul_read fills in always does, and words from elsewhere may. [2] is
+ * 1 if they do, else 0. Refused: 9. The document itself is not asked for: strings are not looked into. */
+void tikfazrul_is_table(size_t doc_len, const uint32_t *table, size_t table_len, uint64_t answer[8]);
+
+/* Writes the document that a table stands for, whose names and payloads lie in `doc`. Accepted: [2] is the number of bytes written, from
+ * out[0] on; no other byte changes. Refused (9, 10; then by record 12, 4, 6, 7, 11; 13 last): the output is as it was. The table's words are
+ * used while the call lasts; on return each is as it was. An empty list is written as five zero bytes. */
+void tikfazrul_write(const uint8_t *doc, size_t doc_len, uint32_t *table, size_t table_len, uint8_t *out, size_t out_len, uint64_t answer[8]);
 
 /* Whether bytes are modified UTF-8 (java.io.DataInput) of Unicode scalar values. Refused: 4, at the offset where the first sequence that
  * can't be read begins. */

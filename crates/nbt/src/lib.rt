@@ -3,9 +3,10 @@
 ghost use mathlib.Core.Path.{_≡_};
 ghost use Rattle.form.specs.Answer.{badString, badText};
 ghost use Rattle.form.specs.Decoding.{verdict, utf8Verdict};
-ghost use Rattle.nbt.specs.Answers.{verdictWords, ReadCalled};
+ghost use Rattle.nbt.specs.Answers.{verdictWords, ReadCalled, TableCalled, WriteCalled};
 use mutf8::Checked;
 use reader::Answer;
+use table::Verdict;
 
 // Whether bytes are modified UTF-8 (rule 2): 4 at the first sequence that can't be read.
 #[no_mangle]
@@ -48,6 +49,47 @@ pub extern "C" fn tikfazrul_read(doc: &[u8], table: &mut [u32], answer: &mut [u6
         }
         Answer::Refused { number, place } => {
             *answer = [number as u64, place as u64, 0, 0, 0, 0, 0, 0];
+        }
+    }
+}
+
+// Whether words form a table over a document of doc_len bytes (rule 7).
+#[no_mangle]
+pub extern "C" fn tikfazrul_is_table(doc_len: usize, table: &[u32], answer: &mut [u64; 8])
+    ensures { λ _. ⌜ TableCalled «doc_len» (now (table .entry)) (now (answer .exit)) ⌝ }
+{
+    match table::is_table(doc_len, table) {
+        Verdict::OverLimit => {
+            *answer = [form::OVER_LIMIT as u64, 0, 0, 0, 0, 0, 0, 0];
+        }
+        Verdict::NoTable => {
+            *answer = [0, 0, 0, 0, 0, 0, 0, 0];
+        }
+        Verdict::Table => {
+            *answer = [0, 0, 1, 0, 0, 0, 0, 0];
+        }
+    }
+}
+
+// Writes the document that a table stands for (rule 8). The table comes back as it was.
+#[no_mangle]
+pub extern "C" fn tikfazrul_write(
+    doc: &[u8],
+    table: &mut [u32],
+    out: &mut [u8],
+    answer: &mut [u64; 8],
+)
+    ensures { λ _. ⌜ WriteCalled (now (doc .entry)) (now (table .entry)) (now (table .exit)) (now (out .entry)) (now (out .exit)) (now (answer .exit)) ⌝ }
+{
+    match writer::write(doc, table, out) {
+        writer::Answer::Written { length } => {
+            *answer = [0, 0, length as u64, 0, 0, 0, 0, 0];
+        }
+        writer::Answer::Refused {
+            number: refusal,
+            place: record,
+        } => {
+            *answer = [refusal as u64, record as u64, 0, 0, 0, 0, 0, 0];
         }
     }
 }
