@@ -15,6 +15,8 @@ use Rattle.form.specs.Tree.{Tag, byte, short, int, long, float, double, byteArr
 use Rattle.form.specs.Layout.{intBytes, stringBytes, intsBytes, arrayBytes, Payload}
 use Rattle.form.specs.Table.{Head, widthOf, holds, intsAt, valueBy}
 use Rattle.form.specs.Reading.{Span, bytesAt, stringAt, countAt, arrayAt, leafAt}
+use Rattle.form.proofs.EachKind.{by-kind}
+use Rattle.form.proofs.Values.{int-back, int-fits, ints-back, ints-fit, ints-count}
 use Rattle.form.proofs.Spans.{part-length}
 use Rattle.form.proofs.Fields.{bytes-got, array-got}
 use Rattle.form.proofs.Digits.{digits-length, value-digits-below, bits-below, signed-bits, bits-signed, signed-fits}
@@ -22,7 +24,6 @@ use Rattle.form.proofs.Places.{value-bytes}
 use Rattle.demands.specs.Reading.{Bytes}
 use Rattle.demands.proofs.Sits.{Sits, sits-first, sits-rest, sits-join, sits-part}
 use Rattle.demands.proofs.Answers.{Answers, Accepted, Numbered, bind-answers, weaker, got-answers}
-use Rattle.demands.proofs.Tags.{by-kind}
 use Rattle.demands.proofs.Fields.{StringLaw, string-length, bytes-sound, count-sound, string-sound, number-read, string-content, string-read}
 
 -- the record of a leaf
@@ -115,22 +116,11 @@ module _ (doc : List ℕ) where
   module _ (bytes : Bytes doc) where
     int-laid : (at w : ℕ) → 0 < w → at + w ≤ length doc
         → (part doc at w ≡ intBytes w (signedOf w (bigEndian (part doc at w)))) × FitsIn w (signedOf w (bigEndian (part doc at w)))
-    int-laid at w p l =
-        let v = value-bytes doc bytes at w l in
-        (sym (ap (bytesOf w) (bits-signed w (bigEndian (part doc at w)) (v .1)) ∙ v .0), signed-fits w (bigEndian (part doc at w)) p (v .1))
+    int-laid at w p l = (sym (int-back doc bytes w at l), int-fits doc bytes w at p l)
 
     ints-laid : (w : ℕ) → 0 < w → (n at : ℕ) → at + n * w ≤ length doc
         → (part doc at (n * w) ≡ intsBytes w (intsAt doc w n at)) × AllFit w (intsAt doc w n at) × (length (intsAt doc w n at) ≡ n)
-    unfolding AllFit intsBytes intsAt
-    ints-laid w p zero at l = let z : zero * w ≡ 0 = omega arith in (rw z refl, tt, refl)
-    ints-laid w p (suc n) at l =
-        let e : suc n * w ≡ w + n * w = omega arith in
-        let i = int-laid at w p (omega arith) in
-        let r = ints-laid w p n (at + w) (omega arith) in (
-          rw (e, take-add w (n * w) (drop at doc), drop-drop w at doc) (λ j. i .0 j ++ r .0 j),
-          (i .1, r .1),
-          ap suc (r .2),
-        )
+    ints-laid w p n at l = (sym (ints-back doc bytes w n at l), ints-fit doc bytes w n at p l, ints-count doc w n at)
 
     -- a leaf of a fixed width
     fixed-sound : (kind at w : ℕ) → ((name len : ℕ) → at + w ≤ length doc → Leaf kind (part doc at w) (valueBy doc (leafHead kind name len (record { start = at; size = w; count = 0; next = at + w })) nil ended))

@@ -9,5 +9,11 @@ pub mod Complete
 pub mod Sound
 pub mod Documents
 pub mod Canonical
+pub mod Judged
+pub mod Fairly
+pub mod Tabled
+pub mod Near
 pub mod Reading
+pub mod Writing
+pub mod Queries
 pub mod Marked

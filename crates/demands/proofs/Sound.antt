@@ -19,7 +19,8 @@ use Rattle.form.proofs.Digits.{digits-length}
 use Rattle.demands.specs.Reading.{Bytes}
 use Rattle.demands.proofs.Sits.{Sits, sits-join, sits-nil}
 use Rattle.demands.proofs.Answers.{Answers, Numbered, bind-answers, guard-answers, got-answers, no-answers}
-use Rattle.demands.proofs.Tags.{tagOf, readAt, by-kind}
+use Rattle.form.proofs.EachKind.{by-kind}
+use Rattle.demands.proofs.Tags.{tagOf, readAt}
 use Rattle.demands.proofs.Fields.{StringLaw}
 use Rattle.demands.proofs.Heads.{HeadIs, head-sound, NamedIs, EntryIs, entry-sound}
 use Rattle.demands.proofs.Leaves.{leaf-sound}

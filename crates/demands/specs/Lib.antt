@@ -1,2 +1,4 @@
 pub mod Reading
+pub mod Writing
+pub mod Queries
 pub mod Marked

@@ -19,4 +19,7 @@ pub mod Leaves
 pub mod Tables
 pub mod Rows
 pub mod EachKind
+pub mod Values
 pub mod Writing
+pub mod Paths
+pub mod Depths

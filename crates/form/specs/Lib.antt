@@ -10,3 +10,5 @@ pub mod Table
 pub mod Tables
 pub mod Reading
 pub mod Writing
+pub mod Paths
+pub mod Query

@@ -68,6 +68,7 @@ module _ (h : Head) where
   unfolding ownSize
   own-entry l e = rw e refl
 
+  -- Never more than eight bytes beside the name and the span.
   pub own-bound : (l : Bool) → ownSize l h ≤ h .size + h .name-length + 8
   unfolding ownSize
   own-bound true = omega (arith, size-bound)
@@ -78,10 +79,12 @@ module _ (h : Head) where
   unfolding lengthBytes
   length-string e = rw (lengthBytes, e) refl
 
+  -- Before an array its count.
   pub length-array : (h .kind ≡ 8 → ⊥) → 6 < h .kind → lengthBytes h ≡ bytesOf 4 (h .count)
   unfolding lengthBytes
   length-array e f = rw (lengthBytes, ne-eqb (h .kind) 8 e, lt-ltb 6 (h .kind) f) refl
 
+  -- Before a number nothing.
   pub length-fixed : (h .kind ≡ 8 → ⊥) → h .kind ≤ 6 → lengthBytes h ≡ []
   unfolding lengthBytes
   length-fixed e f = rw (lengthBytes, ne-eqb (h .kind) 8 e, le-ltb 6 (h .kind) f) refl
@@ -93,6 +96,7 @@ module _ (h : Head) where
 
 -- ---- records after records
 
+-- No records have no bytes.
 pub laid-none : (doc : List ℕ) (l : Bool) → laid doc l none ≡ []
 unfolding laid
 laid-none doc l = refl
@@ -128,10 +132,12 @@ module _ (doc : List ℕ) (h : Head) where
   unfolding nameBytes
   name-element l e = rw e refl
 
+  -- An entry has both.
   pub name-entry : (l : Bool) → l ≡ false → nameBytes doc l h ≡ bytesOf 1 (h .kind) ++ (bytesOf 2 (h .name-length) ++ part doc (h .name) (h .name-length))
   unfolding nameBytes
   name-entry l e = rw e refl
 
+  -- They take three bytes and those of the name.
   pub name-length : (l : Bool) → l ≡ false → h .name + h .name-length ≤ length doc → length (nameBytes doc l h) ≡ 3 + h .name-length
   name-length l e w =
       let s : List ℕ = part doc (h .name) (h .name-length) in
@@ -143,6 +149,7 @@ module _ (doc : List ℕ) (h : Head) where
   unfolding leafBytes
   leaf-is = refl
 
+  -- And how many bytes it takes.
   pub leaf-length : h .start + h .size ≤ length doc → length (leafBytes doc h) ≡ length (lengthBytes h) + h .size
   leaf-length w = ap length leaf-is ∙ length-append (lengthBytes h) (part doc (h .start) (h .size)) ∙ ap (λ n. length (lengthBytes h) + n) (part-length doc (h .start) (h .size) w)
 
@@ -151,10 +158,12 @@ module _ (doc : List ℕ) (h : Head) where
   unfolding bodyBytes
   body-list bs e = rw (bodyBytes, eq-eqb (h .kind) 9 e) refl
 
+  -- Of a compound the entries and the end byte.
   pub body-compound : (bs : List ℕ) → h .kind ≡ 10 → bodyBytes doc h bs ≡ bs ++ bytesOf 1 0
   unfolding bodyBytes
   body-compound bs e = rw (bodyBytes, ne-eqb (h .kind) 9 (λ q. omega arith), eq-eqb (h .kind) 10 e) refl
 
+  -- Of a leaf its own bytes.
   pub body-leaf : (bs : List ℕ) → (h .kind ≡ 9 → ⊥) → (h .kind ≡ 10 → ⊥) → bodyBytes doc h bs ≡ leafBytes doc h
   unfolding bodyBytes
   body-leaf bs e f = rw (bodyBytes, ne-eqb (h .kind) 9 e, ne-eqb (h .kind) 10 f) refl
@@ -181,10 +190,12 @@ module _ (doc : List ℕ) (h : Head) where
   body-length-leaf : (bs : List ℕ) → h .start + h .size ≤ length doc → (h .kind ≡ 9 → ⊥) → (h .kind ≡ 10 → ⊥) → length (bodyBytes doc h bs) ≡ bodySize h
   body-length-leaf bs w e f = ap length (body-leaf bs e f) ∙ leaf-length w ∙ leaf-size e f
 
+  -- Of a container they come on top.
   body-length-held : (bs : List ℕ) → (h .kind ≡ 9) ⊎ (h .kind ≡ 10) → length (bodyBytes doc h bs) ≡ bodySize h + length bs
   body-length-held bs (inl e) = ap length (body-list bs e) ∙ omega (arith, length-append (listBytes h) bs, list-length h, size-list h e)
   body-length-held bs (inr e) = ap length (body-compound bs e) ∙ omega (arith, length-append bs (bytesOf 1 0), bytes-length 1 0, size-compound h e)
 
+  -- The name and the payload together.
   name-size : (l : Bool) → h .name + h .name-length ≤ length doc → length (nameBytes doc l h) + bodySize h ≡ ownSize l h
   name-size true w = omega (arith, ap length (name-element true refl), own-element h true refl)
   name-size false w = omega (arith, name-length false refl w, own-entry h false refl)

@@ -25,6 +25,7 @@ use Rattle.writer.proofs.Pieces.{judged-none, judged-node}
 use Rattle.writer.proofs.Laid.{document-laid}
 
 module _ (doc t : List ℕ) (small : Within (length doc) t) (i : IsTable (length doc) t) where
+  -- The root ends where the table does.
   root-end : word t 0 7 ≡ 1 + size (i .inner)
   root-end = sits-first t 0 (i .head) (i .inner) none (table-sits (length doc) t i) .end ∙ omega arith
 
@@ -64,6 +65,7 @@ module _ (doc t : List ℕ) (small : Within (length doc) t) (i : IsTable (length
         rw w (record { answer-is = refl; output-is = refl })
 
     module _ {s : ℕ} (g : r ≡ Size.Is s) where
+      -- What is known of a root that passes.
       passes : (oneJudged doc depthLimit false 0 false 0 (i .head) (i .inner) ≡ got tt) × (s ≡ length (laid doc false (node (i .head) (i .inner) none)))
       passes = rw g at (told (root q))
 
@@ -72,9 +74,11 @@ module _ (doc t : List ℕ) (small : Within (length doc) t) (i : IsTable (length
       table-room l = record { one = root q; room = omega (arith, passes .1, l) }
 
       module _ (bytes : (k : ℕ) → getD doc k 0 < 256) where
+        -- Its bytes are the layout of its document.
         laid-is : laid doc false (node (i .head) (i .inner) none) ≡ layout (valueOf doc (i .head) (i .inner))
         laid-is = document-laid doc bytes (i .head) (i .inner) (i .compound) (i .fair)
 
+        -- So the layout is as long as was counted.
         long : length (layout (valueOf doc (i .head) (i .inner))) ≡ s
         long = ap length (sym laid-is) ∙ sym (passes .1)
 

@@ -79,6 +79,7 @@ rows-bound doc t l n end f w r =
 
 -- ---- how far a walk over records side by side has come
 
+-- The records so far are done, those left are judged as the whole is, and the first repeat is still to come.
 pub record Walk (doc t : List ℕ) (left : ℕ) (list : Bool) (k n end : ℕ) (found : Found) (f : Forest) (i total : ℕ) : Type 0 where
   pub done : Forest
   pub rest : Forest
@@ -129,6 +130,7 @@ module _ (doc t : List ℕ) (left : ℕ) (list : Bool) (k n end : ℕ) where
         (w .is ∙ ap (judged doc left list k (w .done) i) z ∙ judged-none doc left list k (w .done) i, w .total-is ∙ ap (λ g. length (laid doc list g)) (sym all))
 
     module _ (l : i < end) where
+      -- The first of those left.
       here : Here doc t list i end (w .rest)
       here = rows-here doc t list i end (w .rest) (w .rows) l
 
@@ -182,15 +184,19 @@ module _ (doc t : List ℕ) (left : ℕ) (list : Bool) (k n end : ℕ) where
 -- ---- one record
 
 module _ (doc t : List ℕ) (left : ℕ) (list : Bool) (k : ℕ) (twice : Bool) (n end : ℕ) (o : One doc t list n end) where
+  -- The words are those of the head.
   pub head-is : headOf t n ≡ o .head
   head-is = rows-head doc t list n end (o .head) (o .inner) (o .rows)
 
+  -- The name lies in the document.
   name-in : o .head .name + o .head .name-length ≤ length doc
   name-in = rows-name doc t list n end (o .head) (o .inner) (o .rows)
 
+  -- What is said of the words is said of the head.
   fine-is : {x : Out (Unit {0})} → ownFine doc left list k twice n (headOf t n) ≡ x → ownFine doc left list k twice n (o .head) ≡ x
   fine-is e = ap (ownFine doc left list k twice n) (sym head-is) ∙ e
 
+  -- Its size too.
   size-is : {s : ℕ} → s ≡ ownSize list (headOf t n) → s ≡ ownSize list (o .head)
   size-is e = e ∙ ap (ownSize list) head-is
 
@@ -223,6 +229,7 @@ module _ (doc t : List ℕ) (left : ℕ) (list : Bool) (k : ℕ) (twice : Bool) 
 
       module _ {b : Bool} (bi : b ≡ eqb (word t n 0) 9) {j : ℕ} (ji : j ≡ word t n 6) (r : Size)
           (told : (p : Some doc t b (n + 1) end) → Sized (judged doc (left - 1) b j none (n + 1) (p .forest)) (laid doc b (p .forest)) r) where
+        -- What is said of the records in it.
         inside : Sized (judged doc (left - 1) (eqb (o .head .kind) 9) (o .head .list-kind) none (n + 1) (o .inner)) (laid doc (eqb (o .head .kind) 9) (o .inner)) r
         inside = subst (λ h. Sized (judged doc (left - 1) (eqb (h .kind) 9) (h .list-kind) none (n + 1) (o .inner)) (laid doc (eqb (h .kind) 9) (o .inner)) r) head-is
             (rw (← bi, ← ji) (told (one-some bi)))

@@ -20,8 +20,8 @@ use Rattle.form.proofs.Digits.{digits-length as bytes-length}
 use Rattle.form.proofs.Places.{value-bytes}
 use Rattle.form.proofs.Spans.{part-length}
 use Rattle.form.proofs.EachKind.{by-kind}
-use Rattle.form.proofs.Leaves.{LeafSort, number, string, array, leaf-sort, leaf-kind, array-kind, held-kind, fits-held}
-use Rattle.form.proofs.Writing.{int-back, ints-back, ints-count}
+use Rattle.form.proofs.Leaves.{LeafSort, number, string, array, leaf-sort, array-kind, held-kind, fits-held}
+use Rattle.form.proofs.Values.{int-back, ints-back, ints-count, kind-is, fair-kind, many-is}
 use Rattle.writer.specs.Pieces.{nameBytes, lengthBytes, leafBytes, listBytes, bodyBytes, laid}
 use Rattle.writer.proofs.Bytes.{length-string, length-array, length-fixed, leaf-is, body-list, body-compound, body-leaf, laid-one}
 
@@ -34,23 +34,16 @@ byte-is k h = let e : k % 256 ≡ k = omega arith in ap (λ b. b ∷ []) e
 
 module _ (doc : List ℕ) (bytes : (i : ℕ) → getD doc i 0 < 256) where
   module _ (h : Head) (ts : Tags) (es : Entries) where
-    -- A record's kind is its tag's.
-    pub kind-is : 0 < h .kind → h .kind ≤ 12 → kindOf (valueBy doc h ts es) ≡ h .kind
-    unfolding kindOf valueBy
-    kind-is lo hi =
-        by-kind (λ k. h .kind ≡ k → kindOf (valueBy doc h ts es) ≡ k)
-        (λ e. rw e refl) (λ e. rw e refl) (λ e. rw e refl) (λ e. rw e refl) (λ e. rw e refl) (λ e. rw e refl)
-        (λ e. rw e refl) (λ e. rw e refl) (λ e. rw e refl) (λ e. rw e refl) (λ e. rw e refl) (λ e. rw e refl)
-        (h .kind) lo hi refl
-
     module _ (w : h .start + h .size ≤ length doc) where
       -- What stands in a span of a fixed length.
       fixed : (n : ℕ) → h .kind < 7 → h .size ≡ n → part doc (h .start) n ≡ leafBytes doc h
       fixed n k e = sym (leaf-is doc h ∙ (λ i. length-fixed h (λ q. omega arith) (omega arith) i ++ part doc (h .start) (e i)))
 
+      -- An integer, of n bytes.
       int-laid : (n : ℕ) → h .kind < 7 → h .size ≡ n → intBytes n (signedOf n (bigEndian (part doc (h .start) n))) ≡ leafBytes doc h
       int-laid n k e = int-back doc bytes n (h .start) (omega arith) ∙ fixed n k e
 
+      -- A float, of n bytes.
       float-laid : (n : ℕ) → h .kind < 7 → h .size ≡ n → bytesOf n (bigEndian (part doc (h .start) n)) ≡ leafBytes doc h
       float-laid n k e = value-bytes doc bytes (h .start) n (omega arith) .0 ∙ fixed n k e
 
@@ -69,6 +62,7 @@ module _ (doc : List ℕ) (bytes : (i : ℕ) → getD doc i 0 < 256) where
           ∙ (λ i. sym (length-array h k l) i ++ part doc (h .start) (sym e i))
           ∙ sym (leaf-is doc h)
 
+      -- Kinds 1 to 6, one by one.
       number-laid : (bs : List ℕ) → leafBytes doc h ≡ bs → 0 < h .kind → h .kind < 7 → h .size ≡ widthOf (h .kind) → payload (valueBy doc h ts es) ≡ bs
       unfolding payload valueBy widthOf
       number-laid bs p lo hi e =
@@ -93,30 +87,17 @@ module _ (doc : List ℕ) (bytes : (i : ℕ) → getD doc i 0 < 256) where
 
   -- ---- containers
 
-  -- A fair record's kind is one of twelve.
-  pub fair-kind : (h : Head) (inner : Forest) → LeafIs (length doc) h inner ⊎ ContainerIs h inner → (0 < h .kind) × (h .kind ≤ 12)
-  fair-kind h inner (inl f) = leaf-kind (h .kind) (h .size) (h .count) (f .fits)
-  fair-kind h inner (inr c) = go (held-kind (h .kind) (c .kind))
-    where
-      go : (h .kind ≡ 9) ⊎ (h .kind ≡ 10) → (0 < h .kind) × (h .kind ≤ 12)
-      go (inl e) = (omega arith, omega arith)
-      go (inr e) = (omega arith, omega arith)
-
   -- The id that a list is written with is its first record's kind.
   id-is : (l : Bool) (f : Forest) → Fair (length doc) l f → listId (tagsOf doc f) ≡ firstKind f
   unfolding tagsOf firstKind Fair
   id-is l none w = refl
-  id-is l (node h inner later) w = let k = fair-kind h inner (w .1) in kind-is h (tagsOf doc inner) (entriesOf doc inner) (k .0) (k .1)
+  id-is l (node h inner later) w = let k = fair-kind (length doc) h inner (w .1) in kind-is doc h (tagsOf doc inner) (entriesOf doc inner) (k .0) (k .1)
 
+  -- It fits a byte.
   id-small : (l : Bool) (f : Forest) → Fair (length doc) l f → firstKind f < 256
   unfolding firstKind Fair
   id-small l none w = omega arith
-  id-small l (node h inner later) w = let k = fair-kind h inner (w .1) in omega (arith, k .1)
-
-  many-is : (f : Forest) → many (tagsOf doc f) ≡ width f
-  unfolding many tagsOf width
-  many-is none = refl
-  many-is (node h inner later) = omega (arith, many-is later)
+  id-small l (node h inner later) w = let k = fair-kind (length doc) h inner (w .1) in omega (arith, k .1)
 
   -- What the bytes of records side by side are.
   pub record Both (f : Forest) : Type 0 where
@@ -124,12 +105,15 @@ module _ (doc : List ℕ) (bytes : (i : ℕ) → getD doc i 0 < 256) where
     pub entries : entryBytes (entriesOf doc f) ≡ laid doc false f ++ bytesOf 1 0
 
   module _ (h : Head) (inner : Forest) (w : Fair (length doc) (eqb (h .kind) 9) inner) (i : Both inner) where
+    -- What the records in it stand for, as elements.
     abbrev ts : Tags
     ts = tagsOf doc inner
 
+    -- And as entries.
     abbrev es : Entries
     es = entriesOf doc inner
 
+    -- Of a list the head and the elements, of a compound the entries and the end byte.
     held-laid : ContainerIs h inner → payload (valueBy doc h ts es) ≡ bodyBytes doc h (laid doc (eqb (h .kind) 9) inner)
     unfolding payload valueBy listBytes
     held-laid c = go (held-kind (h .kind) (c .kind))
@@ -139,7 +123,7 @@ module _ (doc : List ℕ) (bytes : (i : ℕ) → getD doc i 0 < 256) where
             let k : h .list-kind ≡ firstKind inner = c .listed ∙ rw e refl in
             let small : h .list-kind < 256 = omega (arith, k, id-small (eqb (h .kind) 9) inner w) in
             let front : listId ts ∷ bytesOf 4 (many ts) ≡ listBytes h =
-            (λ x. (id-is (eqb (h .kind) 9) inner w ∙ sym k) x ∷ bytesOf 4 ((many-is inner ∙ sym (c .count)) x)) ∙ ap (λ b. b ++ bytesOf 4 (h .count)) (sym (byte-is (h .list-kind) small)) in
+            (λ x. (id-is (eqb (h .kind) 9) inner w ∙ sym k) x ∷ bytesOf 4 ((many-is doc inner ∙ sym (c .count)) x)) ∙ ap (λ b. b ++ bytesOf 4 (h .count)) (sym (byte-is (h .list-kind) small)) in
             rw e refl
             ∙ (λ x. front x ++ (i .elements ∙ ap (λ b. laid doc b inner) (sym (eq-eqb (h .kind) 9 e))) x)
             ∙ sym (body-list doc h (laid doc (eqb (h .kind) 9) inner) e)
@@ -148,6 +132,7 @@ module _ (doc : List ℕ) (bytes : (i : ℕ) → getD doc i 0 < 256) where
             ∙ (i .entries ∙ ap (λ b. laid doc b inner ++ bytesOf 1 0) (sym (ne-eqb (h .kind) 9 (λ q. omega arith))))
             ∙ sym (body-compound doc h (laid doc (eqb (h .kind) 9) inner) e)
 
+    -- A payload, whatever the kind.
     pub body-laid : LeafIs (length doc) h inner ⊎ ContainerIs h inner → payload (valueBy doc h ts es) ≡ bodyBytes doc h (laid doc (eqb (h .kind) 9) inner)
     body-laid (inl f) =
         leaf-laid h ts es (f .body) (f .fits)
@@ -165,15 +150,16 @@ module _ (doc : List ℕ) (bytes : (i : ℕ) → getD doc i 0 < 256) where
       (λ x. e x ∷ bytesOf 2 (part-length doc (h .name) (h .name-length) w x) ++ part doc (h .name) (h .name-length))
       ∙ ap (λ b. b ++ (bytesOf 2 (h .name-length) ++ part doc (h .name) (h .name-length))) (sym (byte-is (h .kind) s))
 
+  -- Records side by side, and those in them.
   pub both : (l : Bool) (f : Forest) → Fair (length doc) l f → Both f
   unfolding Fair payload tagsOf laid nameBytes digits
   both l none w = record { elements = refl; entries = refl }
   both l (node h inner later) w =
       let i = both (eqb (h .kind) 9) inner (w .2) in
       let r = both l later (w .3) in
-      let k = fair-kind h inner (w .1) in
+      let k = fair-kind (length doc) h inner (w .1) in
       let b = body-laid h inner (w .2) i (w .1) in
-      let n = name-laid h (kindOf (valueBy doc h (tagsOf doc inner) (entriesOf doc inner))) (kind-is h (tagsOf doc inner) (entriesOf doc inner) (k .0) (k .1)) (omega (arith, k .1)) (w .0 .within) in
+      let n = name-laid h (kindOf (valueBy doc h (tagsOf doc inner) (entriesOf doc inner))) (kind-is doc h (tagsOf doc inner) (entriesOf doc inner) (k .0) (k .1)) (omega (arith, k .1)) (w .0 .within) in
       let body = bodyBytes doc h (laid doc (eqb (h .kind) 9) inner) in
       record {
         elements = λ x. b x ++ r .elements x;

@@ -115,10 +115,12 @@ module _ (doc : List ℕ) (left : ℕ) (list : Bool) (k n : ℕ) (h : Head) wher
 
 -- ---- records side by side
 
+-- A test denied twice.
 not-not : (b : Bool) → not (not b) ≡ b
 not-not true = refl
 not-not false = refl
 
+-- The tests of a record, then those in it, then those after it: however they are grouped.
 chain : (s a b c p i j : Out (Unit {0})) → ((s >> (a >> (b >> (c >> p)))) >> i) >> j ≡ (s >> (a >> (b >> (c >> (p >> (i >> j))))))
 chain (no m q) a b c p i j = refl
 chain (got s) (no m q) b c p i j = refl
@@ -161,6 +163,7 @@ repeat-from doc (node h inner later) seen n r e =
     go false ih p = omega (arith, ih p)
 
 module _ (doc : List ℕ) (n : ℕ) (seen : Forest) (h : Head) (inner later : Forest) (found : Found) (e : repeatIn doc n seen (node h inner later) ≡ found) where
+  -- A repeat among those after it is not this one.
   later-one : (f : Found) → repeatIn doc (n + 1 + size inner) (seen ⊕ node h inner none) later ≡ f → isAt f n ≡ false
   later-one (Found.At r) p = ne-eqb r n (λ q. omega (arith, repeat-from doc later (seen ⊕ node h inner none) (n + 1 + size inner) r p))
   later-one Found.Nothing p = refl

@@ -41,10 +41,12 @@ module _ {xs o : List ℕ} {at : ℕ} {o₁ : List ℕ} {p : ℕ} (a : Puts xs o
 
 -- ---- a copy, byte by byte
 
+-- One byte stored.
 set-over-one : (l : List ℕ) (i x : ℕ) → i < length l → set l i x ≡ over l i (x ∷ [])
 unfolding over
 set-over-one l i x h = let e : i + length {A = ℕ} (x ∷ []) ≡ i + 1 = omega arith in rw (e, add-one i) (set-split l i x h)
 
+-- A span of one byte more.
 part-more : (doc : List ℕ) (start i : ℕ) → start + i < length doc → part doc start (i + 1) ≡ part doc start i ++ (getD doc (start + i) 0 ∷ [])
 part-more doc start i h = rw (add-one i, take-suc (drop start doc) i 0 (simp length-drop (omega arith)), getD-drop) refl
 

@@ -23,6 +23,7 @@ use Rattle.writer.proofs.Judging.{append-one}
 
 -- ---- how far a walk over records side by side has come
 
+-- The bytes of the records so far are written, and there is room for those left.
 pub record Way (doc t : List ℕ) (list : Bool) (end : ℕ) (f : Forest) (o : List ℕ) (at : ℕ) (o₁ : List ℕ) (i here : ℕ) : Type 0 where
   pub done : Forest
   pub rest : Forest
@@ -59,12 +60,15 @@ module _ (doc t : List ℕ) (list : Bool) (end : ℕ) (o : List ℕ) (at : ℕ) 
         subst (λ g. Puts (laid doc list g) o at o₁ here) (sym all) (w .puts)
 
     module _ (l : i < end) where
+      -- The first of those left.
       first : Here doc t list i end (w .rest)
       first = rows-here doc t list i end (w .rest) (w .rows) l
 
+      -- It alone, with those in it.
       one : Forest
       one = node (first .head) (first .inner) none
 
+      -- The bytes left are its own and those after it.
       parted : length (laid doc list (w .rest)) ≡ length (laid doc list one) + length (laid doc list (first .later))
       unfolding one
       parted =
@@ -106,21 +110,27 @@ module _ (doc t : List ℕ) (list : Bool) (end : ℕ) (o : List ℕ) (at : ℕ) 
 -- ---- one record
 
 module _ (doc t : List ℕ) (list : Bool) (n end : ℕ) (o : List ℕ) (at : ℕ) (p : OneRoom doc t list n end o at) where
+  -- The record.
   abbrev pub h : Head
   h = p .one .head
 
+  -- The records in it.
   abbrev pub inner : Forest
   inner = p .one .inner
 
+  -- Its words are those of the head.
   head : headOf t n ≡ h
   head = rows-head doc t list n end h inner (p .one .rows)
 
+  -- The bytes before its payload.
   name : List ℕ
   name = nameBytes doc list h
 
+  -- Its payload.
   body : List ℕ
   body = bodyBytes doc h (laid doc (eqb (h .kind) 9) inner)
 
+  -- Together they are all.
   whole : length (laid doc list (node h inner none)) ≡ length name + length body
   unfolding name body
   whole = ap length (laid-one doc list h inner) ∙ length-append (nameBytes doc list h) (bodyBytes doc h (laid doc (eqb (h .kind) 9) inner))
@@ -131,85 +141,107 @@ module _ (doc t : List ℕ) (list : Bool) (n end : ℕ) (o : List ℕ) (at : ℕ
   name-room = rw head (omega (arith, p .room, whole))
 
   module _ {o₁ : List ℕ} {from : ℕ} (a : Puts (nameBytes doc list (headOf t n)) o at o₁ from) where
+    -- The name is written.
     named : Puts name o at o₁ from
     unfolding name
     named = rw head at a
 
+    -- It fits.
     name-fits : at + length name ≤ length o
     name-fits = omega (arith, p .room, whole)
 
+    -- The output is as long as it was.
     long : length o₁ ≡ length o
     long = puts-length named name-fits
 
+    -- There is room for the payload.
     left : from + length body ≤ length o₁
     left = omega (arith, long, named .next, p .room, whole)
 
+    -- The name and the payload make the record.
     joined : {bs : List ℕ} {o₂ : List ℕ} {r : ℕ} → body ≡ bs → Puts bs o₁ from o₂ r → Puts (laid doc list (node h inner none)) o at o₂ r
     unfolding name body
     joined e b = rw (laid-one doc list h inner) (puts-then named name-fits (rw e b))
 
     -- A leaf.
     module _ (e : word t n 0 ≡ 9 → ⊥) (f : word t n 0 ≡ 10 → ⊥) where
+      -- Its payload is a leaf's.
       leaf : body ≡ leafBytes doc h
       unfolding body
       leaf = body-leaf doc h _ (λ q. e (ap (λ x. x .kind) head ∙ q)) (λ q. f (ap (λ x. x .kind) head ∙ q))
 
+      -- There is room for it.
       pub leaf-room : from + length (leafBytes doc (headOf t n)) ≤ length o₁
       leaf-room = rw head (omega (arith, left, ap length leaf))
 
+      -- It is written.
       pub put-leaf : {o₂ : List ℕ} {r : ℕ} → Puts (leafBytes doc (headOf t n)) o₁ from o₂ r → Puts (laid doc list (node h inner none)) o at o₂ r
       put-leaf b = joined leaf (rw head at b)
 
     -- A list: its id and count, then the elements.
     module _ (e : word t n 0 ≡ 9) where
+      -- The head says so too.
       nine : h .kind ≡ 9
       nine = ap (λ x. x .kind) (sym head) ∙ e
 
+      -- Its payload is a head and elements.
       listed : body ≡ listBytes h ++ laid doc true inner
       unfolding body
       listed = body-list doc h _ nine ∙ ap (λ b. listBytes h ++ laid doc b inner) (eq-eqb (h .kind) 9 nine)
 
+      -- There is room for the head.
       pub list-room : from + 5 ≤ length o₁
       list-room = omega (arith, left, ap length listed, length-append (listBytes h) (laid doc true inner), list-length h)
 
       module _ {o₂ : List ℕ} {first : ℕ} (b : Puts (listBytes (headOf t n)) o₁ from o₂ first) where
+        -- The head is written.
         started : Puts (listBytes h) o₁ from o₂ first
         started = rw head at b
 
+        -- It fits.
         list-fits : from + length (listBytes h) ≤ length o₁
         list-fits = omega (arith, list-length h, list-room)
 
+        -- There is room for the elements.
         pub elements-fit : first + length (laid doc true inner) ≤ length o₂
         elements-fit = omega (arith, left, ap length listed, length-append (listBytes h) (laid doc true inner), started .next, puts-length started list-fits)
 
+        -- The elements stand in the table.
         pub list-rows : Rows doc t true (n + 1) end inner
         list-rows = subst (λ x. Rows doc t x (n + 1) end inner) (eq-eqb (h .kind) 9 nine) (rows-inner doc t list n end h inner (p .one .rows))
 
+        -- So they may be written.
         abbrev pub list-some : SomeRoom doc t true (n + 1) end o₂ first
         list-some = record {
           some = record { small = p .one .small; forest = inner; rows = list-rows };
           room = elements-fit;
         }
 
+        -- They are written.
         pub put-list : {o₃ : List ℕ} {r : ℕ} → ((q : SomeRoom doc t true (n + 1) end o₂ first) → Puts (laid doc true (q .some .forest)) o₂ first o₃ r)
             → Puts (laid doc list (node h inner none)) o at o₃ r
         put-list told = joined listed (puts-then started list-fits (told list-some))
 
     -- A compound: the entries, then the end byte.
     module _ (e : word t n 0 ≡ 10) where
+      -- The head says so too.
       ten : h .kind ≡ 10
       ten = ap (λ x. x .kind) (sym head) ∙ e
 
+      -- Its payload is entries and an end byte.
       entered : body ≡ laid doc false inner ++ bytesOf 1 0
       unfolding body
       entered = body-compound doc h _ ten ∙ ap (λ b. laid doc b inner ++ bytesOf 1 0) (ne-eqb (h .kind) 9 (λ q. omega (arith, ten)))
 
+      -- There is room for them.
       pub entries-fit : from + length (laid doc false inner) + 1 ≤ length o₁
       entries-fit = omega (arith, left, ap length entered, length-append (laid doc false inner) (bytesOf 1 0), bytes-length 1 0)
 
+      -- The entries stand in the table.
       pub entry-rows : Rows doc t false (n + 1) end inner
       entry-rows = subst (λ x. Rows doc t x (n + 1) end inner) (ne-eqb (h .kind) 9 (λ q. omega (arith, ten))) (rows-inner doc t list n end h inner (p .one .rows))
 
+      -- So they may be written.
       abbrev pub compound-some : SomeRoom doc t false (n + 1) end o₁ from
       compound-some = record {
         some = record { small = p .one .small; forest = inner; rows = entry-rows };
@@ -221,5 +253,6 @@ module _ (doc t : List ℕ) (list : Bool) (n end : ℕ) (o : List ℕ) (at : ℕ
         pub end-room : last + 1 ≤ length o₂
         end-room = let b = told compound-some in omega (arith, entries-fit, b .next, puts-length b (omega (arith, entries-fit)))
 
+        -- They are written, and the end byte.
         pub put-compound : {o₃ : List ℕ} → o₃ ≡ over o₂ last (bytesOf 1 0) → Puts (laid doc list (node h inner none)) o at o₃ (last + 1)
         put-compound g = joined entered (puts-then (told compound-some) (omega (arith, entries-fit)) (puts-number 1 0 (last + 1) refl g))

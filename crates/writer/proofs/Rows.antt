@@ -27,6 +27,7 @@ use Rattle.writer.proofs.Pieces.{head-of}
 
 -- ---- the first of some records
 
+-- The first of some records, with those in it and those after it.
 pub record Here (doc t : List ℕ) (l : Bool) (n end : ℕ) (f : Forest) : Type 0 where
   pub head : Head
   pub inner : Forest
@@ -70,6 +71,7 @@ no-holds : (k s c : ℕ) → leafFits k s c ≡ true → holds k ≡ true → �
 no-holds k s c e f = let z : true ≡ false = sym e ∙ fits-held k s c f in let y : _≡_ {A = ℕ} 0 1 = cc in omega arith
 
 module _ (doc t : List ℕ) (l : Bool) (n end : ℕ) (h : Head) (inner : Forest) (r : Rows doc t l n end (node h inner none)) where
+  -- Its eight words stand in the table.
   stands : Stands t n h (n + 1 + size inner)
   stands = sits-first t n h inner none (r .sits)
 
@@ -82,6 +84,7 @@ module _ (doc t : List ℕ) (l : Bool) (n end : ℕ) (h : Head) (inner : Forest)
   unfolding size
   rows-to = omega (arith, r .to)
 
+  -- And its last word says so.
   pub rows-end : word t n 7 ≡ end
   rows-end = stands .end ∙ sym rows-to
 
@@ -132,11 +135,13 @@ module _ (doc t : List ℕ) (l : Bool) (n end : ℕ) (h : Head) (inner : Forest)
 
 -- ---- the names of records side by side
 
+-- Names of fair records lie in the document.
 names-in : (d : ℕ) (l : Bool) (f : Forest) → Fair d l f → NamesIn d f
 unfolding Fair NamesIn
 names-in d l none w = tt
 names-in d l (node h inner later) w = (w .0 .within, names-in d l later (w .3))
 
+-- And the words for links are 0.
 free-in : (d : ℕ) (l : Bool) (f : Forest) → Fair d l f → Free f
 unfolding Fair Free
 free-in d l none w = tt
@@ -152,6 +157,7 @@ free-in d l (node h inner later) w = (go (w .1) (holds (h .kind)) refl, free-in 
     go (inr c) false e = let z : true ≡ false = sym (c .kind) ∙ e in let y : _≡_ {A = ℕ} 0 1 = cc in absurd (omega arith)
 
 module _ (doc t : List ℕ) (l : Bool) (n end : ℕ) (f : Forest) (r : Rows doc t l n end f) where
+  -- Where records stand, writing them changes nothing.
   written : t ≡ wrote t n f
   unfolding wrote
   written =
@@ -159,6 +165,7 @@ module _ (doc t : List ℕ) (l : Bool) (n end : ℕ) (f : Forest) (r : Rows doc 
       ap (take (length (flat n f))) (sym (sits-words t n f (r .sits))) ∙ take-append-seam (flat n f) (drop (8 * (n + size f)) t) in
       sym (ap (over t (8 * n)) (sym e) ∙ over-part t (8 * n) (length (flat n f)) (omega (arith, flat-length n f, r .to, r .fits)))
 
+  -- So the table holds them.
   abbrev held : Holds (length doc) t n end
   held = record { acc = f; base = t; is = written; to = r .to; fits = r .fits; names = names-in (length doc) l f (r .fair) }
 

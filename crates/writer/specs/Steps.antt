@@ -9,18 +9,19 @@ use Rattle.form.specs.Answer.{Out, got, no}
 use Rattle.form.specs.Spans.{over}
 use Rattle.form.specs.Table.{Head, Forest, none, node, size, word}
 use Rattle.form.specs.Tables.{Fair, Within, IsTable}
-use Rattle.form.specs.Writing.{Gives, written, WriteIs}
+use Rattle.form.specs.Writing.{judged, Gives, written, WriteIs}
 use Rattle.form.proofs.Tables.{Sits}
 use Rattle.writer.specs.declared.Answer.{Answer}
 use Rattle.writer.specs.declared.Fine.{Fine}
 use Rattle.writer.specs.declared.Size.{Size}
-use Rattle.writer.specs.Pieces.{laid}
+use Rattle.writer.specs.Pieces.{oneJudged, laid}
 
 -- 01's number and values for each case of the public answer
 abbrev pub answerOut : Answer → Out ℕ
 answerOut (Answer.Written n) = got n
 answerOut (Answer.Refused n p) = no n p
 
+-- the same of one record
 abbrev pub fineOut : Fine → Out (Unit {0})
 fineOut Fine.Yes = got tt
 fineOut (Fine.No n p) = no n p
@@ -56,11 +57,22 @@ abbrev pub Sized : Out (Unit {0}) → List ℕ → Size → Type 0
 Sized o bs (Size.Is n) = (o ≡ got tt) × (n ≡ length bs)
 Sized o bs (Size.No m p) = o ≡ no m p
 
+-- what judging the records from n up to `end` answers, whichever stand there; the table is as it was
+abbrev pub JudgedIs : List ℕ → List ℕ → ℕ → Bool → ℕ → ℕ → ℕ → Size → List ℕ → Type 0
+JudgedIs doc t left list k n end r t′ =
+    ((p : Some doc t list n end) → Sized (judged doc left list k none n (p .forest)) (laid doc list (p .forest)) r) × (t′ ≡ t)
+
+-- and what judging one record answers, with those in it
+abbrev pub OneJudgedIs : List ℕ → List ℕ → ℕ → Bool → ℕ → Bool → ℕ → ℕ → Size → List ℕ → Type 0
+OneJudgedIs doc t left list k twice n end r t′ =
+    ((p : One doc t list n end) → Sized (oneJudged doc left list k twice n (p .head) (p .inner)) (laid doc list (node (p .head) (p .inner) none)) r) × (t′ ≡ t)
+
 -- there is room for the bytes of records at `at`
 pub record SomeRoom (doc t : List ℕ) (list : Bool) (n end : ℕ) (out : List ℕ) (at : ℕ) : Type 0 where
   pub some : Some doc t list n end
   pub room : at + length (laid doc list (some .forest)) ≤ length out
 
+-- and for those of one record
 pub record OneRoom (doc t : List ℕ) (list : Bool) (n end : ℕ) (out : List ℕ) (at : ℕ) : Type 0 where
   pub one : One doc t list n end
   pub room : at + length (laid doc list (node (one .head) (one .inner) none)) ≤ length out
@@ -69,6 +81,16 @@ pub record OneRoom (doc t : List ℕ) (list : Bool) (n end : ℕ) (out : List �
 pub record Puts (bs out : List ℕ) (at : ℕ) (out′ : List ℕ) (r : ℕ) : Type 0 where
   pub is : out′ ≡ over out at bs
   pub next : r ≡ at + length bs
+
+-- the bytes of the records from n up to `end` were put there, whichever stand there
+abbrev pub PutAllIs : List ℕ → List ℕ → Bool → ℕ → ℕ → List ℕ → ℕ → List ℕ → ℕ → Type 0
+PutAllIs doc t list n end out at out′ r =
+    (p : SomeRoom doc t list n end out at) → Puts (laid doc list (p .some .forest)) out at out′ r
+
+-- and those of one record, with those in it
+abbrev pub PutOneIs : List ℕ → List ℕ → Bool → ℕ → ℕ → List ℕ → ℕ → List ℕ → ℕ → Type 0
+PutOneIs doc t list n end out at out′ r =
+    (p : OneRoom doc t list n end out at) → Puts (laid doc list (node (p .one .head) (p .one .inner) none)) out at out′ r
 
 -- the words form a table, and the limits are kept
 pub record Formed (doc t : List ℕ) : Type 0 where

@@ -5,11 +5,11 @@ ghost use mathlib.Core.Bool.{false};
 ghost use Prim.Native.Nat.{_+_, _*_, _≤_, _<_};
 ghost use lib.ListN.{length};
 ghost use Rattle.form.specs.Spans.{part, over};
-ghost use Rattle.form.specs.Table.{none, node, word as wordOf};
-ghost use Rattle.form.specs.Writing.{stringFine, payloadFine, judged as judgedOf, WriteIs};
+ghost use Rattle.form.specs.Table.{word as wordOf};
+ghost use Rattle.form.specs.Writing.{stringFine, payloadFine};
 ghost use Rattle.siblings.specs.Lists.{Family};
-ghost use Rattle.writer.specs.Pieces.{headOf, deep as deepOf, mixed as mixedOf, isAt, firstTwice, restFine, ownFine, oneJudged, nameBytes, lengthBytes, leafBytes, listBytes, laid, bodySize, ownSize};
-ghost use Rattle.writer.specs.Steps.{answerOut, fineOut, Placed, Some, One, Sized, SomeRoom, OneRoom, Puts, Formed, WrittenIs, WroteIs};
+ghost use Rattle.writer.specs.Pieces.{headOf, deep as deepOf, mixed as mixedOf, isAt, firstTwice, restFine, ownFine, nameBytes, lengthBytes, leafBytes, listBytes, bodySize, ownSize};
+ghost use Rattle.writer.specs.Steps.{answerOut, fineOut, Placed, Some, One, JudgedIs, OneJudgedIs, SomeRoom, OneRoom, Puts, PutAllIs, PutOneIs, Formed, WrittenIs, WroteIs};
 use siblings::Found;
 use table::Verdict;
 
@@ -197,7 +197,7 @@ fn judged(
     k: usize,
 ) -> Size
     requires { ⌜ Some (now doc) (now table) list n end ⌝ }
-    ensures { λ r. ⌜ ((p : Some (now (doc .entry)) (now (table .entry)) list n end) → Sized (judgedOf (now (doc .entry)) left list k none n (p .forest)) (laid (now (doc .entry)) list (p .forest)) r) × (now (table .exit) ≡ now (table .entry)) ⌝ }
+    ensures { λ r. ⌜ JudgedIs (now (doc .entry)) (now (table .entry)) left list k n end r (now (table .exit)) ⌝ }
 {
     let repeat = first_twice(doc, table, n, end, list);
     let mut i = n;
@@ -228,7 +228,7 @@ fn one_judged(
     twice: bool,
 ) -> Size
     requires { ⌜ One (now doc) (now table) list n end ⌝ }
-    ensures { λ r. ⌜ ((p : One (now (doc .entry)) (now (table .entry)) list n end) → Sized (oneJudged (now (doc .entry)) left list k twice n (p .head) (p .inner)) (laid (now (doc .entry)) list (node (p .head) (p .inner) none)) r) × (now (table .exit) ≡ now (table .entry)) ⌝ }
+    ensures { λ r. ⌜ OneJudgedIs (now (doc .entry)) (now (table .entry)) left list k twice n end r (now (table .exit)) ⌝ }
 {
     match own_fine(doc, table, n, left, list, k, twice) {
         Fine::No { number, place } => Size::No { number, place },
@@ -323,7 +323,7 @@ fn put_one(
     at: usize,
 ) -> usize
     requires { ⌜ OneRoom (now doc) (now table) list n end (now out) at ⌝ }
-    ensures { λ r. ⌜ ((p : OneRoom (now (doc .entry)) (now (table .entry)) list n end (now (out .entry)) at) → Puts (laid (now (doc .entry)) list (node (p .one .head) (p .one .inner) none)) (now (out .entry)) at (now (out .exit)) r) ⌝ }
+    ensures { λ r. ⌜ PutOneIs (now (doc .entry)) (now (table .entry)) list n end (now (out .entry)) at (now (out .exit)) r ⌝ }
 {
     let from = put_name(doc, table, n, list, out, at);
     let kind = table::word(table, n, table::KIND);
@@ -350,7 +350,7 @@ fn put_all(
     at: usize,
 ) -> usize
     requires { ⌜ SomeRoom (now doc) (now table) list n end (now out) at ⌝ }
-    ensures { λ r. ⌜ ((p : SomeRoom (now (doc .entry)) (now (table .entry)) list n end (now (out .entry)) at) → Puts (laid (now (doc .entry)) list (p .some .forest)) (now (out .entry)) at (now (out .exit)) r) ⌝ }
+    ensures { λ r. ⌜ PutAllIs (now (doc .entry)) (now (table .entry)) list n end (now (out .entry)) at (now (out .exit)) r ⌝ }
 {
     let mut i = n;
     let mut here = at;

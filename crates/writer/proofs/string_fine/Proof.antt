@@ -20,17 +20,17 @@ whole : (doc : List ℕ) (a n : ℕ) {b : Bool} → wellFormed (part doc a (a + 
 whole doc a n e = let k : n ≡ a + n - a = omega arith in rw k e
 
 returns : tie.Need-returns
-returns c = sym (string-long _ _ _ _ (c .if1 .taken))
+returns c = sym (string-long _ _ _ _ (omega arith))
 
 returns-2 : tie.Need-returns-2
 returns-2 c =
     let a = c .before .before .before .before .before .args in
-    sym (string-good (a .doc .now) (a .start) (a .size) (a .n) (c .before .before .before .if1 .left) (whole (a .doc .now) (a .start) (a .size) (sym (c .before .is-well-formed .ensures) ∙ c .if2 .taken)))
+    sym (string-good (a .doc .now) (a .start) (a .size) (a .n) (omega arith) (whole (a .doc .now) (a .start) (a .size) (sym (c .before .is-well-formed .ensures) ∙ c .if2 .taken)))
 
 returns-3 : tie.Need-returns-3
 returns-3 c =
     let a = c .before .before .before .before .before .args in
-    sym (string-bad (a .doc .now) (a .start) (a .size) (a .n) (c .before .before .before .if1 .left) (whole (a .doc .now) (a .start) (a .size) (sym (c .before .is-well-formed .ensures) ∙ c .if2 .left)))
+    sym (string-bad (a .doc .now) (a .start) (a .size) (a .n) (omega arith) (whole (a .doc .now) (a .start) (a .size) (sym (c .before .is-well-formed .ensures) ∙ c .if2 .left)))
 
 pub string-fine-spec : {M : Type 1} → statement M
 string-fine-spec =

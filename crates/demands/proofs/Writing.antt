@@ -1,0 +1,97 @@
+-- The theorems on writing, as specs/Writing.antt states them.
+-- Assumes nothing.
+use Prim.Native.Nat.{ℕ, _+_, _≤_}
+use mathlib.Core.Bool.{false}
+use mathlib.Core.List.{List, [], _++_, append-nil}
+use mathlib.Core.Path.{_≡_, refl, sym, ap, subst, _∙_}
+use native.Mathlib.Omega.{arith}
+use borrow.Author.Tests.{leb-true, le-leb}
+use lib.Dec.{leb, eqb}
+use lib.ListN.{length, take, length-append}
+use lib.Seq.{length-take-le}
+use Rattle.form.specs.Answer.{Out, got, no, guard, _>>_, depthLimit, recordLimit}
+use Rattle.form.specs.Tree.{compound, Document, Lawful, Valid, depth, entriesCount}
+use Rattle.form.specs.Layout.{layout}
+use Rattle.form.specs.Table.{Head, Forest, none, node, size, valueBy, tagsOf, entriesOf, valueOf}
+use Rattle.form.specs.Tables.{Fair, IsTable, Within}
+use Rattle.form.specs.Reading.{One, documentAt}
+use Rattle.form.specs.Writing.{judged, written}
+use Rattle.form.proofs.Answer.{got-no, guard-got}
+use Rattle.form.proofs.Table.{size-one, flat-length}
+use Rattle.form.proofs.Tables.{table-length, fair-inner}
+use Rattle.demands.specs.Reading.{Bytes, Complete}
+use Rattle.demands.specs.Writing.{tableValue, Wrote, IsWrittenLawful, IsLawfulWritten, IsReadBack, IsRewritten, IsDomain}
+use Rattle.demands.proofs.Judged.{then-got, root-lawful, lawful-root, counted}
+use Rattle.demands.proofs.Answers.{of-got}
+use Rattle.demands.proofs.Fairly.{document-fair}
+use Rattle.demands.proofs.Near.{near}
+use Rattle.demands.proofs.Reading.{canonical, sound, complete}
+
+-- A table has no more records than the limit allows.
+table-few : (doc w : List ℕ) → Within (length doc) w → (t : IsTable (length doc) w) → 1 + size (t .inner) ≤ recordLimit
+table-few doc w s t = omega (arith, s .words, table-length (length doc) w t)
+
+-- What is written is the layout of the table's document, which keeps the rules.
+pub written-lawful : IsWrittenLawful
+unfolding written
+written-lawful doc w bytes s t room bs e =
+    let a = then-got (judged doc depthLimit false 0 none 0 (node (t .head) (t .inner) none)) _ e in
+    let b = guard-got (leb (length (layout (tableValue doc w t))) room) _ _ _ (a .1) in
+    let q : layout (tableValue doc w t) ≡ bs = cc (b .1) in
+    record {
+      laid = sym q;
+      lawful = root-lawful doc (t .head) (t .inner) (t .compound) (t .fair) bytes (s .bytes) (omega (arith, table-few doc w s t, size-one (t .head) (t .inner))) (a .0);
+      fits = omega (arith, leb-true (length (layout (tableValue doc w t))) room (b .0), ap length q);
+    }
+
+-- Every table whose document keeps the rules is written, where there is room.
+pub lawful-written : IsLawfulWritten
+unfolding written
+lawful-written doc w bytes s t room lawful fits =
+    rw (lawful-root doc (t .head) (t .inner) (t .compound) (t .fair) lawful, le-leb (length (layout (tableValue doc w t))) room fits) refl
+
+-- What is written is read back.
+pub read-back : IsReadBack
+read-back doc w bytes s t room bs e rest small =
+    let x = written-lawful doc w bytes s t room bs e in
+    let d = tableValue doc w t in
+    let c = counted doc (eqb (t .head .kind) 9) (t .inner) (fair-inner (length doc) false (t .head) (t .inner) none (t .fair)) in
+    rw (x .laid) (complete d (layout d) rest recordLimit (canonical d) (x .lawful) (omega (arith, table-few doc w s t, c .entries)) (rw (x .laid) at small))
+
+-- ---- write after read
+
+-- What was read is written again, with room for it.
+again : (doc : List ℕ) (room : ℕ) (x : One) → documentAt doc room ≡ got x → Lawful (valueOf doc (x .head) (x .inner)) → (to : ℕ) → length (layout (valueOf doc (x .head) (x .inner))) ≤ to
+    → written doc (x .head) (x .inner) to ≡ got (layout (valueOf doc (x .head) (x .inner)))
+unfolding written
+again doc room x e lawful to fits =
+    let f = of-got e (document-fair doc room) in
+    rw (lawful-root doc (x .head) (x .inner) (f .0) (f .1) lawful, le-leb (length (layout (valueOf doc (x .head) (x .inner)))) to fits) refl
+
+-- The table that reading leaves is written as the bytes consumed, but at the ids of empty lists.
+pub rewritten : IsRewritten
+rewritten doc bytes room few x e =
+    let s = sound doc bytes room x e in
+    let f = of-got e (document-fair doc room) in
+    let d = valueOf doc (x .head) (x .inner) in
+    let n = near d (take (x .next) doc) (s .laid) in
+    let long : length (layout d) ≡ x .next = sym (n .long) ∙ length-take-le (x .next) doc (s .within) in
+    record {
+      table = record { head = x .head; inner = x .inner; compound = f .0; fair = f .1; these = refl };
+      head-is = refl;
+      inner-is = refl;
+      small = record { bytes = s .small; words = omega (arith, flat-length 0 (node (x .head) (x .inner) none), size-one (x .head) (x .inner), s .fits, s .records) };
+      written-is = λ to l. again doc room x e (s .lawful) to (omega (arith, long));
+      near = n;
+    }
+
+-- ---- the domain of equality
+
+-- Each document of the domain is read from its layout, and written as that layout again.
+pub domain : IsDomain
+domain d i =
+    let bs = layout d in
+    let c : Complete bs recordLimit d bs =
+    subst (λ l. Complete l recordLimit d bs) (append-nil bs) (complete d bs [] recordLimit (canonical d) (i .lawful) (i .records) (omega (arith, length-append {A = ℕ} bs [], i .bytes))) in
+    let w = again bs recordLimit (c .x) (c .accepted) (subst Lawful (sym (c .tree)) (i .lawful)) (length bs) (omega (arith, ap (λ e. length (layout e)) (c .tree))) in
+    (c .x, c .accepted, c .tree, w ∙ ap (λ e. got (layout e)) (c .tree))

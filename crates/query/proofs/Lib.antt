@@ -1,0 +1,5 @@
+pub mod Sides
+pub mod Depths
+pub mod Walking
+pub mod Roots
+pub mod Finds

@@ -1,0 +1,208 @@
+-- `steps::matched` meets its contract: each way through the code is a case of the definition, and a call is asked with fewer steps and levels.
+-- Assumes nothing.
+use borrow.Author.Needs.{needs}
+use Prim.Native.Nat.{ℕ, _+_, _-_, _*_, _≤_, _<_}
+use mathlib.Core.Bool.{Bool, true, false}
+use mathlib.Core.Path.{_≡_, refl, sym, ap, _∙_}
+use native.Mathlib.Omega.{arith}
+use denote.Ref.{now}
+use lib.ListN.{length, getD}
+use borrow.Fn.Kinds.{In, Out}
+use borrow.Fn.PlainCycle.{Measures, is, falls, and}
+use Rattle.steps.specs.Steps.{stepNo, noStep}
+use Rattle.steps.specs.Levels.{hopNo}
+use Rattle.steps.proofs.Levels.{step-deep, step-shallow, took-at}
+use Rattle.steps.proofs.Matching.{end-fits, end-not, deep-all, deep-fits, deep-nowhere, deep-last, deep-on, one-last, one-on, one-off}
+use Rattle.steps.proofs.matched.Reads as matched
+use Rattle.steps.proofs.matched.Kinds as kinds
+use Rattle.steps.proofs.+matched.Lts-matched as lts
+use Rattle.steps.proofs.index_at.Reads as index-at-reads
+use Rattle.steps.proofs.record_at.Reads as record-at-reads
+use Rattle.steps.proofs.step_takes.Reads as step-takes-reads
+use Rattle.steps.proofs.+matched.{statement}
+use Rattle.steps.proofs.+matched.Tie.{close}
+
+-- What falls: the steps left and the levels left together.
+abbrev μ : Measures 4 kinds.ps ℕ
+μ κs a = (a .1 .1 .1 .0 .count - a .1 .1 .1 .1 .1 .1 .0) + (a .1 .1 .1 .1 .1 .0 - a .1 .1 .1 .1 .1 .1 .1 .0)
+
+abbrev at : ℕ → In 4 kinds.ps
+at t = and 4 kinds.ps (is 4 kinds.ps μ t) matched.Pre
+
+abbrev below : ℕ → In 4 kinds.ps
+below t = and 4 kinds.ps (falls 4 kinds.ps _<_ μ t) matched.Pre
+
+abbrev On : ℕ → (lts.Claims → In 4 kinds.ps → Out 4 kinds.ps kinds.r → Type 0) → Type 0
+On t F = F (below t, matched.Post, record-at-reads.Asked, record-at-reads.Learnt, index-at-reads.Asked, index-at-reads.Learnt, step-takes-reads.Asked, step-takes-reads.Learnt) (at t) matched.Post
+
+module _ (t : ℕ) where
+  returns : On t lts.Need-returns
+  returns c =
+      let a = c .before .before .before .before .before .before .args in
+      end-fits (stepNo (now (a .q)) (a .t4)) (hopNo (now (a .doc)) (now (a .table)) (now (a .trail))) (a .t4 .count) (a .s) (a .d) (a .p) (c .before .if1 .taken) (c .if2 .taken)
+
+  returns-2 : On t lts.Need-returns-2
+  returns-2 c =
+      let a = c .before .before .before .before .before .before .args in
+      end-not (stepNo (now (a .q)) (a .t4)) (hopNo (now (a .doc)) (now (a .table)) (now (a .trail))) (a .t4 .count) (a .s) (a .d) (a .p) (c .before .if1 .taken) (c .if2 .left)
+
+  mul-step : On t lts.Need-mul-step
+  mul-step c = let few = c .before .before .before .before .before .pre .1 .0 .asks .few in omega arith
+
+  element-copy-out-step : On t lts.Need-element-copy-out-step
+  element-copy-out-step c = let few = c .before .before .before .before .before .pre .1 .0 .asks .few in omega arith
+
+  add-if4 : On t lts.Need-add-if4
+  add-if4 c = let few = c .before .before .before .before .before .before .before .pre .1 .0 .asks .few in omega arith
+
+  returns-3 : On t lts.Need-returns-3
+  returns-3 c =
+      let a = c .before .before .before .before .before .before .before .before .args in
+      deep-all (stepNo (now (a .q)) (a .t4)) (hopNo (now (a .doc)) (now (a .table)) (now (a .trail))) (a .t4 .count) (a .s) (a .d) (a .p) (c .before .before .before .if1 .left) (step-deep _ _ (c .before .if3 .taken)) (c .if4 .taken)
+
+  matched-requires : On t lts.Need-matched-requires
+  matched-requires c κs =
+      let e = c .before .before .before .before .before .before .before .before .pre .0 in
+      (omega arith, c .before .before .before .before .before .before .before .before .pre .1)
+
+  enum-told : On t lts.Need-enum-told
+  enum-told c = c .match .keys1
+
+  returns-4 : On t lts.Need-returns-4
+  returns-4 c =
+      let at-matched = c .before .before in
+      let at-else4 = at-matched .before in
+      let at-then3 = at-else4 .before in
+      let at-else1 = at-then3 .before .before in
+      let at-start = at-else1 .before .before .before .before .before in
+      let a = at-start .args in
+      deep-fits (stepNo (now (a .q)) (a .t4)) (hopNo (now (a .doc)) (now (a .table)) (now (a .trail))) (a .t4 .count) (a .s) (a .d) (a .p) (at-else1 .if1 .left) (step-deep _ _ (at-then3 .if3 .taken)) (at-else4 .if4 .left) (at-matched .matched .result) (at-matched .matched .ensures) (c .enum-told .given .1)
+
+  enum-told-2 : On t lts.Need-enum-told-2
+  enum-told-2 c = c .match .keys2
+
+  returns-5 : On t lts.Need-returns-5
+  returns-5 c =
+      let at-matched = c .before .before in
+      let at-else4 = at-matched .before in
+      let at-then3 = at-else4 .before in
+      let at-else1 = at-then3 .before .before in
+      let at-start = at-else1 .before .before .before .before .before in
+      let a = at-start .args in
+      deep-nowhere (stepNo (now (a .q)) (a .t4)) (hopNo (now (a .doc)) (now (a .table)) (now (a .trail))) (a .t4 .count) (a .s) (a .d) (a .p) (at-else1 .if1 .left) (step-deep _ _ (at-then3 .if3 .taken)) (at-else4 .if4 .left) (at-matched .matched .result) (at-matched .matched .ensures) (c .enum-told2 .given .1)
+
+  enum-told-3 : On t lts.Need-enum-told-3
+  enum-told-3 c = c .match .keys3
+
+  returns-6 : On t lts.Need-returns-6
+  returns-6 c =
+      let at-matched = c .before .before .before in
+      let at-else4 = at-matched .before in
+      let at-then3 = at-else4 .before in
+      let at-else1 = at-then3 .before .before in
+      let at-start = at-else1 .before .before .before .before .before in
+      let a = at-start .args in
+      deep-last (stepNo (now (a .q)) (a .t4)) (hopNo (now (a .doc)) (now (a .table)) (now (a .trail))) (a .t4 .count) (a .s) (a .d) (a .p) (at-else1 .if1 .left) (step-deep _ _ (at-then3 .if3 .taken)) (at-else4 .if4 .left) (at-matched .matched .result) (at-matched .matched .ensures) (c .before .enum-told3 .given .1) (c .if5 .taken)
+
+  matched-requires-2 : On t lts.Need-matched-requires-2
+  matched-requires-2 c κs =
+      let e = c .before .before .before .before .before .before .before .before .before .before .before .before .pre .0 in
+      (omega arith, (c .before .before .before .before .before .before .before .before .before .before .before .before .pre .1 .0, omega arith))
+
+  returns-7 : On t lts.Need-returns-7
+  returns-7 c =
+      let at-enum-told3 = c .before .before in
+      let at-matched = at-enum-told3 .before .before in
+      let at-else4 = at-matched .before in
+      let at-then3 = at-else4 .before in
+      let at-else1 = at-then3 .before .before in
+      let at-start = at-else1 .before .before .before .before .before in
+      let a = at-start .args in
+      deep-on (stepNo (now (a .q)) (a .t4)) (hopNo (now (a .doc)) (now (a .table)) (now (a .trail))) (a .t4 .count) (a .s) (a .d) (a .p) (at-else1 .if1 .left) (step-deep _ _ (at-then3 .if3 .taken)) (at-else4 .if4 .left) (at-matched .matched .result) (at-matched .matched .ensures) (at-enum-told3 .enum-told3 .given .1) (c .before .if5 .left) (c .matched2 .result) (c .matched2 .ensures)
+
+  returns-8 : On t lts.Need-returns-8
+  returns-8 c =
+      let a = c .before .before .before .before .before .before .before .before .args in
+      one-last (stepNo (now (a .q)) (a .t4)) (hopNo (now (a .doc)) (now (a .table)) (now (a .trail))) (a .t4 .count) (a .s) (a .d) (a .p) (c .before .before .before .if1 .left) (step-shallow _ _ (c .before .if3 .left)) (c .if6 .taken)
+
+  record-at-requires : On t lts.Need-record-at-requires
+  record-at-requires c κs = let long = c .before .before .before .before .before .before .before .before .pre .1 .0 .long in omega arith
+
+  record-at-requires-2 : On t lts.Need-record-at-requires-2
+  record-at-requires-2 c κs = let long = c .before .before .before .before .before .before .before .before .before .pre .1 .0 .long in omega arith
+
+  index-at-requires : On t lts.Need-index-at-requires
+  index-at-requires c κs = let long = c .before .before .before .before .before .before .before .before .before .before .pre .1 .0 .long in omega arith
+
+  step-takes-requires : On t lts.Need-step-takes-requires
+  step-takes-requires c κs =
+      let at-record-at = c .before .before in
+      let at-else1 = at-record-at .before .before .before .before in
+      let at-start = at-else1 .before .before .before .before .before in
+      let a = at-start .args in
+      let r = at-start .pre .1 .0 .records in
+      (at-start .pre .1 .0 .asks .names (a .s) (at-else1 .if1 .left), rw (at-record-at .record-at .ensures) (r (a .p - 1) (omega arith)), rw (c .before .record-at2 .ensures) (r (a .p) (omega arith)))
+
+  matched-requires-3 : On t lts.Need-matched-requires-3
+  matched-requires-3 c κs =
+      let e = c .before .before .before .before .before .before .before .before .before .before .before .before .before .pre .0 in
+      (omega arith, (c .before .before .before .before .before .before .before .before .before .before .before .before .before .pre .1 .0, omega arith))
+
+  returns-9 : On t lts.Need-returns-9
+  returns-9 c =
+      let at-step-takes = c .before .before in
+      let at-index-at = at-step-takes .before in
+      let at-record-at2 = at-index-at .before in
+      let at-record-at = at-record-at2 .before in
+      let at-else6 = at-record-at .before in
+      let at-else3 = at-else6 .before in
+      let at-else1 = at-else3 .before .before in
+      let at-start = at-else1 .before .before .before .before .before in
+      let a = at-start .args in
+      let k : a .p - 1 + 1 ≡ a .p = omega arith in
+      one-on (stepNo (now (a .q)) (a .t4)) (hopNo (now (a .doc)) (now (a .table)) (now (a .trail))) (a .t4 .count) (a .s) (a .d) (a .p) (at-else1 .if1 .left) (step-shallow _ _ (at-else3 .if3 .left)) (at-else6 .if6 .left) (took-at (now (a .doc)) (now (a .table)) (now (a .q)) (now (a .trail)) (getD (a .t4 .steps) (a .s) noStep) (a .p - 1) (a .p) k (at-record-at .record-at .ensures) (at-record-at2 .record-at2 .ensures) (at-index-at .index-at .ensures) (at-step-takes .step-takes .ensures) (c .before .if7 .taken)) (c .matched3 .result) (c .matched3 .ensures)
+
+  returns-10 : On t lts.Need-returns-10
+  returns-10 c =
+      let at-index-at = c .before .before in
+      let at-record-at2 = at-index-at .before in
+      let at-record-at = at-record-at2 .before in
+      let at-else6 = at-record-at .before in
+      let at-else3 = at-else6 .before in
+      let at-else1 = at-else3 .before .before in
+      let at-start = at-else1 .before .before .before .before .before in
+      let a = at-start .args in
+      one-off (stepNo (now (a .q)) (a .t4)) (hopNo (now (a .doc)) (now (a .table)) (now (a .trail))) (a .t4 .count) (a .s) (a .d) (a .p) (at-else1 .if1 .left) (step-shallow _ _ (at-else3 .if3 .left)) (at-else6 .if6 .left) (took-at (now (a .doc)) (now (a .table)) (now (a .q)) (now (a .trail)) (getD (a .t4 .steps) (a .s) noStep) (a .p - 1) (a .p) (omega arith) (at-record-at .record-at .ensures) (at-record-at2 .record-at2 .ensures) (at-index-at .index-at .ensures) (c .before .step-takes .ensures) (c .if7 .left))
+
+pub +matched-spec : {M : Type 1} → statement M
++matched-spec =
+    close μ
+    (λ t. lts.spec (below t, matched.Post, record-at-reads.Asked, record-at-reads.Learnt, index-at-reads.Asked, index-at-reads.Learnt, step-takes-reads.Asked, step-takes-reads.Learnt) (at t) matched.Post
+    (returns t)
+    (returns-2 t)
+    (mul-step t)
+    (element-copy-out-step t)
+    (add-if4 t)
+    (returns-3 t)
+    (λ c. search needs)
+    (matched-requires t)
+    (enum-told t)
+    (returns-4 t)
+    (enum-told-2 t)
+    (returns-5 t)
+    (enum-told-3 t)
+    (returns-6 t)
+    (λ c. search needs)
+    (matched-requires-2 t)
+    (returns-7 t)
+    (returns-8 t)
+    (λ c. search needs)
+    (record-at-requires t)
+    (record-at-requires-2 t)
+    (index-at-requires t)
+    (step-takes-requires t)
+    (λ c. search needs)
+    (λ c. search needs)
+    (matched-requires-3 t)
+    (returns-9 t)
+    (returns-10 t))

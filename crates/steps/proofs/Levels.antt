@@ -1,0 +1,116 @@
+-- A step and a level, case by case: what a struct's step is, what a level is in the table's words, and whether the one takes the other.
+-- Assumes nothing.
+use Prim.Native.Nat.{ℕ, _+_, _-_, _*_, _≤_, _<_}
+use mathlib.Core.Path.{_≡_, refl, sym, ap, subst, _∙_}
+use mathlib.Core.List.{List, [], _∷_}
+use mathlib.Core.Bool.{Bool, true, false}
+use native.Mathlib.Omega.{arith}
+use lib.ListN.{length}
+use lib.Dec.{eqb}
+use borrow.Author.Tests.{eq-eqb, ne-eqb}
+use Rattle.form.specs.Answer.{pick}
+use Rattle.form.specs.Spans.{part, same}
+use Rattle.form.specs.Table.{word}
+use Rattle.form.specs.Paths.{Hop, named, item, Step, name, index, any, deep, takes}
+use Rattle.form.proofs.Spans.{same-head, same-differ, same-lengths, part-length}
+use Rattle.form.proofs.Paths.{hopOf}
+use Rattle.steps.specs.Steps.{stepOf}
+use Rattle.steps.specs.Levels.{recordNo, indexNo, nameOf, hopTo, hopNo, RecordIn}
+use Rattle.steps.specs.Three.{isDeep}
+use Rattle.steps.specs.declared.Step.{Step as StepWords}
+
+-- Two lists that begin alike, and two that do not.
+pub same-more : (p q : List ℕ) (a b : ℕ) (s t : List ℕ) → p ≡ a ∷ s → q ≡ b ∷ t → a ≡ b → same p q ≡ same s t
+same-more p q a b s t hp hq e = rw (hp, hq, e) (same-head b s t)
+
+pub same-less : (p q : List ℕ) (a b : ℕ) (s t : List ℕ) → p ≡ a ∷ s → q ≡ b ∷ t → (a ≡ b → ⊥) → same p q ≡ false
+same-less p q a b s t hp hq e = rw (hp, hq) (same-differ a b s t e)
+
+-- A name of the query and a record's name, of one length and of two.
+module _ (doc t q : List ℕ) (at len c : ℕ) where
+  pub name-alike : word t c 2 ≡ len → (r : Bool) → r ≡ same (part q at len) (part doc (word t c 1) len) → r ≡ same (part q at len) (nameOf doc t c)
+  name-alike e r h = rw e h
+
+  pub name-longer : (word t c 2 ≡ len → ⊥) → at + len ≤ length q → RecordIn doc t c → false ≡ same (part q at len) (nameOf doc t c)
+  name-longer n s z =
+      let x = part-length q at len s in
+      let y = part-length doc (word t c 1) (word t c 2) (z .name) in
+      sym (same-lengths (part q at len) (nameOf doc t c) (λ e. n (sym y ∙ sym e ∙ x)))
+
+-- ---- what a struct's step is
+
+module _ (q : List ℕ) (t : StepWords) where
+  step-name : t .kind ≡ 1 → stepOf q t ≡ name (part q (t .at) (t .len))
+  unfolding stepOf
+  step-name h = rw h
+
+  step-index : t .kind ≡ 2 → stepOf q t ≡ index (t .at)
+  unfolding stepOf
+  step-index h = rw h
+
+  pub step-deep : t .kind ≡ 4 → isDeep (stepOf q t) ≡ true
+  unfolding stepOf
+  step-deep h = rw h
+
+  pub step-shallow : (t .kind ≡ 4 → ⊥) → isDeep (stepOf q t) ≡ false
+  unfolding stepOf
+  step-shallow h = rw (ne-eqb (t .kind) 4 h) (go (eqb (t .kind) 1) (eqb (t .kind) 2))
+    where
+      go : (x y : Bool) → isDeep (pick x (name (part q (t .at) (t .len))) (pick y (index (t .at)) any)) ≡ false
+      go true y = refl
+      go false true = refl
+      go false false = refl
+
+  -- 03 and 04 take any level.
+  takes-rest : (t .kind ≡ 1 → ⊥) → (t .kind ≡ 2 → ⊥) → (h : Hop) → takes (stepOf q t) h ≡ true
+  unfolding stepOf
+  takes-rest a b h = rw (ne-eqb (t .kind) 1 a, ne-eqb (t .kind) 2 b) (go (eqb (t .kind) 4) h)
+    where
+      go : (x : Bool) (h : Hop) → takes (pick x deep any) h ≡ true
+      go true (named n) = refl
+      go true (item i) = refl
+      go false (named n) = refl
+      go false (item i) = refl
+
+-- ---- what a level is
+
+module _ (doc t : List ℕ) (parent c i : ℕ) where
+  hop-named : word t parent 0 ≡ 10 → hopTo doc t parent c i ≡ named (nameOf doc t c)
+  unfolding hopOf
+  hop-named h = rw h
+
+  hop-item : (word t parent 0 ≡ 10 → ⊥) → hopTo doc t parent c i ≡ item i
+  unfolding hopOf
+  hop-item h = rw (ne-eqb (word t parent 0) 10 h)
+
+-- ---- whether a step takes a level
+
+module _ (doc w q : List ℕ) (t : StepWords) (parent c i : ℕ) where
+  pub takes-name : t .kind ≡ 1 → word w parent 0 ≡ 10 → (r : Bool) → r ≡ same (part q (t .at) (t .len)) (nameOf doc w c) → r ≡ takes (stepOf q t) (hopTo doc w parent c i)
+  takes-name h k r e = rw (step-name q t h, hop-named doc w parent c i k) e
+
+  pub takes-no-name : t .kind ≡ 1 → (word w parent 0 ≡ 10 → ⊥) → false ≡ takes (stepOf q t) (hopTo doc w parent c i)
+  takes-no-name h k = rw (step-name q t h, hop-item doc w parent c i k)
+
+  pub takes-no-index : t .kind ≡ 2 → word w parent 0 ≡ 10 → false ≡ takes (stepOf q t) (hopTo doc w parent c i)
+  takes-no-index h k = rw (step-index q t h, hop-named doc w parent c i k)
+
+  pub takes-index : t .kind ≡ 2 → (word w parent 0 ≡ 10 → ⊥) → eqb (t .at) i ≡ takes (stepOf q t) (hopTo doc w parent c i)
+  takes-index h k = rw (step-index q t h, hop-item doc w parent c i k)
+
+  pub takes-any : (t .kind ≡ 1 → ⊥) → (t .kind ≡ 2 → ⊥) → true ≡ takes (stepOf q t) (hopTo doc w parent c i)
+  takes-any a b = sym (takes-rest q t a b (hopTo doc w parent c i))
+
+-- The level that a step was held against is level k + 1 of the path.
+pub took : (doc w q trail : List ℕ) (t : StepWords) (k : ℕ) {parent c i : ℕ} {r b : Bool} → parent ≡ recordNo trail k → c ≡ recordNo trail (k + 1) → i ≡ indexNo trail (k + 1)
+    → r ≡ takes (stepOf q t) (hopTo doc w parent c i) → r ≡ b → takes (stepOf q t) (hopNo doc w trail (k + 1)) ≡ b
+took doc w q trail t k {parent} {c} {i} {r} {b} x y z e f =
+    let n : k + 1 - 1 ≡ k = omega arith in
+    let g : takes (stepOf q t) (hopTo doc w parent c i) ≡ b = sym e ∙ f in
+    rw (n, ← x, ← y, ← z) g
+
+-- The same where that is level p.
+pub took-at : (doc w q trail : List ℕ) (t : StepWords) (k p : ℕ) → k + 1 ≡ p → {parent c i : ℕ} {r b : Bool} → parent ≡ recordNo trail k → c ≡ recordNo trail p → i ≡ indexNo trail p
+    → r ≡ takes (stepOf q t) (hopTo doc w parent c i) → r ≡ b → takes (stepOf q t) (hopNo doc w trail p) ≡ b
+took-at doc w q trail t k p k-is {parent} {c} {i} {r} {b} x y z e f =
+    subst (λ (n : ℕ). c ≡ recordNo trail n → i ≡ indexNo trail n → takes (stepOf q t) (hopNo doc w trail n) ≡ b) k-is (λ y′ z′. took doc w q trail t k x y′ z′ e f) y z

@@ -1,0 +1,36 @@
+-- `steps::one_step` meets its contract: the definition goes by the first byte, as the code does.
+-- Assumes nothing.
+use borrow.Author.Needs.{needs}
+use Rattle.steps.proofs.Spelling.{kind-is, any-is, deep-is, none-is}
+use Rattle.steps.proofs.one_step.Statement.{statement}
+use Rattle.steps.proofs.one_step.Tie as tie
+
+returns : tie.Need-returns
+returns c = kind-is _ _ (c .before .before .before .before .pre .0) 1 (c .name-step .result) (c .before .if1 .taken) (c .name-step .ensures)
+
+returns-2 : tie.Need-returns-2
+returns-2 c = kind-is _ _ (c .before .before .before .before .before .pre .0) 2 (c .index-step .result) (c .before .if2 .taken) (c .index-step .ensures)
+
+returns-3 : tie.Need-returns-3
+returns-3 c = any-is _ _ (c .before .before .before .before .before .pre .0) (c .if3 .taken)
+
+returns-4 : tie.Need-returns-4
+returns-4 c = deep-is _ _ (c .before .before .before .before .before .before .pre .0) (c .if4 .taken)
+
+returns-5 : tie.Need-returns-5
+returns-5 c = none-is _ _ (c .before .before .before .before .before .before .pre .0) (c .before .before .before .if1 .left) (c .before .before .if2 .left) (c .before .if3 .left) (c .if4 .left)
+
+pub one-step-spec : {M : Type 1} → statement M
+one-step-spec =
+    tie.close
+    (tie.spec
+    (λ c. search needs)
+    (λ c κs. search needs)
+    returns
+    (λ c κs. search needs)
+    returns-2
+    (λ c. search needs)
+    returns-3
+    (λ c. search needs)
+    returns-4
+    returns-5)

@@ -1,0 +1,77 @@
+-- `steps::take_apart` meets its contract. The invariant: the steps so far, before what the definition says of the rest, are the whole; the
+-- measure is what is left of the bytes. Assumes nothing.
+use borrow.Author.Needs.{needs}
+use Prim.Native.Nat.{_-_}
+use mathlib.Core.Path.{refl}
+use native.Mathlib.Omega.{arith}
+use lib.ListN.{length}
+use Rattle.steps.proofs.Turns.{Turn, turn-none, turn-more, turn-after, turn-bad, turn-many, turn-last}
+use Rattle.steps.proofs.take_apart.Statement.{statement}
+use Rattle.steps.proofs.take_apart.Tie as tie
+
+abbrev Inv-loop : tie.InvT-loop
+Inv-loop q query₀ at₀ query at = Turn q query at
+
+abbrev μ-loop : tie.MeasureT-loop
+μ-loop q query₀ at₀ query at = length q - at
+
+loop-holds : tie.Need-loop-holds Inv-loop μ-loop
+loop-holds c = turn-none _ _ refl refl
+
+returns : tie.Need-returns Inv-loop μ-loop
+returns c = turn-many _ _ _ (c .before .before .before .loop .inv) (c .before .before .loop-test .taken) (c .before .if1 .taken) (c .refused .result) (c .refused .ensures)
+
+one-step-requires : tie.Need-one-step-requires Inv-loop μ-loop
+one-step-requires c κs = let v = c .before .before .loop .inv in
+    let few = v .few in
+    let far = v .far in
+    (c .before .loop-test .taken, omega arith)
+
+enum-known-step : tie.Need-enum-known-step Inv-loop μ-loop
+enum-known-step c = c .match .keys1
+
+mul-step : tie.Need-mul-step Inv-loop μ-loop
+mul-step c = let few = c .before .before .before .before .before .before .loop .inv .few in omega arith
+
+loop-less : tie.Need-loop-less Inv-loop μ-loop
+loop-less c = let e = c .before .before .before in
+    let l = e .before .before .before in
+    let lt = turn-after _ _ _ (l .loop .inv) (e .before .before .loop-test .taken) (e .one-step .result) _ _ (e .one-step .ensures) (c .before .step .given .1) in
+    omega arith
+
+loop-again : tie.Need-loop-again Inv-loop μ-loop
+loop-again c = let e = c .before .before .before in
+    let l = e .before .before .before in
+    turn-more _ _ _ (l .loop .inv) (e .before .before .loop-test .taken) (e .before .if1 .left) (e .one-step .result) _ _ (e .one-step .ensures) (c .before .step .given .1)
+
+enum-told : tie.Need-enum-told Inv-loop μ-loop
+enum-told c = c .match .keys2
+
+returns-2 : tie.Need-returns-2 Inv-loop μ-loop
+returns-2 c = let e = c .before .before .before in
+    let l = e .before .before .before in
+    turn-bad _ _ _ (l .loop .inv) (e .before .before .loop-test .taken) (e .before .if1 .left) (e .one-step .result) (e .one-step .ensures) (c .before .enum-told .given .1) (c .refused2 .result) (c .refused2 .ensures)
+
+returns-3 : tie.Need-returns-3 Inv-loop μ-loop
+returns-3 c = turn-last _ _ _ (c .before .loop .inv) (c .loop-test .left)
+
+pub take-apart-spec : {M : Type 1} → statement M
+take-apart-spec =
+    tie.close
+    (tie.spec
+    Inv-loop
+    μ-loop
+    loop-holds
+    (λ c κs. search needs)
+    returns
+    one-step-requires
+    enum-known-step
+    mul-step
+    (λ c. search needs)
+    (λ c. search needs)
+    loop-less
+    loop-again
+    enum-told
+    (λ c κs. search needs)
+    returns-2
+    returns-3)

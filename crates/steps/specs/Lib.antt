@@ -1,0 +1,4 @@
+pub mod Steps
+pub mod Spelling
+pub mod Levels
+pub mod Three
