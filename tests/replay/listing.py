@@ -243,4 +243,5 @@ def main(folder):
     print(len(lines), "documents:", ", ".join(f"{k} {v}" for k, v in sorted(seen.items())))
 
 
-main(sys.argv[1])
+if __name__ == "__main__":
+    main(sys.argv[1])
