@@ -4,17 +4,17 @@ use Prim.Native.Nat.{ℕ, zero, suc, _+_, _*_, _≤_, _<_}
 use mathlib.Core.Bool.{Bool, true, false, not, _||_, _&&_}
 use mathlib.Core.Logic.{_⊎_, inl, inr}
 use mathlib.Core.List.{List}
-use mathlib.Core.Path.{_≡_, refl, sym, ap, _∙_}
+use mathlib.Core.Path.{_≡_, refl, sym, _∙_}
 use native.Mathlib.Omega.{arith}
 use lib.Dec.{ltb, leb, eqb}
-use borrow.Author.Tests.{leb-true, eq-eqb, ne-eqb, eqb-true}
-use lib.ListN.{length, getD}
+use borrow.Author.Tests.{leb-true, eq-eqb, eqb-true}
+use lib.ListN.{length}
 use Rattle.form.specs.Answer.{Out, got, no, guard, _>>_, _>>=_, pick, documentLimit, depthLimit}
 use Rattle.form.specs.Spans.{part}
 use Rattle.form.specs.Decoding.{wellFormed}
-use Rattle.form.specs.Table.{Head, Forest, none, node, size, width, _⊕_, widthOf, holds}
+use Rattle.form.specs.Table.{Forest, none, node, size, width, _⊕_, widthOf, holds}
 use Rattle.form.specs.Tables.{Fair, LeafIs, ContainerIs, NameIs, leafFits, firstKind}
-use Rattle.form.specs.Reading.{One, Run, Inside, Span, ListHead, Entry, end, named, heldOne, before, hasName, byteAt, numberAt, bytesAt, stringAt, countAt, arrayAt, entryAt, listHeadAt, leafAt, leafOne, elements, entries, listAt, compoundAt, containerAt, payloadBy, insideAt, documentAt}
+use Rattle.form.specs.Reading.{One, Run, Inside, Span, ListHead, Entry, end, named, before, hasName, byteAt, numberAt, bytesAt, stringAt, countAt, arrayAt, entryAt, listHeadAt, leafAt, leafOne, elements, entries, listAt, compoundAt, containerAt, payloadBy, insideAt, documentAt}
 use Rattle.form.proofs.EachKind.{by-kind}
 use Rattle.demands.proofs.Answers.{Answers, bind-answers, guard-answers, got-answers, no-answers, weaker}
 use Rattle.demands.proofs.Tags.{readAt}

@@ -1,19 +1,19 @@
 -- Fair records are judged fine exactly where the tags that they stand for keep the rules: by recursion on the records, both ways.
 -- Assumes nothing.
-use Prim.Native.Nat.{ℕ, _+_, _-_, _*_, _^_, _≤_, _<_, max}
+use Prim.Native.Nat.{ℕ, _+_, _-_, _*_, _≤_, _<_, max}
 use mathlib.Core.Bool.{Bool, true, false, not, _||_}
 use mathlib.Core.Logic.{_⊎_, inl, inr}
 use mathlib.Core.List.{List}
 use mathlib.Core.Path.{_≡_, refl, sym, ap, _∙_}
 use native.Mathlib.Omega.{arith}
 use lib.Dec.{ltb, leb, eqb}
-use borrow.Author.Tests.{ltb-true, lt-ltb, leb-true, le-leb, eqb-true, eqb-false, eq-eqb, ne-eqb, not-true}
+use borrow.Author.Tests.{ltb-true, lt-ltb, leb-true, eqb-true, eqb-false, eq-eqb, ne-eqb, not-true}
 use lib.ListN.{length}
-use Rattle.form.specs.Answer.{Out, got, no, guard, _>>_, _>>=_, documentLimit, recordLimit, depthLimit, stringLimit}
+use Rattle.form.specs.Answer.{Out, got, no, guard, _>>_, documentLimit, recordLimit, depthLimit, stringLimit}
 use Rattle.form.specs.Spans.{part}
 use Rattle.form.specs.Decoding.{verdictBy, walk}
-use Rattle.form.specs.Tree.{Tag, Tags, Entries, list, compound, nil, more, ended, entry, kindOf, many, tagCount, tagsCount, entriesCount, depth, tagsDepth, entriesDepth, Text, hasEntry, OneKind, Alike, Array, Valid, ValidTags, ValidEntries, Lawful}
-use Rattle.form.specs.Table.{Head, Forest, none, node, size, width, _⊕_, widthOf, holds, valueBy, tagsOf, entriesOf, valueOf}
+use Rattle.form.specs.Tree.{Tag, Tags, Entries, list, compound, nil, more, kindOf, tagCount, tagsCount, entriesCount, depth, tagsDepth, entriesDepth, Text, hasEntry, OneKind, Alike, Valid, ValidTags, ValidEntries, Lawful}
+use Rattle.form.specs.Table.{Head, Forest, none, node, size, _⊕_, widthOf, holds, valueBy, tagsOf, entriesOf, valueOf}
 use Rattle.form.specs.Tables.{Fair, LeafIs, ContainerIs, NameIs, firstKind, leafFits}
 use Rattle.form.specs.Reading.{hasName}
 use Rattle.form.specs.Writing.{stringFine, payloadFine, judged}

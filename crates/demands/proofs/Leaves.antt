@@ -1,13 +1,12 @@
 -- Tags that hold no tags: what is read is laid out, and what is laid out is read, with the value that the record stands for.
 -- Assumes nothing.
-use Prim.Native.Nat.{ℕ, zero, suc, _+_, _*_, _^_, _≤_, _<_}
+use Prim.Native.Nat.{ℕ, _+_, _*_, _^_, _≤_, _<_}
 use mathlib.Core.List.{List, [], _∷_, _++_}
 use mathlib.Core.Bool.{false}
 use mathlib.Core.Path.{_≡_, refl, sym, ap, _∙_}
 use native.Mathlib.Omega.{arith}
 use lib.IntN.{ℤ}
-use lib.ListN.{length, drop, length-append}
-use lib.Seq.{take-add, drop-drop}
+use lib.ListN.{length, length-append}
 use Rattle.form.specs.Answer.{got}
 use Rattle.form.specs.Spans.{part}
 use Rattle.form.specs.Numbers.{bigEndian, bytesOf, valuesIn, signedOf, bitsOf, FitsIn}
@@ -19,7 +18,7 @@ use Rattle.form.proofs.EachKind.{by-kind}
 use Rattle.form.proofs.Values.{int-back, int-fits, ints-back, ints-fit, ints-count}
 use Rattle.form.proofs.Spans.{part-length}
 use Rattle.form.proofs.Fields.{bytes-got, array-got}
-use Rattle.form.proofs.Digits.{digits-length, value-digits-below, bits-below, signed-bits, bits-signed, signed-fits}
+use Rattle.form.proofs.Digits.{digits-length, value-digits-below, bits-below, signed-bits}
 use Rattle.form.proofs.Places.{value-bytes}
 use Rattle.demands.specs.Reading.{Bytes}
 use Rattle.demands.proofs.Sits.{Sits, sits-first, sits-rest, sits-join, sits-part}

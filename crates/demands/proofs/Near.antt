@@ -1,9 +1,9 @@
 -- Two layouts of a document are the same but at the ids of empty lists: by recursion on the tree.
 -- Assumes nothing.
-use Prim.Native.Nat.{ℕ, zero, suc, _+_, _-_, _≤_, _<_}
+use Prim.Native.Nat.{ℕ, zero, suc, _+_, _-_}
 use mathlib.Core.Bool.{Bool, true, false, _&&_}
-use mathlib.Core.List.{List, [], _∷_, _++_}
-use mathlib.Core.Path.{_≡_, refl, sym, ap, subst, _∙_}
+use mathlib.Core.List.{List, _∷_, _++_}
+use mathlib.Core.Path.{_≡_, refl, sym, ap, _∙_}
 use native.Mathlib.Omega.{arith}
 use lib.Dec.{ltb, eqb}
 use borrow.Author.Tests.{ltb-true, ltb-false}
@@ -11,10 +11,10 @@ use lib.ListN.{length, getD, length-append, List·getD-append}
 use lib.Seq.{getD-append-add}
 use Rattle.form.specs.Answer.{pick}
 use Rattle.form.specs.Numbers.{bytesOf}
-use Rattle.form.specs.Tree.{Tag, Tags, Entries, byte, short, int, long, float, double, byteArray, string, list, compound, intArray, longArray, nil, more, ended, entry, kindOf, many, Document}
-use Rattle.form.specs.Layout.{stringBytes, ListId, listId, Payload, Elements, EntryBytes, Layout, payload, elementBytes, entryBytes, layout}
+use Rattle.form.specs.Tree.{Tag, Tags, Entries, byte, short, int, long, float, double, byteArray, string, list, compound, intArray, longArray, nil, more, ended, entry, kindOf, many}
+use Rattle.form.specs.Layout.{stringBytes, ListId, listId, Payload, Elements, EntryBytes, payload, elementBytes, entryBytes, layout}
 use Rattle.form.proofs.Digits.{digits-length}
-use Rattle.demands.specs.Writing.{isNil, idIn, elementIdIn, entryIdIn, emptyIdIn, Near, IsNear}
+use Rattle.demands.specs.Writing.{isNil, idIn, elementIdIn, entryIdIn, Near, IsNear}
 use Rattle.demands.proofs.Fields.{string-length}
 
 near-is : (s : ℕ → Bool) {bs cs : List ℕ} → bs ≡ cs → Near s bs cs

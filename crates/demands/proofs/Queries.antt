@@ -1,19 +1,19 @@
 -- The claims of queries: what a read wrote can be asked, the answer is the document's matches, and the matches are those that fit.
 -- Assumes nothing.
-use Prim.Native.Nat.{ℕ, zero, suc, _+_, _-_, _*_, _≤_, _<_}
-use mathlib.Core.Path.{_≡_, refl, sym, ap, subst, _∙_}
-use mathlib.Core.Logic.{_⊎_, inl, inr}
+use Prim.Native.Nat.{ℕ, zero, suc, _+_, _-_, _≤_}
+use mathlib.Core.Path.{_≡_, refl, ap, subst, _∙_}
+use mathlib.Core.Logic.{inl, inr}
 use mathlib.Core.List.{List, [], _∷_}
 use mathlib.Core.Bool.{Bool, true, false}
 use native.Mathlib.Omega.{arith}
 use lib.ListN.{length}
 use Rattle.form.specs.Answer.{Out, got}
-use Rattle.form.specs.Table.{none, node, size, flat, valueOf}
+use Rattle.form.specs.Table.{none, node, valueOf}
 use Rattle.form.specs.Reading.{One, documentAt}
 use Rattle.form.specs.Paths.{Hop, Step, fits, paths, which, matches}
 use Rattle.form.specs.Query.{spelt, asked, within, Finds}
 use Rattle.form.proofs.Table.{flat-length, size-one}
-use Rattle.demands.specs.Queries.{wordsOf, IsTabled, IsAnswered, Ascends, IsAscending, Among, PathAt, IsExact}
+use Rattle.demands.specs.Queries.{IsTabled, IsAnswered, Ascends, IsAscending, Among, PathAt, IsExact}
 use Rattle.demands.proofs.Answers.{of-got}
 use Rattle.demands.proofs.Tabled.{root-is}
 use Rattle.demands.proofs.Reading.{sound}

@@ -2,25 +2,25 @@
 -- Assumes nothing.
 use Prim.Native.Nat.{ℕ, _+_, _≤_}
 use mathlib.Core.Bool.{false}
-use mathlib.Core.List.{List, [], _++_, append-nil}
+use mathlib.Core.List.{List, [], append-nil}
 use mathlib.Core.Path.{_≡_, refl, sym, ap, subst, _∙_}
 use native.Mathlib.Omega.{arith}
 use borrow.Author.Tests.{leb-true, le-leb}
 use lib.Dec.{leb, eqb}
 use lib.ListN.{length, take, length-append}
 use lib.Seq.{length-take-le}
-use Rattle.form.specs.Answer.{Out, got, no, guard, _>>_, depthLimit, recordLimit}
-use Rattle.form.specs.Tree.{compound, Document, Lawful, Valid, depth, entriesCount}
+use Rattle.form.specs.Answer.{got, depthLimit, recordLimit}
+use Rattle.form.specs.Tree.{compound, Lawful}
 use Rattle.form.specs.Layout.{layout}
-use Rattle.form.specs.Table.{Head, Forest, none, node, size, valueBy, tagsOf, entriesOf, valueOf}
-use Rattle.form.specs.Tables.{Fair, IsTable, Within}
+use Rattle.form.specs.Table.{none, node, size, valueOf}
+use Rattle.form.specs.Tables.{IsTable, Within}
 use Rattle.form.specs.Reading.{One, documentAt}
 use Rattle.form.specs.Writing.{judged, written}
-use Rattle.form.proofs.Answer.{got-no, guard-got}
+use Rattle.form.proofs.Answer.{guard-got}
 use Rattle.form.proofs.Table.{size-one, flat-length}
 use Rattle.form.proofs.Tables.{table-length, fair-inner}
-use Rattle.demands.specs.Reading.{Bytes, Complete}
-use Rattle.demands.specs.Writing.{tableValue, Wrote, IsWrittenLawful, IsLawfulWritten, IsReadBack, IsRewritten, IsDomain}
+use Rattle.demands.specs.Reading.{Complete}
+use Rattle.demands.specs.Writing.{tableValue, IsWrittenLawful, IsLawfulWritten, IsReadBack, IsRewritten, IsDomain}
 use Rattle.demands.proofs.Judged.{then-got, root-lawful, lawful-root, counted}
 use Rattle.demands.proofs.Answers.{of-got}
 use Rattle.demands.proofs.Fairly.{document-fair}

@@ -1,10 +1,10 @@
 -- Laws of depth (refusal 7): what `shallow` says of the first of some records.
 -- Assumes nothing.
-use Prim.Native.Nat.{ℕ, _+_, _-_, _<_}
+use Prim.Native.Nat.{ℕ, _+_, _-_}
 use mathlib.Core.Path.{_≡_, refl, sym}
-use mathlib.Core.Bool.{true, false, not, _||_}
+use mathlib.Core.Bool.{true, not, _||_}
 use lib.Dec.{ltb}
-use Rattle.form.specs.Answer.{Out, got, no, _>>_, guard, tooDeep}
+use Rattle.form.specs.Answer.{Out, got, no, _>>_, tooDeep}
 use Rattle.form.specs.Table.{Head, Forest, none, node, size, holds}
 use Rattle.form.specs.Query.{shallow}
 use Rattle.form.proofs.Answer.{got-no, guard-got}

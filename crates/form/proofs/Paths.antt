@@ -1,21 +1,21 @@
 -- Laws of paths (rule 9): those of the values that records stand for, told from the records; and the numbers of the paths that fit.
 -- Assumes nothing.
-use Prim.Native.Nat.{ℕ, zero, suc, _+_, _≤_, _<_}
-use mathlib.Core.Path.{_≡_, refl, sym, ap, subst, _∙_}
+use Prim.Native.Nat.{ℕ, suc, _+_, _≤_}
+use mathlib.Core.Path.{_≡_, refl, ap, _∙_}
 use mathlib.Core.Logic.{_⊎_, inl, inr}
-use mathlib.Core.List.{List, [], _∷_, _++_, append-assoc, append-nil}
-use mathlib.Core.Bool.{Bool, true, false, _||_, _&&_}
+use mathlib.Core.List.{List, [], _∷_, _++_, append-assoc}
+use mathlib.Core.Bool.{Bool, true, false}
 use native.Mathlib.Omega.{arith}
 use lib.IntN.{ℤ}
 use lib.ListN.{length, length-append}
 use lib.Dec.{eqb}
-use borrow.Author.Tests.{eq-eqb, ne-eqb, eqb-true}
+use borrow.Author.Tests.{ne-eqb}
 use Rattle.form.specs.Answer.{pick}
 use Rattle.form.specs.Spans.{part}
-use Rattle.form.specs.Tree.{Tag, Tags, Entries, byte, short, int, long, float, double, byteArray, string, list, compound, intArray, longArray, Document}
-use Rattle.form.specs.Table.{Head, Forest, none, node, size, holds, valueBy, tagsOf, entriesOf, valueOf}
+use Rattle.form.specs.Tree.{Tags, Entries, byte, short, int, long, float, double, byteArray, string, intArray, longArray}
+use Rattle.form.specs.Table.{Head, Forest, none, node, size, valueBy, tagsOf, entriesOf, valueOf}
 use Rattle.form.specs.Tables.{LeafIs, ContainerIs, Fair, leafFits}
-use Rattle.form.specs.Paths.{Hop, named, item, Step, fits, tagPaths, itemPaths, entryPaths, paths, which, matches}
+use Rattle.form.specs.Paths.{Hop, named, item, fits, tagPaths, itemPaths, entryPaths, paths, which}
 use Rattle.form.proofs.Leaves.{held-kind}
 use Rattle.form.proofs.Tables.{fair-first, fair-inner, fair-later}
 

@@ -1,22 +1,20 @@
 -- Refusal 7 record by record: what `shallow` says of the first of some records, and what the loop keeps.
 -- Assumes nothing.
-use Prim.Native.Nat.{ℕ, _+_, _-_, _*_, _≤_, _<_}
-use mathlib.Core.Path.{_≡_, refl, sym, ap, subst, _∙_}
+use Prim.Native.Nat.{ℕ, _+_, _-_, _≤_, _<_}
+use mathlib.Core.Path.{_≡_, refl, sym, ap, _∙_}
 use mathlib.Core.List.{List}
 use mathlib.Core.Bool.{Bool, true, false, not, _||_}
-use native.Mathlib.Omega.{arith}
-use lib.ListN.{length}
 use lib.Dec.{ltb}
 use borrow.Author.Tests.{lt-ltb, ltb-true}
-use Rattle.form.specs.Answer.{Out, got, no, _>>_, tooDeep}
-use Rattle.form.specs.Table.{none, size, word, holds}
+use Rattle.form.specs.Answer.{got, no, _>>_, tooDeep}
+use Rattle.form.specs.Table.{size, word, holds}
 use Rattle.form.specs.Query.{shallow}
 use Rattle.form.proofs.Depths.{shallow-none, shallow-stop, shallow-on, shallow-parts, then-no, then-got}
 use Rattle.query.specs.Found.{depthOut}
 use Rattle.query.specs.declared.Depth.{Depth}
 use Rattle.query.specs.declared.Depth.the-variants.{Fine, TooDeep}
 use Rattle.query.specs.Sides.{Side}
-use Rattle.query.proofs.Sides.{First, first, side-none, one-side}
+use Rattle.query.proofs.Sides.{First, side-none, one-side}
 
 open-test : (b : Bool) (left : ℕ) → 0 < left → (not b || ltb 0 left) ≡ true
 open-test true left h = lt-ltb 0 left h

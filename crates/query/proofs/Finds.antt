@@ -1,27 +1,25 @@
 -- What a query answers, way by way: each refusal in rule 9's order, and the list filled.
 -- Assumes nothing.
-use Prim.Native.Nat.{ℕ, zero, suc, _+_, _-_, _*_, _/_, _≤_, _<_}
+use Prim.Native.Nat.{ℕ, suc, _+_, _-_, _/_, _≤_, _<_}
 use mathlib.Core.Path.{_≡_, refl, sym, ap, _∙_}
 use mathlib.Core.List.{List, [], _∷_}
-use mathlib.Core.Bool.{Bool, true, false}
+use mathlib.Core.Bool.{true, false}
 use native.Mathlib.Omega.{arith}
-use lib.ListN.{length, set, length-set}
+use lib.ListN.{length, set}
 use lib.Seq.{sets}
-use lib.Dec.{ltb, leb}
 use borrow.Author.Tests.{lt-ltb, le-ltb, le-leb, lt-leb}
-use Rattle.form.specs.Answer.{Out, got, no, tooDeep, badQuery, moreMatches, overLimit, noTable, depthLimit, recordLimit}
+use Rattle.form.specs.Answer.{got, no, tooDeep, badQuery, moreMatches, overLimit, noTable, depthLimit}
 use Rattle.form.specs.Spans.{over}
-use Rattle.form.specs.Table.{Forest, none, node, size, valueOf}
+use Rattle.form.specs.Table.{Forest, none, node, valueOf}
 use Rattle.form.specs.Tables.{IsTable, Within}
 use Rattle.form.specs.Paths.{Step, matches}
-use Rattle.form.specs.Query.{spelt, shallow, asked, within, Count, counted, failed, refused, Finds, QueryIs}
+use Rattle.form.specs.Query.{spelt, shallow, asked, within, Count, counted, failed, Finds, QueryIs}
 use Rattle.form.proofs.Table.{sets-over, size-one}
 use Rattle.form.proofs.Tables.{table-sits, table-length}
-use Rattle.steps.specs.Steps.{stepsFrom, QueryIn}
-use Rattle.steps.specs.Spelling.{takenOut, TakenIs}
-use Rattle.steps.specs.declared.Query.{Query}
+use Rattle.steps.specs.Steps.{stepsFrom}
+use Rattle.steps.specs.Spelling.{TakenIs}
 use Rattle.steps.specs.declared.Taken.{Taken}
-use Rattle.query.specs.Found.{foundCount, depthOut}
+use Rattle.query.specs.Found.{depthOut}
 use Rattle.query.specs.declared.Depth.{Depth}
 use Rattle.query.specs.declared.Depth.the-variants.{Fine, TooDeep}
 use Rattle.query.specs.Sides.{Side}

@@ -1,24 +1,24 @@
 -- The walk from the root: what it may rely on, and that it finds the tags that match (demand 3).
 -- Assumes nothing.
-use Prim.Native.Nat.{ℕ, zero, suc, _+_, _-_, _*_, _≤_, _<_}
-use mathlib.Core.Path.{_≡_, refl, sym, ap, subst, _∙_}
-use mathlib.Core.List.{List, [], _∷_}
-use mathlib.Core.Bool.{Bool, true, false}
+use Prim.Native.Nat.{ℕ, zero, suc, _+_, _-_, _*_, _≤_}
+use mathlib.Core.Path.{_≡_, refl, sym, subst, _∙_}
+use mathlib.Core.List.{List, []}
+use mathlib.Core.Bool.{true, false}
 use native.Mathlib.Omega.{arith}
 use lib.ListN.{length, getD, replicate, length-replicate}
 use lib.Dec.{eqb}
 use Rattle.form.specs.Answer.{got, depthLimit, recordLimit}
-use Rattle.form.specs.Table.{Forest, none, node, size, word, holds, valueOf}
+use Rattle.form.specs.Table.{none, node, size, word, holds, valueOf}
 use Rattle.form.specs.Tables.{Fair, IsTable}
-use Rattle.form.specs.Paths.{Hop, fits, which, matches}
+use Rattle.form.specs.Paths.{fits, matches}
 use Rattle.form.specs.Query.{shallow}
-use Rattle.form.proofs.Tables.{Stands, Sits, sits-first, sits-inner, table-sits, fair-name, fair-inner}
+use Rattle.form.proofs.Tables.{Stands, sits-first, sits-inner, table-sits, fair-name, fair-inner}
 use Rattle.form.proofs.Depths.{shallow-parts}
-use Rattle.form.proofs.Paths.{recordPaths, tree-paths}
+use Rattle.form.proofs.Paths.{tree-paths}
 use Rattle.steps.specs.Steps.{span, stepsFrom, QueryIn}
 use Rattle.steps.specs.Levels.{recordNo, hopsFrom, RecordIn}
 use Rattle.steps.specs.declared.Query.{Query}
-use Rattle.query.specs.Sides.{Within, Under, Walkable}
+use Rattle.query.specs.Sides.{Held, Under, Walkable}
 use Rattle.query.specs.Walks.{Walks, foundAt, Done}
 
 -- The path of the root alone.
@@ -39,7 +39,7 @@ module _ (doc t : List ℕ) (i : IsTable (length doc) t) where
   root-kind : word t 0 0 ≡ 10
   root-kind = root-stands .kind ∙ i .compound
 
-  abbrev root-side : Within (length doc) t 0
+  abbrev root-side : Held (length doc) t 0
   root-side = record {
     forest = i .inner;
     element = eqb (i .head .kind) 9;
@@ -97,5 +97,5 @@ module _ (doc t : List ℕ) (i : IsTable (length doc) t) where
     unfolding span
     root-done {trail′} {r} {l′} v =
         let z : recordNo rootTrail (1 - 1) ≡ 0 = zeros 1026 0 in
-        let at-root = subst (λ (n : ℕ). (g : Within (length doc) t n) → Walks (foundAt doc t q query n [] (g .forest)) room 0 l r l′) z (v .walks) in
+        let at-root = subst (λ (n : ℕ). (g : Held (length doc) t n) → Walks (foundAt doc t q query n [] (g .forest)) room 0 l r l′) z (v .walks) in
         subst (λ (ms : List ℕ). Walks ms room 0 l r l′) root-found (at-root root-side)

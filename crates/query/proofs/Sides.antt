@@ -1,17 +1,16 @@
 -- Records side by side, taken apart: the first with those in it, and those after it; and that the words say which they are.
 -- Assumes nothing.
-use Prim.Native.Nat.{ℕ, _+_, _*_, _≤_, _<_}
-use mathlib.Core.Path.{_≡_, refl, sym, ap, subst, _∙_}
+use Prim.Native.Nat.{ℕ, _+_, _≤_, _<_}
+use mathlib.Core.Path.{_≡_, refl, sym}
 use mathlib.Core.Logic.{_⊎_, inl, inr}
 use mathlib.Core.List.{List}
-use mathlib.Core.Bool.{Bool, true, false}
+use mathlib.Core.Bool.{false}
 use native.Mathlib.Omega.{arith}
-use lib.ListN.{length}
 use lib.Dec.{eqb}
 use Rattle.form.specs.Table.{Head, Forest, none, node, size, word, holds}
-use Rattle.form.specs.Tables.{Fair, LeafIs, ContainerIs, leafFits}
+use Rattle.form.specs.Tables.{Fair, LeafIs, ContainerIs}
 use Rattle.form.proofs.Table.{size-none}
-use Rattle.form.proofs.Tables.{Stands, Sits, sits-first, sits-inner, sits-later, sits-room, fair-name, fair-first, fair-inner, fair-later, same-forest}
+use Rattle.form.proofs.Tables.{Stands, Sits, sits-first, sits-inner, sits-later, fair-name, fair-first, fair-inner, fair-later, same-forest}
 use Rattle.query.specs.Sides.{Side}
 
 -- The first of some records: its words, those in it, and those after it.

@@ -1,29 +1,27 @@
 -- The walk, call by call: what noting a match does, what a record gives with those in it, and what the loop over the records in one keeps.
 -- Assumes nothing.
-use Prim.Native.Nat.{ℕ, zero, suc, _+_, _-_, _*_, _≤_, _<_}
+use Prim.Native.Nat.{ℕ, suc, _+_, _-_, _*_, _≤_, _<_}
 use mathlib.Core.Path.{_≡_, refl, sym, ap, subst, _∙_}
-use mathlib.Core.Logic.{_⊎_, inl, inr}
-use mathlib.Core.List.{List, [], _∷_, _++_, append-assoc, append-nil}
+use mathlib.Core.List.{List, [], _∷_, _++_, append-nil}
 use mathlib.Core.Bool.{Bool, true, false}
 use native.Mathlib.Omega.{arith}
 use native.Mathlib.Decide.{ℕ-discrete}
 use lib.ListN.{length, getD, set, length-set, length-append}
 use lib.Seq.{getD-set-same, getD-set-other}
-use lib.Dec.{ltb}
 use borrow.Author.Tests.{lt-ltb, le-ltb}
 use Rattle.form.specs.Answer.{got, depthLimit}
 use Rattle.form.specs.Spans.{part}
-use Rattle.form.specs.Table.{Forest, none, node, size, word, holds}
+use Rattle.form.specs.Table.{Forest, none, size, word, holds}
 use Rattle.form.specs.Paths.{Hop, fits, which}
 use Rattle.form.specs.Query.{shallow}
 use Rattle.form.proofs.Paths.{hopOf, recordPaths, paths-length, which-append, which-length, which-below}
 use Rattle.steps.specs.Steps.{span, stepsFrom}
-use Rattle.steps.specs.Levels.{recordNo, indexNo, nameOf, hopNo, hopsFrom, RecordIn, Ready}
+use Rattle.steps.specs.Levels.{recordNo, indexNo, nameOf, hopNo, hopsFrom, RecordIn}
 use Rattle.steps.specs.Three.{goesOn}
 use Rattle.steps.specs.declared.Query.{Query}
 use Rattle.steps.proofs.Runs.{span-snoc, span-same}
 use Rattle.steps.proofs.Three.{goes-off}
-use Rattle.query.specs.Sides.{Side, Within, Under, Walkable}
+use Rattle.query.specs.Sides.{Side, Held, Under, Walkable}
 use Rattle.query.specs.Walks.{putAt, noted, Walks, hit, foundIn, foundAt, Kept, Done}
 use Rattle.query.proofs.Sides.{First, first, side-none, one-side}
 use Rattle.query.proofs.Depths.{inside-fine, later-fine}
@@ -188,7 +186,7 @@ module _ (doc t q : List ℕ) (query : Query) (trail₀ : List ℕ) (d : ℕ) (l
     pub indexed : index ≤ i
     pub kept : Kept d trail₀ trail
     pub long : length l ≡ length l₀
-    pub goes : (g : Within (length doc) t (lastNo trail₀ d)) (r : ℕ) (l′ : List ℕ) → Walks (which (fits (stepsFrom q query 0)) i (recordPaths doc (word t (lastNo trail₀ d) 0) index (hopsFrom doc t trail₀ d 1) (here .forest))) room more l r l′
+    pub goes : (g : Held (length doc) t (lastNo trail₀ d)) (r : ℕ) (l′ : List ℕ) → Walks (which (fits (stepsFrom q query 0)) i (recordPaths doc (word t (lastNo trail₀ d) 0) index (hopsFrom doc t trail₀ d 1) (here .forest))) room more l r l′
         → Walks (foundIn doc t q query (lastNo trail₀ d) (hopsFrom doc t trail₀ d 1) (g .forest)) room count₀ l₀ r l′
 
 module _ {doc t q : List ℕ} {query : Query} {trail₀ : List ℕ} {d : ℕ} {l₀ : List ℕ} {room count₀ : ℕ} (w : Walkable doc t q query trail₀ d l₀ room count₀) (box : holds (word t (lastNo trail₀ d) 0) ≡ true) where
@@ -204,7 +202,7 @@ module _ {doc t q : List ℕ} {query : Query} {trail₀ : List ℕ} {d : ℕ} {l
     goes = λ g r l′ v. start g r l′ v;
   }
     where
-      start : (g : Within (length doc) t (lastNo trail₀ d)) (r : ℕ) (l′ : List ℕ) → Walks (which (fits (stepsFrom q query 0)) (lastNo trail₀ d + 1) (recordPaths doc (word t (lastNo trail₀ d) 0) 0 (hopsFrom doc t trail₀ d 1) (w .under .side .forest))) room count₀ l₀ r l′
+      start : (g : Held (length doc) t (lastNo trail₀ d)) (r : ℕ) (l′ : List ℕ) → Walks (which (fits (stepsFrom q query 0)) (lastNo trail₀ d + 1) (recordPaths doc (word t (lastNo trail₀ d) 0) 0 (hopsFrom doc t trail₀ d 1) (w .under .side .forest))) room count₀ l₀ r l′
           → Walks (foundIn doc t q query (lastNo trail₀ d) (hopsFrom doc t trail₀ d 1) (g .forest)) room count₀ l₀ r l′
       start g r l′ v = unfold foundIn in (rw (one-side (length doc) t (lastNo trail₀ d + 1) (word t (lastNo trail₀ d) 7) (length doc) g (w .under .side)) v)
 
@@ -315,8 +313,8 @@ module _ {doc t q : List ℕ} {query : Query} {trail₀ : List ℕ} {d : ℕ} {l
           → length l′ ≡ length l → Going doc t q query trail₀ d l₀ room count₀ trail′ l′ r (word t i 7) (index + 1)
       going-next {trail′} {l′} {r} v e =
           let N = recordNo (pushed trail d i index) (d + 1 - 1) in
-          let at-path : (g : Within (length doc) t N) → Walks (foundAt doc t q query N path (g .forest)) room more l r l′ = subst (λ (x : List Hop). (g : Within (length doc) t N) → Walks (foundAt doc t q query N x (g .forest)) room more l r l′) path-is (v .walks) in
-          let visited : (g : Within (length doc) t i) → Walks (foundAt doc t q query i path (g .forest)) room more l r l′ = subst (λ (n : ℕ). (g : Within (length doc) t n) → Walks (foundAt doc t q query n path (g .forest)) room more l r l′) pushed-here at-path in
+          let at-path : (g : Held (length doc) t N) → Walks (foundAt doc t q query N path (g .forest)) room more l r l′ = subst (λ (x : List Hop). (g : Held (length doc) t N) → Walks (foundAt doc t q query N x (g .forest)) room more l r l′) path-is (v .walks) in
+          let visited : (g : Held (length doc) t i) → Walks (foundAt doc t q query i path (g .forest)) room more l r l′ = subst (λ (n : ℕ). (g : Held (length doc) t n) → Walks (foundAt doc t q query n path (g .forest)) room more l r l′) pushed-here at-path in
           let found = visited (next .inner) in
           let few = found-few doc t q query i path (next .inner .forest) in
           let ct = found .counted in

@@ -1,6 +1,6 @@
 -- Records side by side in a table, and what the walk below one record may rely on.
 -- Assumes nothing.
-use Prim.Native.Nat.{ℕ, _+_, _-_, _*_, _≤_, _<_}
+use Prim.Native.Nat.{ℕ, _+_, _-_, _*_, _≤_}
 use mathlib.Core.Path.{_≡_}
 use mathlib.Core.List.{List}
 use mathlib.Core.Bool.{Bool, true, false}
@@ -22,12 +22,12 @@ pub record Side (d : ℕ) (t : List ℕ) (from end : ℕ) : Type 0 where
   pub ends : from + size forest ≡ end
 
 -- The records in record n.
-abbrev pub Within : ℕ → List ℕ → ℕ → Type 0
-Within d t n = Side d t (n + 1) (word t n 7)
+abbrev pub Held : ℕ → List ℕ → ℕ → Type 0
+Held d t n = Side d t (n + 1) (word t n 7)
 
 -- The record at the end of a path of d levels, n, and those in it: only a list or a compound holds any, and stands within the depth.
 pub record Under (doc t : List ℕ) (n d : ℕ) : Type 0 where
-  pub side : Within (length doc) t n
+  pub side : Held (length doc) t n
   pub bare : holds (word t n 0) ≡ false → side .forest ≡ none
   pub deep : holds (word t n 0) ≡ true → (d ≤ depthLimit) × (shallow (depthLimit - d) (n + 1) (side .forest) ≡ got tt)
   pub row : 8 * n + 8 ≤ length t
@@ -37,8 +37,8 @@ pub record Under (doc t : List ℕ) (n d : ℕ) : Type 0 where
 pub record Walkable (doc t q : List ℕ) (query : Query) (trail : List ℕ) (d : ℕ) (list : List ℕ) (room count : ℕ) : Type 0 where
   pub ready : Ready doc t q query trail d
   pub some : 1 ≤ d
-  pub long : length trail ≡ 1026
+  pub long : length trail ≡ 2 * (depthLimit + 1)
   pub under : Under doc t (recordNo trail (d - 1)) d
-  pub levels : d ≤ 513
+  pub levels : d ≤ depthLimit + 1
   pub fits : room ≤ length list
   pub counted : count ≤ recordNo trail (d - 1) + 1

@@ -1,6 +1,6 @@
 -- What the walk promises: the matches are counted on, and written into the list as far as there is room.
 -- Assumes nothing.
-use Prim.Native.Nat.{ℕ, zero, suc, _+_, _-_, _*_, _≤_, _<_}
+use Prim.Native.Nat.{ℕ, suc, _+_, _*_, _<_}
 use mathlib.Core.Path.{_≡_}
 use mathlib.Core.List.{List, [], _∷_}
 use mathlib.Core.Bool.{Bool, true, false}
@@ -11,9 +11,8 @@ use Rattle.form.specs.Table.{Forest, word}
 use Rattle.form.specs.Paths.{Hop, fits, which}
 use Rattle.form.proofs.Paths.{recordPaths}
 use Rattle.steps.specs.Steps.{stepsFrom}
-use Rattle.steps.specs.Levels.{recordNo, hopsFrom}
 use Rattle.steps.specs.declared.Query.{Query}
-use Rattle.query.specs.Sides.{Within}
+use Rattle.query.specs.Sides.{Held}
 
 -- A match, v, put at place c of the list if there is room for it.
 unfoldable pub putAt : ℕ → ℕ → ℕ → List ℕ → List ℕ
@@ -49,4 +48,4 @@ pub record Kept (d : ℕ) (trail trail′ : List ℕ) : Type 0 where
 -- The walk over record n, of which `found` says what is found where it holds some records: the path of d levels stays.
 pub record Done (doc t : List ℕ) (n : ℕ) (found : Forest → List ℕ) (d : ℕ) (trail trail′ : List ℕ) (room count : ℕ) (l : List ℕ) (r : ℕ) (l′ : List ℕ) : Type 0 where
   pub kept : Kept d trail trail′
-  pub walks : (g : Within (length doc) t n) → Walks (found (g .forest)) room count l r l′
+  pub walks : (g : Held (length doc) t n) → Walks (found (g .forest)) room count l r l′

@@ -36,8 +36,8 @@ enum Depth {
     TooDeep(usize),
 }
 
-// The words of a path: two for each of 513 levels.
-const TRAIL: usize = 1026;
+// The words of a path: two for each level. What stands in 512 containers is at most at level 513.
+const TRAIL: usize = 2 * (form::DEPTH + 1);
 
 // ---- depth
 

@@ -1,23 +1,24 @@
 -- A step and a level, case by case: what a struct's step is, what a level is in the table's words, and whether the one takes the other.
 -- Assumes nothing.
-use Prim.Native.Nat.{ℕ, _+_, _-_, _*_, _≤_, _<_}
-use mathlib.Core.Path.{_≡_, refl, sym, ap, subst, _∙_}
-use mathlib.Core.List.{List, [], _∷_}
+use Prim.Native.Nat.{ℕ, _+_, _-_, _≤_, _<_}
+use mathlib.Core.Path.{_≡_, refl, sym, _∙_}
+use mathlib.Core.List.{List, _∷_}
 use mathlib.Core.Bool.{Bool, true, false}
 use native.Mathlib.Omega.{arith}
 use lib.ListN.{length}
 use lib.Dec.{eqb}
-use borrow.Author.Tests.{eq-eqb, ne-eqb}
+use borrow.Author.Tests.{ne-eqb}
 use Rattle.form.specs.Answer.{pick}
 use Rattle.form.specs.Spans.{part, same}
 use Rattle.form.specs.Table.{word}
-use Rattle.form.specs.Paths.{Hop, named, item, Step, name, index, any, deep, takes}
+use Rattle.form.specs.Paths.{Hop, named, item, name, index, any, deep, takes}
 use Rattle.form.proofs.Spans.{same-head, same-differ, same-lengths, part-length}
 use Rattle.form.proofs.Paths.{hopOf}
 use Rattle.steps.specs.Steps.{stepOf}
-use Rattle.steps.specs.Levels.{recordNo, indexNo, nameOf, hopTo, hopNo, RecordIn}
+use Rattle.steps.specs.Levels.{recordNo, indexNo, nameOf, hopTo, hopNo, RecordIn, LevelIn, Ready}
 use Rattle.steps.specs.Three.{isDeep}
 use Rattle.steps.specs.declared.Step.{Step as StepWords}
+use Rattle.steps.specs.declared.Query.{Query}
 
 -- Two lists that begin alike, and two that do not.
 pub same-more : (p q : List ℕ) (a b : ℕ) (s t : List ℕ) → p ≡ a ∷ s → q ≡ b ∷ t → a ≡ b → same p q ≡ same s t
@@ -101,16 +102,13 @@ module _ (doc w q : List ℕ) (t : StepWords) (parent c i : ℕ) where
   pub takes-any : (t .kind ≡ 1 → ⊥) → (t .kind ≡ 2 → ⊥) → true ≡ takes (stepOf q t) (hopTo doc w parent c i)
   takes-any a b = sym (takes-rest q t a b (hopTo doc w parent c i))
 
--- The level that a step was held against is level k + 1 of the path.
-pub took : (doc w q trail : List ℕ) (t : StepWords) (k : ℕ) {parent c i : ℕ} {r b : Bool} → parent ≡ recordNo trail k → c ≡ recordNo trail (k + 1) → i ≡ indexNo trail (k + 1)
-    → r ≡ takes (stepOf q t) (hopTo doc w parent c i) → r ≡ b → takes (stepOf q t) (hopNo doc w trail (k + 1)) ≡ b
-took doc w q trail t k {parent} {c} {i} {r} {b} x y z e f =
-    let n : k + 1 - 1 ≡ k = omega arith in
-    let g : takes (stepOf q t) (hopTo doc w parent c i) ≡ b = sym e ∙ f in
-    rw (n, ← x, ← y, ← z) g
+-- The level that a step was held against is level p of the path.
+pub level-is : (doc w q trail : List ℕ) (t : StepWords) (p : ℕ) {parent c i : ℕ} (r : Bool) → parent ≡ recordNo trail (p - 1) → c ≡ recordNo trail p → i ≡ indexNo trail p
+    → r ≡ takes (stepOf q t) (hopTo doc w parent c i) → r ≡ takes (stepOf q t) (hopNo doc w trail p)
+level-is doc w q trail t p r x y z e = rw (← x, ← y, ← z) e
 
--- The same where that is level p.
-pub took-at : (doc w q trail : List ℕ) (t : StepWords) (k p : ℕ) → k + 1 ≡ p → {parent c i : ℕ} {r b : Bool} → parent ≡ recordNo trail k → c ≡ recordNo trail p → i ≡ indexNo trail p
-    → r ≡ takes (stepOf q t) (hopTo doc w parent c i) → r ≡ b → takes (stepOf q t) (hopNo doc w trail p) ≡ b
-took-at doc w q trail t k p k-is {parent} {c} {i} {r} {b} x y z e f =
-    subst (λ (n : ℕ). c ≡ recordNo trail n → i ≡ indexNo trail n → takes (stepOf q t) (hopNo doc w trail n) ≡ b) k-is (λ y′ z′. took doc w q trail t k x y′ z′ e f) y z
+-- Each level of a path but the root's has a parent.
+pub level-in : (doc t q : List ℕ) (query : Query) (trail : List ℕ) (d p : ℕ) → Ready doc t q query trail d → 1 ≤ p → p < d → LevelIn doc t trail p
+level-in doc t q query trail d p r some lt =
+    let long = r .long in
+    record { below = some; long = omega arith; parent = r .records (p - 1) (omega arith); own = r .records p lt }

@@ -1,11 +1,9 @@
 -- The matcher, case by case: what is left of the steps and of the path, and what is answered there.
 -- Assumes nothing.
 use Prim.Native.Nat.{ℕ, _+_, _-_, _≤_, _<_}
-use mathlib.Core.Path.{_≡_, refl, sym, ap, _∙_}
+use mathlib.Core.Path.{_≡_, sym, ap, _∙_}
 use mathlib.Core.List.{List, [], _∷_}
-use mathlib.Core.Bool.{Bool, true, false}
-use native.Mathlib.Omega.{arith}
-use Rattle.form.specs.Answer.{pick}
+use mathlib.Core.Bool.{true, false}
 use Rattle.form.specs.Paths.{Hop, Step, takes, fits}
 use Rattle.steps.specs.Steps.{span}
 use Rattle.steps.specs.Three.{isDeep, lastFits, deepen, stepOn, fitOf, levelOn, goesOn, isFits}

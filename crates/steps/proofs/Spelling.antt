@@ -1,23 +1,22 @@
 -- The step at a place, case by case: each way through the code is a law of the definition.
 -- Assumes nothing.
 use Prim.Native.Nat.{ℕ, _+_, _^_, _≤_, _<_}
-use mathlib.Core.Path.{_≡_, refl, sym, ap, subst, _∙_}
+use mathlib.Core.Path.{_≡_, refl, sym, subst, _∙_}
 use mathlib.Core.List.{List}
-use mathlib.Core.Bool.{Bool, true, false}
+use mathlib.Core.Bool.{true, false}
 use native.Mathlib.Omega.{arith}
 use lib.ListN.{length, getD}
-use lib.Dec.{eqb, ltb, leb}
-use borrow.Author.Tests.{lt-ltb, le-ltb, eq-eqb, ne-eqb}
+use borrow.Author.Tests.{lt-ltb, le-ltb, ne-eqb}
 use Rattle.form.specs.Answer.{Out, got, no, badQuery, dataEnds, negativeCount}
 use Rattle.form.specs.Spans.{part}
 use Rattle.form.specs.Numbers.{bigEndian}
 use Rattle.form.specs.Decoding.{wellFormed}
-use Rattle.form.specs.Reading.{byteAt, numberAt, stringAt, countAt}
-use Rattle.form.specs.Paths.{Step, name, index, any, deep}
+use Rattle.form.specs.Reading.{numberAt, stringAt, countAt}
+use Rattle.form.specs.Paths.{name}
 use Rattle.form.specs.Query.{Spelt, blamed, stepBy, stepAt}
 use Rattle.form.proofs.Fields.{byte-got, number-got, number-no, string-no, string-cut, string-bad, string-got}
-use Rattle.steps.specs.Steps.{stepOf, NameIn}
-use Rattle.steps.specs.Spelling.{oneOut, Goes, Reads}
+use Rattle.steps.specs.Steps.{stepOf}
+use Rattle.steps.specs.Spelling.{Goes, Reads}
 use Rattle.steps.specs.declared.Step.{Step as StepWords}
 use Rattle.steps.specs.declared.One.{One}
 use Rattle.steps.specs.declared.One.the-variants.{Next, Bad}

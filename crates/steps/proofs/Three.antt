@@ -1,13 +1,13 @@
 -- What the matcher's three answers say of rule 9's `fits`, and what it says that no longer path can fit.
 -- Assumes nothing.
 use Prim.Native.Nat.{ℕ}
-use mathlib.Core.Path.{_≡_, refl, sym, ap, _∙_}
+use mathlib.Core.Path.{_≡_, refl}
 use mathlib.Core.List.{List, [], _∷_, _++_}
 use mathlib.Core.Bool.{Bool, true, false, _&&_, _||_}
 use native.Mathlib.Omega.{arith}
 use Rattle.form.specs.Answer.{pick}
-use Rattle.form.specs.Paths.{Hop, Step, name, index, any, deep, takes, isEmpty, someTail, oneThen, fits}
-use Rattle.steps.specs.Three.{isDeep, atEnd, orLater, deepen, lastFits, stepOn, fitOf, levelOn, goesOn, isFits}
+use Rattle.form.specs.Paths.{Hop, Step, name, index, any, deep, takes, someTail, oneThen, fits}
+use Rattle.steps.specs.Three.{atEnd, orLater, deepen, stepOn, fitOf, levelOn, goesOn, isFits}
 use Rattle.steps.specs.declared.Fit.{Fit}
 use Rattle.steps.specs.declared.Fit.the-variants.{Fits, NotHere, Nowhere}
 

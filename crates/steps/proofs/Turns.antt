@@ -3,18 +3,17 @@
 use Prim.Native.Nat.{ℕ, zero, suc, _+_, _-_, _*_, _≤_, _<_}
 use mathlib.Core.Path.{_≡_, refl, sym, ap, _∙_}
 use mathlib.Core.List.{List, [], _∷_, _++_, append-assoc, append-nil}
-use mathlib.Core.Bool.{Bool, true, false}
+use mathlib.Core.Bool.{true, false}
 use native.Mathlib.Omega.{arith}
 use native.Mathlib.Decide.{ℕ-discrete}
 use lib.ListN.{length, getD, set, length-set}
 use lib.Seq.{getD-set-same, getD-set-other}
-use lib.Dec.{ltb}
 use borrow.Author.Tests.{lt-ltb, le-ltb}
 use Rattle.form.specs.Answer.{Out, got, no as refusal, _>>=_, badQuery}
 use Rattle.form.specs.Paths.{Step}
-use Rattle.form.specs.Query.{Spelt, stepAt, stepsAt, spelt}
-use Rattle.steps.specs.Steps.{stepOf, noStep, span, stepNo, stepsFrom, NameIn, QueryIn}
-use Rattle.steps.specs.Spelling.{oneOut, Goes, Reads, takenOut, TakenIs}
+use Rattle.form.specs.Query.{stepAt, stepsAt, spelt}
+use Rattle.steps.specs.Steps.{stepOf, noStep, span, stepNo, NameIn}
+use Rattle.steps.specs.Spelling.{oneOut, Goes, Reads, TakenIs}
 use Rattle.steps.specs.declared.Step.{Step as StepWords}
 use Rattle.steps.specs.declared.Query.{Query}
 use Rattle.steps.specs.declared.Taken.{Taken}

@@ -38,6 +38,13 @@ pub record RecordIn (doc t : List ℕ) (c : ℕ) : Type 0 where
   pub row : 8 * c + 8 ≤ length t
   pub name : word t c 1 + word t c 2 ≤ length doc
 
+-- Level p of a path has a parent, and both records stand so.
+pub record LevelIn (doc t trail : List ℕ) (p : ℕ) : Type 0 where
+  pub below : 1 ≤ p
+  pub long : 2 * p + 2 ≤ length trail
+  pub parent : RecordIn doc t (recordNo trail (p - 1))
+  pub own : RecordIn doc t (recordNo trail p)
+
 -- What the matcher may rely on: a query, and a path of d levels.
 pub record Ready (doc t q : List ℕ) (query : Query) (trail : List ℕ) (d : ℕ) : Type 0 where
   pub asks : QueryIn q query

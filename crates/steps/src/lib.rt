@@ -2,14 +2,14 @@
 // words for each level from the root on: the record's number, and its number among its parent's children.
 ghost use mathlib.Core.Path.{_≡_};
 ghost use mathlib.Core.Bool.{false};
-ghost use Prim.Native.Nat.{ℕ, _+_, _*_, _≤_, _<_};
+ghost use Prim.Native.Nat.{_+_, _*_, _≤_, _<_};
 ghost use lib.ListN.{length};
 ghost use Rattle.form.specs.Spans.{part, same};
 ghost use Rattle.form.specs.Paths.{takes, fits};
 ghost use Rattle.form.specs.Query.{blamed, stepBy, stepAt};
 ghost use Rattle.steps.specs.Steps.{stepOf, stepsFrom, NameIn};
 ghost use Rattle.steps.specs.Spelling.{Reads, TakenIs};
-ghost use Rattle.steps.specs.Levels.{recordNo, indexNo, nameOf, hopTo, hopsFrom, RecordIn, Ready};
+ghost use Rattle.steps.specs.Levels.{recordNo, indexNo, nameOf, hopTo, hopNo, hopsFrom, RecordIn, LevelIn, Ready};
 ghost use Rattle.steps.specs.Three.{fitOf, goesOn};
 
 // The kinds of step, by their first byte.
@@ -264,6 +264,17 @@ fn step_takes(
     true
 }
 
+// Whether a step takes level p of a path (04 takes any).
+fn level_takes(doc: &[u8], table: &[u32], q: &[u8], step: Step, trail: &[u32], p: usize) -> bool
+    requires { ⌜ (NameIn (now q) step) × (LevelIn (now doc) (now table) (now trail) p) ⌝ }
+    ensures { λ r. ⌜ r ≡ takes (stepOf (now (q .entry)) step) (hopNo (now (doc .entry)) (now (table .entry)) (now (trail .entry)) p) ⌝ }
+{
+    let parent = record_at(trail, p - 1);
+    let c = record_at(trail, p);
+    let index = index_at(trail, p);
+    step_takes(doc, table, q, step, parent, c, index)
+}
+
 // Whether the steps left fit the path left; where they do not, whether they fit no later part of it either.
 enum Fit {
     Fits,
@@ -313,10 +324,7 @@ fn matched(
     if d <= p {
         return Fit::Nowhere;
     }
-    let parent = record_at(trail, p - 1);
-    let c = record_at(trail, p);
-    let index = index_at(trail, p);
-    if step_takes(doc, table, q, step, parent, c, index) {
+    if level_takes(doc, table, q, step, trail, p) {
         return matched(doc, table, q, query, trail, d, s + 1, p + 1);
     }
     Fit::NotHere
@@ -351,10 +359,7 @@ pub fn goes_on(doc: &[u8], table: &[u32], q: &[u8], query: Query, trail: &[u32],
         if d <= s + 1 {
             return true;
         }
-        let parent = record_at(trail, s);
-        let c = record_at(trail, s + 1);
-        let index = index_at(trail, s + 1);
-        if !step_takes(doc, table, q, step, parent, c, index) {
+        if !level_takes(doc, table, q, step, trail, s + 1) {
             return false;
         }
         s += 1;

@@ -1,18 +1,17 @@
 -- The bytes of records side by side, how many there are, and that they are the layout of the document that the records stand for.
 -- Assumes nothing.
-use Prim.Native.Nat.{ℕ, _+_, _*_, _≤_, _<_}
-use mathlib.Core.Bool.{Bool, true, false, _||_}
+use Prim.Native.Nat.{ℕ, _+_, _≤_, _<_}
+use mathlib.Core.Bool.{Bool, true, false}
 use mathlib.Core.Logic.{_⊎_, inl, inr}
-use mathlib.Core.List.{List, [], _∷_, _++_, append-assoc, append-nil}
+use mathlib.Core.List.{List, [], _++_, append-assoc, append-nil}
 use mathlib.Core.Path.{_≡_, refl, sym, ap, _∙_}
 use native.Mathlib.Omega.{arith}
 use borrow.Author.Tests.{lt-ltb, le-ltb, eq-eqb, ne-eqb, ltb-true, ltb-false, eqb-true, eqb-false}
-use lib.ListN.{length, getD, length-append}
+use lib.ListN.{length, length-append}
 use lib.Dec.{ltb, eqb}
 use Rattle.form.specs.Numbers.{bytesOf}
 use Rattle.form.specs.Spans.{part}
-use Rattle.form.specs.Table.{Head, Forest, none, node, size, _⊕_, holds}
-use Rattle.form.specs.Tables.{Fair, LeafIs, ContainerIs, NameIs}
+use Rattle.form.specs.Table.{Head, Forest, none, node, size, _⊕_}
 use Rattle.form.proofs.Digits.{digits-length as bytes-length}
 use Rattle.form.proofs.Spans.{part-length}
 use Rattle.writer.specs.Pieces.{nameBytes, lengthBytes, leafBytes, listBytes, bodyBytes, laid, bodySize, ownSize}

@@ -1,15 +1,15 @@
 -- Whole tables: the root's record is judged and written, and that is what rule 8 says of the table.
 -- Assumes nothing.
-use Prim.Native.Nat.{ℕ, _+_, _*_, _≤_, _<_}
-use mathlib.Core.Bool.{Bool, true, false}
+use Prim.Native.Nat.{ℕ, _+_, _≤_, _<_}
+use mathlib.Core.Bool.{false}
 use mathlib.Core.List.{List}
-use mathlib.Core.Path.{_≡_, refl, sym, ap, subst, _∙_}
+use mathlib.Core.Path.{_≡_, refl, sym, ap, _∙_}
 use native.Mathlib.Omega.{arith}
 use borrow.Author.Tests.{le-leb, lt-leb}
 use lib.ListN.{length, getD}
-use Rattle.form.specs.Answer.{Out, got, no, guard, _>>_, overLimit, noTable, outputFull, depthLimit}
+use Rattle.form.specs.Answer.{got, no, _>>_, overLimit, noTable, outputFull, depthLimit}
 use Rattle.form.specs.Spans.{over}
-use Rattle.form.specs.Table.{Head, Forest, none, node, size, word, valueOf}
+use Rattle.form.specs.Table.{none, node, size, word, valueOf}
 use Rattle.form.specs.Tables.{IsTable, Within}
 use Rattle.form.specs.Layout.{layout}
 use Rattle.form.specs.Reading.{hasName}

@@ -2,19 +2,18 @@
 -- Assumes nothing.
 use Prim.Native.Nat.{ℕ, _+_, _-_, _*_, _≤_, _<_}
 use mathlib.Core.Bool.{Bool, true, false, not, _||_}
-use mathlib.Core.Logic.{_⊎_, inl, inr}
-use mathlib.Core.List.{List, [], _++_}
+use mathlib.Core.List.{List}
 use mathlib.Core.Path.{_≡_, refl, sym, ap, subst, _∙_}
 use native.Mathlib.Omega.{arith}
-use borrow.Author.Tests.{eqb-true, eqb-false, eq-eqb}
+use borrow.Author.Tests.{eq-eqb}
 use lib.ListN.{length, length-append}
 use lib.Dec.{eqb}
-use Rattle.form.specs.Answer.{Out, got, no, guard, _>>_}
+use Rattle.form.specs.Answer.{Out, got, no, _>>_}
 use Rattle.form.specs.Spans.{part}
 use Rattle.form.specs.Table.{Head, Forest, none, node, size, _⊕_, word, holds}
-use Rattle.form.specs.Tables.{Fair, LeafIs, ContainerIs, Within}
+use Rattle.form.specs.Tables.{Within}
 use Rattle.form.specs.Reading.{hasName}
-use Rattle.form.specs.Writing.{stringFine, judged}
+use Rattle.form.specs.Writing.{judged}
 use Rattle.form.proofs.Leaves.{held-kind}
 use Rattle.form.proofs.Table.{append-none, append-append}
 use Rattle.siblings.specs.declared.Found.{Found}
@@ -24,7 +23,7 @@ use Rattle.writer.specs.Pieces.{headOf, isAt, firstTwice, ownFine, oneJu
 use Rattle.writer.specs.Steps.{Rows, Some, One, Sized}
 use Rattle.writer.proofs.Pieces.{judged-none, judged-node, one-no, one-inner, one-leaf, one-own, own-once, own-depth, repeat-here, repeat-later, twice-entries, twice-elements}
 use Rattle.writer.proofs.Bytes.{laid-none, laid-node, laid-append, own-bound, size-leaf, size-held}
-use Rattle.writer.proofs.Rows.{Here, rows-split, rows-here, rows-none, rows-head, rows-to, rows-end, rows-name, rows-body, rows-inner, rows-leaf, rows-held, rows-repeat}
+use Rattle.writer.proofs.Rows.{Here, rows-split, rows-here, rows-none, rows-head, rows-name, rows-body, rows-inner, rows-leaf, rows-repeat}
 
 -- ---- no sum grows too large
 

@@ -4,25 +4,24 @@
 use Prim.Native.Nat.{ℕ, _+_, _*_, _≤_, _<_, _%_}
 use mathlib.Core.Bool.{Bool, true, false}
 use mathlib.Core.Logic.{_⊎_, inl, inr}
-use mathlib.Core.List.{List, [], _∷_, _++_, append-assoc, append-nil}
+use mathlib.Core.List.{List, [], _∷_, _++_, append-assoc}
 use mathlib.Core.Path.{_≡_, refl, sym, ap, _∙_}
 use native.Mathlib.Omega.{arith}
 use borrow.Author.Tests.{eq-eqb, ne-eqb}
-use lib.ListN.{length, getD, length-append}
+use lib.ListN.{length, getD}
 use lib.Dec.{eqb}
 use Rattle.form.specs.Numbers.{digits, bigEndian, bytesOf, signedOf}
 use Rattle.form.specs.Spans.{part}
-use Rattle.form.specs.Tree.{Tag, Tags, Entries, list, compound, nil, more, ended, entry, kindOf, many}
+use Rattle.form.specs.Tree.{Tags, Entries, kindOf, many}
 use Rattle.form.specs.Layout.{intBytes, stringBytes, intsBytes, listId, payload, elementBytes, entryBytes, layout}
-use Rattle.form.specs.Table.{Head, Forest, none, node, size, width, widthOf, holds, intsAt, valueBy, tagsOf, entriesOf, valueOf}
-use Rattle.form.specs.Tables.{Fair, LeafIs, ContainerIs, NameIs, firstKind, leafFits}
-use Rattle.form.proofs.Digits.{digits-length as bytes-length}
+use Rattle.form.specs.Table.{Head, Forest, none, node, size, widthOf, intsAt, valueBy, tagsOf, entriesOf, valueOf}
+use Rattle.form.specs.Tables.{Fair, LeafIs, ContainerIs, firstKind, leafFits}
 use Rattle.form.proofs.Places.{value-bytes}
 use Rattle.form.proofs.Spans.{part-length}
 use Rattle.form.proofs.EachKind.{by-kind}
 use Rattle.form.proofs.Leaves.{LeafSort, number, string, array, leaf-sort, array-kind, held-kind, fits-held}
 use Rattle.form.proofs.Values.{int-back, ints-back, ints-count, kind-is, fair-kind, many-is}
-use Rattle.writer.specs.Pieces.{nameBytes, lengthBytes, leafBytes, listBytes, bodyBytes, laid}
+use Rattle.writer.specs.Pieces.{nameBytes, leafBytes, listBytes, bodyBytes, laid}
 use Rattle.writer.proofs.Bytes.{length-string, length-array, length-fixed, leaf-is, body-list, body-compound, body-leaf, laid-one}
 
 -- A number below 256 is one byte.

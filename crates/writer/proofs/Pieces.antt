@@ -1,14 +1,13 @@
 -- The pieces of the judgement, each way through them a law, and put together: they are `judged`.
 -- Assumes nothing.
-use Prim.Native.Nat.{ℕ, _+_, _-_, _*_, _≤_, _<_}
+use Prim.Native.Nat.{ℕ, _+_, _-_, _≤_, _<_}
 use mathlib.Core.Bool.{Bool, true, false, not, _||_}
 use mathlib.Core.List.{List}
-use mathlib.Core.Path.{_≡_, refl, sym, ap, _∙_}
+use mathlib.Core.Path.{_≡_, refl, sym, _∙_}
 use native.Mathlib.Omega.{arith}
-use borrow.Author.Tests.{ltb-true, eqb-true, eq-eqb, ne-eqb}
-use lib.ListN.{length}
+use borrow.Author.Tests.{ltb-true, eq-eqb, ne-eqb}
 use lib.Dec.{ltb, eqb}
-use Rattle.form.specs.Answer.{Out, got, no, guard, _>>_, _>>=_, nameTwice, tooDeep, mixedList}
+use Rattle.form.specs.Answer.{Out, got, no, guard, _>>_, nameTwice, tooDeep, mixedList}
 use Rattle.form.specs.Spans.{part}
 use Rattle.form.specs.Table.{Head, Forest, none, node, size, _⊕_, holds}
 use Rattle.form.specs.Reading.{hasName}

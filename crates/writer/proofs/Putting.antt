@@ -1,8 +1,8 @@
 -- Records written one after the other: how far a walk has come, and what one record gives.
 -- Assumes nothing.
-use Prim.Native.Nat.{ℕ, _+_, _*_, _≤_, _<_}
+use Prim.Native.Nat.{ℕ, _+_, _≤_, _<_}
 use mathlib.Core.Bool.{Bool, true, false}
-use mathlib.Core.List.{List, [], _∷_, _++_, append-assoc}
+use mathlib.Core.List.{List, _++_}
 use mathlib.Core.Path.{_≡_, refl, sym, ap, subst, _∙_}
 use native.Mathlib.Omega.{arith}
 use borrow.Author.Tests.{eq-eqb, ne-eqb}
@@ -10,7 +10,7 @@ use lib.ListN.{length, length-append}
 use lib.Dec.{eqb}
 use Rattle.form.specs.Numbers.{bytesOf}
 use Rattle.form.specs.Spans.{over}
-use Rattle.form.specs.Table.{Head, Forest, none, node, size, _⊕_, word}
+use Rattle.form.specs.Table.{Head, Forest, none, node, _⊕_, word}
 use Rattle.form.specs.Tables.{Within}
 use Rattle.form.proofs.Digits.{digits-length as bytes-length}
 use Rattle.form.proofs.Table.{append-none}

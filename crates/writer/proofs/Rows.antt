@@ -1,19 +1,19 @@
 -- Records that stand in a table, fair: the first of them, those in it and those after it, and what each is.
 -- Assumes nothing.
 use Prim.Native.Nat.{ℕ, _+_, _*_, _≤_, _<_}
-use mathlib.Core.Bool.{Bool, true, false, _||_, _&&_}
+use mathlib.Core.Bool.{Bool, true, false}
 use mathlib.Core.Logic.{_⊎_, inl, inr}
-use mathlib.Core.List.{List, _++_}
-use mathlib.Core.Path.{_≡_, refl, sym, ap, subst, _∙_}
+use mathlib.Core.List.{List}
+use mathlib.Core.Path.{_≡_, refl, sym, ap, _∙_}
 use native.Mathlib.Omega.{arith}
 use lib.ListN.{length, take, drop}
 use lib.Seq.{take-append-seam}
-use lib.Dec.{eqb, ltb}
+use lib.Dec.{eqb}
 use Rattle.form.specs.Spans.{part, over}
 use Rattle.form.specs.Table.{Head, Forest, none, node, size, word, flat, wrote, holds}
-use Rattle.form.specs.Tables.{Fair, LeafIs, ContainerIs, NameIs, Within, leafFits}
+use Rattle.form.specs.Tables.{Fair, LeafIs, ContainerIs, Within, leafFits}
 use Rattle.form.proofs.Table.{flat-length}
-use Rattle.form.proofs.Tables.{Stands, Sits, sits-first, sits-inner, sits-later, sits-alone, sits-words, fair-name, fair-first, fair-inner, fair-later, fair-alone}
+use Rattle.form.proofs.Tables.{Stands, sits-first, sits-inner, sits-later, sits-alone, sits-words, fair-name, fair-first, fair-inner, fair-later, fair-alone}
 use Rattle.form.proofs.Leaves.{fits-held}
 use Rattle.form.proofs.Places.{over-part}
 use Rattle.siblings.specs.Holding.{NamesIn, Holds}

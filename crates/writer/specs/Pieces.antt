@@ -2,7 +2,7 @@
 -- and proofs/Bytes.antt put the pieces together: they are `judged` and `layout`.
 -- Assumes nothing.
 use Prim.Native.Nat.{ℕ, _+_, _-_}
-use mathlib.Core.List.{List, [], _∷_, _++_}
+use mathlib.Core.List.{List, [], _++_}
 use mathlib.Core.Bool.{Bool, true, false, not, _||_}
 use lib.Dec.{ltb, eqb}
 use Rattle.form.specs.Answer.{Out, guard, _>>_, _>>=_, nameTwice, tooDeep, mixedList}

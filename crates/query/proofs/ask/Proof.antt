@@ -1,11 +1,9 @@
 -- `query::ask` meets its contract: each refusal in rule 9's order, then the list filled.
 -- Assumes nothing.
 use borrow.Author.Needs.{needs}
-use Prim.Native.Nat.{_+_, _*_, _/_, _≤_, _<_}
-use mathlib.Core.Path.{_≡_, refl, sym, ap, _∙_}
 use native.Mathlib.Omega.{arith}
 use borrow.Author.Tests.{not-true, not-false}
-use Rattle.query.proofs.Finds.{table-side, table-fine, finds-deep, finds-bad, count-keeps, finds-short, finds-full}
+use Rattle.query.proofs.Finds.{table-side, table-fine, finds-deep, finds-bad, finds-short, finds-full}
 use Rattle.query.proofs.ask.Statement.{statement}
 use Rattle.query.proofs.ask.Tie as tie
 

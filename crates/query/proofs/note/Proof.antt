@@ -1,8 +1,6 @@
 -- `query::note` meets its contract: a match is written where there is room, and counted in any case.
 -- Assumes nothing.
 use borrow.Author.Needs.{needs}
-use mathlib.Core.Path.{_≡_}
-use native.Mathlib.Omega.{arith}
 use borrow.Author.Tests.{not-true, not-false}
 use Rattle.query.proofs.Walking.{walks-none, walks-put, walks-full}
 use Rattle.query.proofs.note.Statement.{statement}

@@ -1,7 +1,6 @@
 -- `query::query` meets its contract: 9 and 10 by the check of the table, and then what asking it gives.
 -- Assumes nothing.
 use borrow.Author.Needs.{needs}
-use mathlib.Core.Path.{_≡_}
 use Rattle.query.proofs.Finds.{query-large, query-unfit, query-fit}
 use Rattle.query.proofs.query.Statement.{statement}
 use Rattle.query.proofs.query.Tie as tie

@@ -1,24 +1,20 @@
 -- `steps::matched` meets its contract: each way through the code is a case of the definition, and a call is asked with fewer steps and levels.
 -- Assumes nothing.
 use borrow.Author.Needs.{needs}
-use Prim.Native.Nat.{ℕ, _+_, _-_, _*_, _≤_, _<_}
-use mathlib.Core.Bool.{Bool, true, false}
-use mathlib.Core.Path.{_≡_, refl, sym, ap, _∙_}
+use Prim.Native.Nat.{ℕ, _+_, _-_, _<_}
+use mathlib.Core.Path.{sym, _∙_}
 use native.Mathlib.Omega.{arith}
 use denote.Ref.{now}
-use lib.ListN.{length, getD}
 use borrow.Fn.Kinds.{In, Out}
 use borrow.Fn.PlainCycle.{Measures, is, falls, and}
-use Rattle.steps.specs.Steps.{stepNo, noStep}
+use Rattle.steps.specs.Steps.{stepNo}
 use Rattle.steps.specs.Levels.{hopNo}
-use Rattle.steps.proofs.Levels.{step-deep, step-shallow, took-at}
+use Rattle.steps.proofs.Levels.{step-deep, step-shallow, level-in}
 use Rattle.steps.proofs.Matching.{end-fits, end-not, deep-all, deep-fits, deep-nowhere, deep-last, deep-on, one-last, one-on, one-off}
 use Rattle.steps.proofs.matched.Reads as matched
 use Rattle.steps.proofs.matched.Kinds as kinds
 use Rattle.steps.proofs.+matched.Lts-matched as lts
-use Rattle.steps.proofs.index_at.Reads as index-at-reads
-use Rattle.steps.proofs.record_at.Reads as record-at-reads
-use Rattle.steps.proofs.step_takes.Reads as step-takes-reads
+use Rattle.steps.proofs.level_takes.Reads as level-takes-reads
 use Rattle.steps.proofs.+matched.{statement}
 use Rattle.steps.proofs.+matched.Tie.{close}
 
@@ -33,7 +29,7 @@ abbrev below : ℕ → In 4 kinds.ps
 below t = and 4 kinds.ps (falls 4 kinds.ps _<_ μ t) matched.Pre
 
 abbrev On : ℕ → (lts.Claims → In 4 kinds.ps → Out 4 kinds.ps kinds.r → Type 0) → Type 0
-On t F = F (below t, matched.Post, record-at-reads.Asked, record-at-reads.Learnt, index-at-reads.Asked, index-at-reads.Learnt, step-takes-reads.Asked, step-takes-reads.Learnt) (at t) matched.Post
+On t F = F (below t, matched.Post, level-takes-reads.Asked, level-takes-reads.Learnt) (at t) matched.Post
 
 module _ (t : ℕ) where
   returns : On t lts.Need-returns
@@ -125,59 +121,41 @@ module _ (t : ℕ) where
       let a = c .before .before .before .before .before .before .before .before .args in
       one-last (stepNo (now (a .q)) (a .t4)) (hopNo (now (a .doc)) (now (a .table)) (now (a .trail))) (a .t4 .count) (a .s) (a .d) (a .p) (c .before .before .before .if1 .left) (step-shallow _ _ (c .before .if3 .left)) (c .if6 .taken)
 
-  record-at-requires : On t lts.Need-record-at-requires
-  record-at-requires c κs = let long = c .before .before .before .before .before .before .before .before .pre .1 .0 .long in omega arith
-
-  record-at-requires-2 : On t lts.Need-record-at-requires-2
-  record-at-requires-2 c κs = let long = c .before .before .before .before .before .before .before .before .before .pre .1 .0 .long in omega arith
-
-  index-at-requires : On t lts.Need-index-at-requires
-  index-at-requires c κs = let long = c .before .before .before .before .before .before .before .before .before .before .pre .1 .0 .long in omega arith
-
-  step-takes-requires : On t lts.Need-step-takes-requires
-  step-takes-requires c κs =
-      let at-record-at = c .before .before in
-      let at-else1 = at-record-at .before .before .before .before in
+  level-takes-requires : On t lts.Need-level-takes-requires
+  level-takes-requires c κs =
+      let at-else1 = c .before .before .before in
       let at-start = at-else1 .before .before .before .before .before in
       let a = at-start .args in
-      let r = at-start .pre .1 .0 .records in
-      (at-start .pre .1 .0 .asks .names (a .s) (at-else1 .if1 .left), rw (at-record-at .record-at .ensures) (r (a .p - 1) (omega arith)), rw (c .before .record-at2 .ensures) (r (a .p) (omega arith)))
+      (at-start .pre .1 .0 .asks .names (a .s) (at-else1 .if1 .left), level-in _ _ _ _ _ (a .d) (a .p) (at-start .pre .1 .0) (at-start .pre .1 .1) (c .if6 .left))
 
   matched-requires-3 : On t lts.Need-matched-requires-3
   matched-requires-3 c κs =
-      let e = c .before .before .before .before .before .before .before .before .before .before .before .before .before .pre .0 in
-      (omega arith, (c .before .before .before .before .before .before .before .before .before .before .before .before .before .pre .1 .0, omega arith))
+      let e = c .before .before .before .before .before .before .before .before .before .before .pre .0 in
+      (omega arith, (c .before .before .before .before .before .before .before .before .before .before .pre .1 .0, omega arith))
 
   returns-9 : On t lts.Need-returns-9
   returns-9 c =
-      let at-step-takes = c .before .before in
-      let at-index-at = at-step-takes .before in
-      let at-record-at2 = at-index-at .before in
-      let at-record-at = at-record-at2 .before in
-      let at-else6 = at-record-at .before in
+      let at-level-takes = c .before .before in
+      let at-else6 = at-level-takes .before in
       let at-else3 = at-else6 .before in
       let at-else1 = at-else3 .before .before in
       let at-start = at-else1 .before .before .before .before .before in
       let a = at-start .args in
-      let k : a .p - 1 + 1 ≡ a .p = omega arith in
-      one-on (stepNo (now (a .q)) (a .t4)) (hopNo (now (a .doc)) (now (a .table)) (now (a .trail))) (a .t4 .count) (a .s) (a .d) (a .p) (at-else1 .if1 .left) (step-shallow _ _ (at-else3 .if3 .left)) (at-else6 .if6 .left) (took-at (now (a .doc)) (now (a .table)) (now (a .q)) (now (a .trail)) (getD (a .t4 .steps) (a .s) noStep) (a .p - 1) (a .p) k (at-record-at .record-at .ensures) (at-record-at2 .record-at2 .ensures) (at-index-at .index-at .ensures) (at-step-takes .step-takes .ensures) (c .before .if7 .taken)) (c .matched3 .result) (c .matched3 .ensures)
+      one-on (stepNo (now (a .q)) (a .t4)) (hopNo (now (a .doc)) (now (a .table)) (now (a .trail))) (a .t4 .count) (a .s) (a .d) (a .p) (at-else1 .if1 .left) (step-shallow _ _ (at-else3 .if3 .left)) (at-else6 .if6 .left) (sym (at-level-takes .level-takes .ensures) ∙ (c .before .if7 .taken)) (c .matched3 .result) (c .matched3 .ensures)
 
   returns-10 : On t lts.Need-returns-10
   returns-10 c =
-      let at-index-at = c .before .before in
-      let at-record-at2 = at-index-at .before in
-      let at-record-at = at-record-at2 .before in
-      let at-else6 = at-record-at .before in
+      let at-else6 = c .before .before in
       let at-else3 = at-else6 .before in
       let at-else1 = at-else3 .before .before in
       let at-start = at-else1 .before .before .before .before .before in
       let a = at-start .args in
-      one-off (stepNo (now (a .q)) (a .t4)) (hopNo (now (a .doc)) (now (a .table)) (now (a .trail))) (a .t4 .count) (a .s) (a .d) (a .p) (at-else1 .if1 .left) (step-shallow _ _ (at-else3 .if3 .left)) (at-else6 .if6 .left) (took-at (now (a .doc)) (now (a .table)) (now (a .q)) (now (a .trail)) (getD (a .t4 .steps) (a .s) noStep) (a .p - 1) (a .p) (omega arith) (at-record-at .record-at .ensures) (at-record-at2 .record-at2 .ensures) (at-index-at .index-at .ensures) (c .before .step-takes .ensures) (c .if7 .left))
+      one-off (stepNo (now (a .q)) (a .t4)) (hopNo (now (a .doc)) (now (a .table)) (now (a .trail))) (a .t4 .count) (a .s) (a .d) (a .p) (at-else1 .if1 .left) (step-shallow _ _ (at-else3 .if3 .left)) (at-else6 .if6 .left) (sym (c .before .level-takes .ensures) ∙ (c .if7 .left))
 
 pub +matched-spec : {M : Type 1} → statement M
 +matched-spec =
     close μ
-    (λ t. lts.spec (below t, matched.Post, record-at-reads.Asked, record-at-reads.Learnt, index-at-reads.Asked, index-at-reads.Learnt, step-takes-reads.Asked, step-takes-reads.Learnt) (at t) matched.Post
+    (λ t. lts.spec (below t, matched.Post, level-takes-reads.Asked, level-takes-reads.Learnt) (at t) matched.Post
     (returns t)
     (returns-2 t)
     (mul-step t)
@@ -196,11 +174,7 @@ pub +matched-spec : {M : Type 1} → statement M
     (matched-requires-2 t)
     (returns-7 t)
     (returns-8 t)
-    (λ c. search needs)
-    (record-at-requires t)
-    (record-at-requires-2 t)
-    (index-at-requires t)
-    (step-takes-requires t)
+    (level-takes-requires t)
     (λ c. search needs)
     (λ c. search needs)
     (matched-requires-3 t)

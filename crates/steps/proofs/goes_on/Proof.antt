@@ -1,17 +1,15 @@
 -- `steps::goes_on` meets its contract. The invariant: whether a path can go on is whether what is left of the steps and of the path can. The
 -- measure is how many steps are left. Assumes nothing.
 use borrow.Author.Needs.{needs}
-use Prim.Native.Nat.{ℕ, _+_, _-_, _*_, _≤_, _<_}
-use mathlib.Core.Bool.{Bool, true, false}
-use mathlib.Core.Path.{_≡_, refl, sym, ap, _∙_}
+use Prim.Native.Nat.{_+_, _-_}
+use mathlib.Core.Path.{_≡_, refl, sym, _∙_}
 use native.Mathlib.Omega.{arith}
 use denote.Ref.{now}
-use lib.ListN.{length, getD}
 use borrow.Author.Tests.{not-true, not-false}
-use Rattle.steps.specs.Steps.{span, stepNo, stepsFrom, noStep}
+use Rattle.steps.specs.Steps.{span, stepNo, stepsFrom}
 use Rattle.steps.specs.Levels.{hopNo, hopsFrom}
 use Rattle.steps.specs.Three.{goesOn}
-use Rattle.steps.proofs.Levels.{step-deep, step-shallow, took}
+use Rattle.steps.proofs.Levels.{step-deep, step-shallow, level-in}
 use Rattle.steps.proofs.Matching.{on-deep, on-last, on-next, on-off, on-none}
 use Rattle.steps.proofs.goes_on.Statement.{statement}
 use Rattle.steps.proofs.goes_on.Tie as tie
@@ -52,52 +50,33 @@ returns-2 c =
     let s = at-at-loop .loop .s in
     on-last (stepNo (now (a .q)) (a .t4)) (hopNo (now (a .doc)) (now (a .table)) (now (a .trail))) (a .t4 .count) s (a .d) (s + 1) (at-in-loop .loop-test .taken) (step-shallow _ _ (c .before .if1 .left)) (c .if2 .taken) ∙ sym (at-at-loop .loop .inv)
 
-record-at-requires : tie.Need-record-at-requires Inv-loop μ-loop
-record-at-requires c κs = let long = c .before .before .before .before .before .before .before .before .before .pre .0 .long in omega arith
-
-record-at-requires-2 : tie.Need-record-at-requires-2 Inv-loop μ-loop
-record-at-requires-2 c κs = let long = c .before .before .before .before .before .before .before .before .before .before .pre .0 .long in omega arith
-
-index-at-requires : tie.Need-index-at-requires Inv-loop μ-loop
-index-at-requires c κs = let long = c .before .before .before .before .before .before .before .before .before .before .before .pre .0 .long in omega arith
-
-step-takes-requires : tie.Need-step-takes-requires Inv-loop μ-loop
-step-takes-requires c κs =
-    let at-record-at = c .before .before in
-    let at-in-loop = at-record-at .before .before .before .before in
-    let at-at-loop = at-in-loop .before in
-    let at-start = at-at-loop .before .before .before .before .before in
-    let s = at-at-loop .loop .s in
-    let r = at-start .pre .0 .records in
-    (at-start .pre .0 .asks .names s (at-in-loop .loop-test .taken), rw (at-record-at .record-at .ensures) (r s (omega arith)), rw (c .before .record-at2 .ensures) (r (s + 1) (omega arith)))
+level-takes-requires : tie.Need-level-takes-requires Inv-loop μ-loop
+level-takes-requires c κs =
+    let a = c .before .before .before .before .before .before .before .before .before .args in
+    let s = c .before .before .before .before .loop .s in
+    (c .before .before .before .before .before .before .before .before .before .pre .0 .asks .names s (c .before .before .before .loop-test .taken), level-in _ _ _ _ _ (a .d) (s + 1) (c .before .before .before .before .before .before .before .before .before .pre .0) (omega arith) (c .if2 .left))
 
 returns-3 : tie.Need-returns-3 Inv-loop μ-loop
 returns-3 c =
-    let at-index-at = c .before .before in
-    let at-record-at2 = at-index-at .before in
-    let at-record-at = at-record-at2 .before in
-    let at-else2 = at-record-at .before in
+    let at-else2 = c .before .before in
     let at-else1 = at-else2 .before in
     let at-in-loop = at-else1 .before .before in
     let at-at-loop = at-in-loop .before in
     let at-start = at-at-loop .before .before .before .before .before in
     let a = at-start .args in
     let s = at-at-loop .loop .s in
-    on-off (stepNo (now (a .q)) (a .t4)) (hopNo (now (a .doc)) (now (a .table)) (now (a .trail))) (a .t4 .count) s (a .d) (s + 1) (at-in-loop .loop-test .taken) (step-shallow _ _ (at-else1 .if1 .left)) (at-else2 .if2 .left) (took (now (a .doc)) (now (a .table)) (now (a .q)) (now (a .trail)) (getD (a .t4 .steps) s noStep) s (at-record-at .record-at .ensures) (at-record-at2 .record-at2 .ensures) (at-index-at .index-at .ensures) (c .before .step-takes .ensures) (not-true _ (c .if3 .taken))) ∙ sym (at-at-loop .loop .inv)
+    on-off (stepNo (now (a .q)) (a .t4)) (hopNo (now (a .doc)) (now (a .table)) (now (a .trail))) (a .t4 .count) s (a .d) (s + 1) (at-in-loop .loop-test .taken) (step-shallow _ _ (at-else1 .if1 .left)) (at-else2 .if2 .left) (sym (c .before .level-takes .ensures) ∙ (not-true _ (c .if3 .taken))) ∙ sym (at-at-loop .loop .inv)
 
 loop-again : tie.Need-loop-again Inv-loop μ-loop
 loop-again c =
-    let at-index-at = c .before .before in
-    let at-record-at2 = at-index-at .before in
-    let at-record-at = at-record-at2 .before in
-    let at-else2 = at-record-at .before in
+    let at-else2 = c .before .before in
     let at-else1 = at-else2 .before in
     let at-in-loop = at-else1 .before .before in
     let at-at-loop = at-in-loop .before in
     let at-start = at-at-loop .before .before .before .before .before in
     let a = at-start .args in
     let s = at-at-loop .loop .s in
-    at-at-loop .loop .inv ∙ on-next (stepNo (now (a .q)) (a .t4)) (hopNo (now (a .doc)) (now (a .table)) (now (a .trail))) (a .t4 .count) s (a .d) (s + 1) (at-in-loop .loop-test .taken) (step-shallow _ _ (at-else1 .if1 .left)) (at-else2 .if2 .left) (took (now (a .doc)) (now (a .table)) (now (a .q)) (now (a .trail)) (getD (a .t4 .steps) s noStep) s (at-record-at .record-at .ensures) (at-record-at2 .record-at2 .ensures) (at-index-at .index-at .ensures) (c .before .step-takes .ensures) (not-false _ (c .if3 .left)))
+    at-at-loop .loop .inv ∙ on-next (stepNo (now (a .q)) (a .t4)) (hopNo (now (a .doc)) (now (a .table)) (now (a .trail))) (a .t4 .count) s (a .d) (s + 1) (at-in-loop .loop-test .taken) (step-shallow _ _ (at-else1 .if1 .left)) (at-else2 .if2 .left) (sym (c .before .level-takes .ensures) ∙ (not-false _ (c .if3 .left)))
 
 returns-4 : tie.Need-returns-4 Inv-loop μ-loop
 returns-4 c =
@@ -115,12 +94,8 @@ goes-on-spec =
     returns
     add-if2
     returns-2
-    record-at-requires
     (λ c. search needs)
-    record-at-requires-2
-    (λ c. search needs)
-    index-at-requires
-    step-takes-requires
+    level-takes-requires
     returns-3
     (λ c. search needs)
     (λ c. search needs)

@@ -1,7 +1,7 @@
 -- `steps::name_is` meets its contract: names of two lengths differ, and of one length the bytes decide.
 -- Assumes nothing.
 use borrow.Author.Needs.{needs}
-use mathlib.Core.Path.{_≡_, sym, _∙_}
+use mathlib.Core.Path.{sym, _∙_}
 use native.Mathlib.Omega.{arith}
 use Rattle.steps.proofs.Levels.{name-alike, name-longer}
 use Rattle.steps.proofs.name_is.Statement.{statement}

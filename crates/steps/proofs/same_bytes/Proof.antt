@@ -1,7 +1,7 @@
 -- `steps::same_bytes` meets its contract. The invariant: whether the parts are the same is whether what is left of them is. The measure is
 -- how many bytes are left. Assumes nothing.
 use borrow.Author.Needs.{needs}
-use Prim.Native.Nat.{_≤_, _<_, _-_, _+_}
+use Prim.Native.Nat.{_≤_, _-_, _+_}
 use mathlib.Core.Path.{_≡_, sym, ap₂, _∙_}
 use native.Mathlib.Omega.{arith}
 use Rattle.form.specs.Spans.{part, same}

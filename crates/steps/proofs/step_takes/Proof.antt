@@ -1,8 +1,7 @@
 -- `steps::step_takes` meets its contract: each kind of step against the two kinds of level.
 -- Assumes nothing.
 use borrow.Author.Needs.{needs}
-use mathlib.Core.Path.{_≡_, sym, _∙_}
-use native.Mathlib.Omega.{arith}
+use mathlib.Core.Path.{sym, _∙_}
 use Rattle.steps.proofs.Levels.{takes-name, takes-no-name, takes-index, takes-no-index, takes-any}
 use Rattle.steps.proofs.step_takes.Statement.{statement}
 use Rattle.steps.proofs.step_takes.Tie as tie

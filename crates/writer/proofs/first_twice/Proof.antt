@@ -1,8 +1,7 @@
 -- `writer::first_twice` meets its contract: the search is asked only among the entries of a compound.
 -- Assumes nothing.
 use borrow.Author.Needs.{needs}
-use native.Mathlib.Omega.{arith}
-use mathlib.Core.Path.{_≡_, refl, sym, ap, _∙_}
+use mathlib.Core.Path.{refl, sym, _∙_}
 use Rattle.writer.proofs.Pieces.{twice-entries, twice-elements}
 use Rattle.writer.proofs.first_twice.Statement.{statement}
 use Rattle.writer.proofs.first_twice.Tie as tie

@@ -1,8 +1,7 @@
 -- `writer::is_at` meets its contract: by cases on what was found.
 -- Assumes nothing.
 use borrow.Author.Needs.{needs}
-use native.Mathlib.Omega.{arith}
-use mathlib.Core.Path.{_≡_, refl, sym, ap, _∙_}
+use mathlib.Core.Path.{sym, ap}
 use Rattle.writer.specs.Pieces.{isAt}
 use Rattle.writer.proofs.is_at.Statement.{statement}
 use Rattle.writer.proofs.is_at.Tie as tie

@@ -1,8 +1,7 @@
 -- `writer::mixed` meets its contract: by cases on whether it is an element.
 -- Assumes nothing.
 use borrow.Author.Needs.{needs}
-use native.Mathlib.Omega.{arith}
-use mathlib.Core.Path.{_≡_, refl, sym, ap, _∙_}
+use mathlib.Core.Path.{refl}
 use Rattle.writer.proofs.mixed.Statement.{statement}
 use Rattle.writer.proofs.mixed.Tie as tie
 use Rattle.writer.proofs.mixed.Reads as reads

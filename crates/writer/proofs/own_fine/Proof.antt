@@ -1,8 +1,7 @@
 -- `writer::own_fine` meets its contract: the name first, then the rest.
 -- Assumes nothing.
 use borrow.Author.Needs.{needs}
-use native.Mathlib.Omega.{arith}
-use mathlib.Core.Path.{_≡_, refl, sym, ap, _∙_}
+use mathlib.Core.Path.{_≡_, sym, ap, _∙_}
 use Rattle.form.specs.Writing.{stringFine}
 use Rattle.writer.specs.Pieces.{headOf}
 use Rattle.writer.specs.Steps.{fineOut}

@@ -2,7 +2,7 @@
 -- Assumes nothing.
 use borrow.Author.Needs.{needs}
 use native.Mathlib.Omega.{arith}
-use mathlib.Core.Path.{_≡_, refl, sym, ap, _∙_}
+use mathlib.Core.Path.{sym, _∙_}
 use Rattle.writer.specs.Pieces.{headOf}
 use Rattle.writer.proofs.Bytes.{own-element, own-entry, size-bound}
 use Rattle.writer.proofs.own_size.Statement.{statement}

@@ -1,8 +1,7 @@
 -- `writer::payload_fine` meets its contract: a string's span is judged, and no other.
 -- Assumes nothing.
 use borrow.Author.Needs.{needs}
-use native.Mathlib.Omega.{arith}
-use mathlib.Core.Path.{_≡_, refl, sym, ap, _∙_}
+use mathlib.Core.Path.{sym, _∙_}
 use Rattle.form.specs.Writing.{stringFine}
 use Rattle.form.proofs.Writing.{payload-string, payload-other}
 use Rattle.writer.specs.Pieces.{headOf}

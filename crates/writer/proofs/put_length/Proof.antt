@@ -2,8 +2,7 @@
 -- Assumes nothing.
 use borrow.Author.Needs.{needs}
 use native.Mathlib.Omega.{arith}
-use mathlib.Core.Path.{_≡_, refl, sym, ap, _∙_}
-use Rattle.form.specs.Numbers.{bytesOf}
+use mathlib.Core.Path.{refl, ap, _∙_}
 use Rattle.form.proofs.Digits.{digits-length as bytes-length}
 use Rattle.writer.specs.Pieces.{headOf}
 use Rattle.writer.proofs.Bytes.{length-string, length-array, length-fixed}

@@ -1,9 +1,7 @@
 -- `writer::rest_fine` meets its contract: each way through the code is a law of the definition.
 -- Assumes nothing.
 use borrow.Author.Needs.{needs}
-use native.Mathlib.Omega.{arith}
-use mathlib.Core.Path.{_≡_, refl, sym, ap, _∙_}
-use mathlib.Core.Bool.{true, false}
+use mathlib.Core.Path.{_≡_, sym, ap, _∙_}
 use Rattle.writer.specs.Pieces.{headOf, deep, mixed}
 use Rattle.writer.proofs.Pieces.{rest-deep, rest-mixed, rest-on}
 use Rattle.writer.proofs.rest_fine.Statement.{statement}

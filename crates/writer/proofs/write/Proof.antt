@@ -1,8 +1,7 @@
 -- `writer::write` meets its contract: by the answer of the table's check.
 -- Assumes nothing.
 use borrow.Author.Needs.{needs}
-use native.Mathlib.Omega.{arith}
-use mathlib.Core.Path.{_≡_, refl, sym, ap, subst, _∙_}
+use mathlib.Core.Path.{ap}
 use lib.ListN.{length}
 use Rattle.writer.proofs.Documents.{write-large, write-unfit, write-formed, write-fit}
 use Rattle.writer.proofs.write.Statement.{statement}

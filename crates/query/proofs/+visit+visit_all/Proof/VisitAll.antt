@@ -1,11 +1,8 @@
 -- What `visit_all` leaves to show. The invariant: what was found, then what is found in the records left, is what is found in all; the
 -- measure of the loop is how many records are left. Assumes nothing.
 use Prim.Native.Nat.{ℕ, _+_, _-_, _*_, _≤_, _<_}
-use mathlib.Core.Bool.{Bool, true, false}
-use mathlib.Core.Path.{_≡_, refl, sym, ap, _∙_}
+use mathlib.Core.Path.{_≡_, ap, _∙_}
 use native.Mathlib.Omega.{arith}
-use borrow.Author.Needs.{needs}
-use mathlib.Core.List.{List}
 use borrow.Fn.Kinds.{In, Out}
 use lib.ListN.{length, length-set}
 use Rattle.form.specs.Table.{word}

@@ -1,10 +1,8 @@
 -- What `put_all` leaves to show. The invariant: whichever records stand there, the bytes of those so far are written.
 -- Assumes nothing.
-use Prim.Native.Nat.{ℕ, _+_, _*_, _-_, _≤_, _<_}
-use mathlib.Core.Path.{_≡_}
+use Prim.Native.Nat.{ℕ, _-_, _≤_}
 use native.Mathlib.Omega.{arith}
 use borrow.Fn.Kinds.{In, Out}
-use lib.ListN.{length}
 use Rattle.writer.specs.Steps.{SomeRoom}
 use Rattle.writer.proofs.Putting.{Way, way-start, way-length, way-end, way-on, way-one, way-next}
 use Rattle.writer.proofs.put_all.Reads as put-all

@@ -1,7 +1,7 @@
 -- What `put_one` leaves to show: the name, then the payload by kind.
 -- Assumes nothing.
-use Prim.Native.Nat.{ℕ, _+_, _*_, _-_, _≤_, _<_}
-use mathlib.Core.Path.{_≡_, refl, sym, ap, _∙_}
+use Prim.Native.Nat.{ℕ, _*_, _-_, _≤_, _<_}
+use mathlib.Core.Path.{_≡_, sym, _∙_}
 use native.Mathlib.Omega.{arith}
 use borrow.Fn.Kinds.{In, Out}
 use lib.ListN.{length}
@@ -9,7 +9,7 @@ use Rattle.form.specs.Table.{word as wordOf}
 use Rattle.writer.specs.Steps.{Placed}
 use Rattle.writer.proofs.Puts.{puts-length}
 use Rattle.writer.proofs.Rows.{rows-placed, rows-to}
-use Rattle.writer.proofs.Putting.{name-room, leaf-room, put-leaf as leaf-put, list-room, list-some, put-list as list-put, entries-fit, compound-some, end-room, put-compound}
+use Rattle.writer.proofs.Putting.{name-room, leaf-room, put-leaf as leaf-put, list-room, list-some, put-list as list-put, compound-some, end-room, put-compound}
 use Rattle.writer.proofs.put_all.Reads as put-all
 use Rattle.writer.proofs.put_one.Reads as put-one
 use Rattle.writer.proofs.put_one.Kinds as kinds
