@@ -419,3 +419,8 @@ lengthsOf (no n p) = no n p
 abbrev pub outputAfter : Out Block → List ℕ → List ℕ
 outputAfter (got b) o = over o 0 (layout (documentOf b))
 outputAfter (no n p) o = replicate (length o) 0
+
+-- The promise of a parse: the answer and every byte of the output.
+pub record ParseIs (t o : List ℕ) (answer : Out Lengths) (o′ : List ℕ) : Type 0 where
+  pub answer-is : answer ≡ lengthsOf (parsed t (length o))
+  pub output-is : o′ ≡ outputAfter (parsed t (length o)) o
