@@ -15,7 +15,10 @@ use Rattle.table.specs.declared.Verdict.{Verdict as TableVerdict}
 use Rattle.table.specs.Check.{VerdictIs}
 use Rattle.writer.specs.declared.Answer.{Answer as WriteAnswer}
 use Rattle.writer.specs.Steps.{answerOut, WroteIs}
-use Rattle.nbt.specs.Answers.{verdictWords, ReadCalled, TableCalled, WriteCalled}
+use Rattle.form.specs.Query.{QueryIs}
+use Rattle.query.specs.declared.Found.{Found}
+use Rattle.query.specs.Found.{foundCount}
+use Rattle.nbt.specs.Answers.{verdictWords, ReadCalled, TableCalled, WriteCalled, QueryCalled}
 
 pub checked-good : (n : ℕ) {r : Checked} {v : Verdict} → r ≡ Checked.Good → verdictOf r ≡ v → 0 ∷ 0 ∷ 0 ∷ 0 ∷ 0 ∷ 0 ∷ 0 ∷ 0 ∷ [] ≡ verdictWords n v
 checked-good n e h = rw (← h, e) refl
@@ -54,3 +57,11 @@ write-accepted doc t t′ o o′ {r} e h = record { result = answerOut r; is = h
 pub write-refused : (doc t t′ o o′ : List ℕ) {r : WriteAnswer} {n p : ℕ} → r ≡ WriteAnswer.Refused n p → WroteIs doc t t′ o (answerOut r) o′
     → WriteCalled doc t t′ o o′ (n ∷ p ∷ 0 ∷ 0 ∷ 0 ∷ 0 ∷ 0 ∷ 0 ∷ [])
 write-refused doc t t′ o o′ {r} e h = record { result = answerOut r; is = h .is; words-are = rw e refl; kept = h .kept }
+
+pub query-matched : (doc t q l l′ : List ℕ) {r : Found} {c : ℕ} → r ≡ Found.Matches c → QueryIs doc t q l (foundCount r) l′
+    → QueryCalled doc t q l l′ (0 ∷ 0 ∷ c ∷ 0 ∷ 0 ∷ 0 ∷ 0 ∷ 0 ∷ [])
+query-matched doc t q l l′ {r} e h = record { result = foundCount r; is = h; words-are = rw e refl }
+
+pub query-refused : (doc t q l l′ : List ℕ) {r : Found} {n p c : ℕ} → r ≡ Found.Refused n p c → QueryIs doc t q l (foundCount r) l′
+    → QueryCalled doc t q l l′ (n ∷ p ∷ c ∷ 0 ∷ 0 ∷ 0 ∷ 0 ∷ 0 ∷ [])
+query-refused doc t q l l′ {r} e h = record { result = foundCount r; is = h; words-are = rw e refl }

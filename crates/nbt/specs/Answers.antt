@@ -8,6 +8,7 @@ use Rattle.form.specs.Decoding.{Verdict, good, bad}
 use Rattle.form.specs.Reading.{Counts, countsOf, reading, tableAfter}
 use Rattle.form.specs.Tables.{IsTable, Within}
 use Rattle.form.specs.Writing.{WriteIs}
+use Rattle.form.specs.Query.{Count, counted, failed, QueryIs}
 
 -- A verdict on a string, whose refusal has the number n.
 abbrev pub verdictWords : ℕ → Verdict → List ℕ
@@ -42,3 +43,14 @@ pub record WriteCalled (doc t t′ o o′ answer : List ℕ) : Type 0 where
   pub is : WriteIs doc t o result o′
   pub words-are : answer ≡ writeWords result
   pub kept : t′ ≡ t
+
+-- A query: the number of matches, which refusal 24 gives too.
+abbrev pub queryWords : Count → List ℕ
+queryWords (counted c) = 0 ∷ 0 ∷ c ∷ 0 ∷ 0 ∷ 0 ∷ 0 ∷ 0 ∷ []
+queryWords (failed n p c) = n ∷ p ∷ c ∷ 0 ∷ 0 ∷ 0 ∷ 0 ∷ 0 ∷ []
+
+-- The promise of an exported query: rule 9's answer in the words, and every word of the list.
+pub record QueryCalled (doc t q l l′ answer : List ℕ) : Type 0 where
+  pub result : Count
+  pub is : QueryIs doc t q l result l′
+  pub words-are : answer ≡ queryWords result

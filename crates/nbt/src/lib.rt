@@ -3,8 +3,9 @@
 ghost use mathlib.Core.Path.{_≡_};
 ghost use Rattle.form.specs.Answer.{badString, badText};
 ghost use Rattle.form.specs.Decoding.{verdict, utf8Verdict};
-ghost use Rattle.nbt.specs.Answers.{verdictWords, ReadCalled, TableCalled, WriteCalled};
+ghost use Rattle.nbt.specs.Answers.{verdictWords, ReadCalled, TableCalled, WriteCalled, QueryCalled};
 use mutf8::Checked;
+use query::Found;
 use reader::Answer;
 use table::Verdict;
 
@@ -90,6 +91,31 @@ pub extern "C" fn tikfazrul_write(
             place: record,
         } => {
             *answer = [refusal as u64, record as u64, 0, 0, 0, 0, 0, 0];
+        }
+    }
+}
+
+// Asks a table which of its tags match a query (rule 9). Refusal 24 comes with the true count.
+#[no_mangle]
+pub extern "C" fn tikfazrul_query(
+    doc: &[u8],
+    table: &[u32],
+    query: &[u8],
+    list: &mut [u32],
+    answer: &mut [u64; 8],
+)
+    ensures { λ _. ⌜ QueryCalled (now (doc .entry)) (now (table .entry)) (now (query .entry)) (now (list .entry)) (now (list .exit)) (now (answer .exit)) ⌝ }
+{
+    match query::query(doc, table, query, list) {
+        Found::Matches { count } => {
+            *answer = [0, 0, count as u64, 0, 0, 0, 0, 0];
+        }
+        Found::Refused {
+            number: refused,
+            place: at,
+            count: matches,
+        } => {
+            *answer = [refused as u64, at as u64, matches as u64, 0, 0, 0, 0, 0];
         }
     }
 }
