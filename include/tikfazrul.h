@@ -1,4 +1,4 @@
-/* Tikfazrul: NBT read and written by a proved library. Link libnbt.a (`rt staticlib nbt`, or tools/native-staticlib nbt for the processor at hand).
+/* Tikfazrul: NBT read, written and asked by a proved library. Link libnbt.a (`rt staticlib nbt`, or tools/native-staticlib nbt for the processor at hand).
  *
  * Every function takes its slices as a pointer and a number of elements, and fills `answer`, eight words that the caller lends:
  *
@@ -18,14 +18,16 @@
  *                               tikfazrul_write: the record)
  *    5  a count below 0         its first byte
  *    6  a name twice            the id byte of the later entry (tikfazrul_write: the later record)
- *    7  over 512 deep           the first payload byte (tikfazrul_write: the record)
+ *    7  over 512 deep           the first payload byte (tikfazrul_write, tikfazrul_query: the record)
  *    8  the table is full       the first payload byte
- *    9  over a limit            0: a document over 16,777,216 bytes, or a table to check or to write over 8,388,608 words
- *   10  no table                0: the words form no table (tikfazrul_write)
+ *    9  over a limit            0: a document over 16,777,216 bytes, or a table to check, to write or to ask over 8,388,608 words
+ *   10  no table                0: the words form no table (tikfazrul_write, tikfazrul_query)
  *   11  a mixed list            the record of another kind than its list's first
  *   12  over 65,535 bytes       the record whose name or string it is
  *   13  the output is full      0
+ *   14  a malformed query       the first byte of the step, as an offset in the query
  *   15  not UTF-8               tikfazrul_check_utf8: the first sequence that can't be read
+ *   24  more matches than room  0, with the true number of matches in [2]
  */
 #ifndef TIKFAZRUL_H
 #define TIKFAZRUL_H
@@ -64,6 +66,20 @@ void tikfazrul_is_table(size_t doc_len, const uint32_t *table, size_t table_len,
  * out[0] on; no other byte changes. Refused (9, 10; then by record 12, 4, 6, 7, 11; 13 last): the output is as it was. The table's words are
  * used while the call lasts; on return each is as it was. An empty list is written as five zero bytes. */
 void tikfazrul_write(const uint8_t *doc, size_t doc_len, uint32_t *table, size_t table_len, uint8_t *out, size_t out_len, uint64_t answer[8]);
+
+/* Asks which tags of a table match a query, whose names lie in `doc`. The query is steps, sixteen at the most, one after the other, and says
+ * how to come from the root to a tag:
+ *
+ *   01, a length of two bytes, a name   the entry of a compound so named (big-endian, modified UTF-8, as in a document)
+ *   02, an index of four bytes          that element of a list, from 0 (big-endian, not below 0)
+ *   03                                  any one child
+ *   04                                  zero or more levels, whatever they are
+ *
+ * No step is the root alone. Accepted: [2] is the number of tags that match, and their record numbers stand from list[0] on, in file order
+ * and none twice; no other word changes. Refused (in this order: 9, 10, 7, 14, 24): the list is as it was; in 24 [2] is the number of
+ * matches, so that a call with no room asks how much is needed. */
+void tikfazrul_query(const uint8_t *doc, size_t doc_len, const uint32_t *table, size_t table_len, const uint8_t *query, size_t query_len,
+                     uint32_t *list, size_t list_len, uint64_t answer[8]);
 
 /* Whether bytes are modified UTF-8 (java.io.DataInput) of Unicode scalar values. Refused: 4, at the offset where the first sequence that
  * can't be read begins. */

@@ -1,44 +1,5 @@
 /* Calls the library from C: marked documents of 01, and the limits that are too large for the other programs. See tests/ffi/run. */
-#include "tikfazrul.h"
-#include <stdio.h>
-#include <stdlib.h>
-#include <string.h>
-
-static int passed, failed;
-
-static void expect(const char *what, int holds)
-{
-    if (holds) {
-        passed++;
-    } else {
-        failed++;
-        printf("failed: %s\n", what);
-    }
-}
-
-/* number, place, consumed, records; the other words are 0 */
-static int answers(const uint64_t a[8], uint64_t number, uint64_t place, uint64_t consumed, uint64_t records)
-{
-    return a[0] == number && a[1] == place && a[2] == consumed && a[3] == records && !a[4] && !a[5] && !a[6] && !a[7];
-}
-
-static int all(const uint32_t *t, size_t from, size_t to, uint32_t word)
-{
-    for (size_t i = from; i < to; i++)
-        if (t[i] != word)
-            return 0;
-    return 1;
-}
-
-static uint32_t *filled(size_t words)
-{
-    uint32_t *t = malloc((words ? words : 1) * sizeof *t);
-    if (!t)
-        exit(2);
-    for (size_t i = 0; i < words; i++)
-        t[i] = 0xABABABAB;
-    return t;
-}
+#include "expect.h"
 
 /* Reads, and checks the answer and every word: the records' words are `records` where given. */
 static void read_is(const char *what, const uint8_t *doc, size_t n, size_t words, uint64_t number, uint64_t place, uint64_t consumed,
@@ -136,6 +97,5 @@ int main(void)
     records(1048575, 8 * 1048577, 8, 11 + 1048574);
     bytes(16777216, 0);
     bytes(16777217, 9);
-    printf("%d passed, %d failed\n", passed, failed);
-    return failed != 0;
+    return report();
 }

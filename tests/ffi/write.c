@@ -1,41 +1,5 @@
 /* Checks and writes tables from C: a marked document of 01, and the limits that are too large for the other programs. See tests/ffi/run. */
-#include "tikfazrul.h"
-#include <stdio.h>
-#include <stdlib.h>
-#include <string.h>
-
-static int passed, failed;
-
-static void expect(const char *what, int holds)
-{
-    if (holds) {
-        passed++;
-    } else {
-        failed++;
-        printf("failed: %s\n", what);
-    }
-}
-
-/* number, place, value; the other words are 0 */
-static int answers(const uint64_t a[8], uint64_t number, uint64_t place, uint64_t value)
-{
-    return a[0] == number && a[1] == place && a[2] == value && !a[3] && !a[4] && !a[5] && !a[6] && !a[7];
-}
-
-static void *lent(size_t bytes)
-{
-    void *p = calloc(bytes ? bytes : 1, 1);
-    if (!p)
-        exit(2);
-    return p;
-}
-
-static void put(uint32_t *t, size_t n, uint32_t kind, uint32_t name, uint32_t name_len, uint32_t start, uint32_t len, uint32_t count,
-                uint32_t list_kind, uint32_t end)
-{
-    uint32_t words[] = {kind, name, name_len, start, len, count, list_kind, end};
-    memcpy(t + 8 * n, words, sizeof words);
-}
+#include "expect.h"
 
 /* Writes, and checks the answer, that the table is as it was, and that no byte but the written ones changed; these are `bytes` where given. */
 static void write_is(const char *what, const uint8_t *doc, size_t n, uint32_t *t, size_t words, size_t room, uint64_t number, uint64_t place,
@@ -49,7 +13,7 @@ static void write_is(const char *what, const uint8_t *doc, size_t n, uint32_t *t
     memcpy(before, t, 4 * words);
     memset(a, 0x55, sizeof a);
     tikfazrul_write(doc, n, t, words, out, room, a);
-    expect(what, answers(a, number, place, length));
+    expect(what, answers(a, number, place, length, 0));
     expect("a write leaves the table as it was", !memcmp(before, t, 4 * words));
     for (i = length; i < room && out[i] == 0xAA; i++)
         ;
@@ -65,7 +29,7 @@ static void check_is(const char *what, size_t n, const uint32_t *t, size_t words
     uint64_t a[8];
     memset(a, 0x55, sizeof a);
     tikfazrul_is_table(n, t, words, a);
-    expect(what, answers(a, number, 0, value));
+    expect(what, answers(a, number, 0, value, 0));
 }
 
 static void marked(void)
@@ -134,9 +98,7 @@ static void long_strings(void)
 /* The root and lists within it, so many containers deep. */
 static void depth(uint32_t deep, uint64_t number, uint64_t place)
 {
-    uint32_t *t = lent(32 * (size_t)deep);
-    for (uint32_t i = 0; i < deep; i++)
-        put(t, i, i ? 9 : 10, 0, 0, 0, 0, i + 1 < deep, i && i + 1 < deep ? 9 : 0, deep);
+    uint32_t *t = chain(deep);
     check_is("a chain of lists is a table", 0, t, 8 * (size_t)deep, 0, 1);
     write_is("a chain of lists", NULL, 0, t, 8 * (size_t)deep, 8 * (size_t)deep, number, place, number ? 0 : 7 + 5 * ((uint64_t)deep - 1), NULL);
     free(t);
@@ -150,6 +112,5 @@ int main(void)
     depth(512, 0, 0);
     depth(513, 7, 512);
     depth(10000, 7, 512);
-    printf("%d passed, %d failed\n", passed, failed);
-    return failed != 0;
+    return report();
 }
