@@ -1,5 +1,5 @@
-// Lines from standard input, and hexadecimal digits as bytes: what the listing and the replay programs share. Proved safe; what is read
-// and written is tested by running.
+// Lines from standard input, their fields, and hexadecimal digits as bytes and words: what the listing and the replay programs share. Proved
+// safe; what is read and written is tested by running.
 
 // What is left of a chunk of input: the bytes from `at` up to `have`.
 pub struct Input {
@@ -127,4 +127,106 @@ pub fn unhex(line: &[u8], n: usize, out: &mut [u8]) -> Hex {
 pub fn print_number(n: usize) {
     io::write_all(1, b" ");
     io::print_decimal(1, n as u64);
+}
+
+// ---- the fields of a line, with a blank after each but the last
+
+// More than any field of a line stands for.
+pub const TOO_MANY: usize = 1000000;
+
+// The bytes of a line from `from` up to the next blank, or to the end, put into `field`; how many there are.
+pub fn take_field(line: &[u8], len: usize, from: usize, field: &mut [u8]) -> usize {
+    let mut n: usize = 0;
+    let mut i = from;
+    while i < len && i < line.len() {
+        let b = line[i];
+        if b == b' ' || field.len() <= n {
+            return n;
+        }
+        field[n] = b;
+        n += 1;
+        i += 1;
+    }
+    n
+}
+
+// The first n bytes of a field as hexadecimal digits, put into `out`; how many bytes that gives.
+pub fn bytes_of(field: &[u8], n: usize, out: &mut [u8]) -> usize {
+    match unhex(field, n, out) {
+        Hex::Bytes(many) => many,
+        Hex::Bad => TOO_MANY,
+    }
+}
+
+// A decimal number with one digit more.
+fn step(v: usize, b: u8) -> usize {
+    if b < b'0' {
+        return TOO_MANY;
+    }
+    if b'9' < b {
+        return TOO_MANY;
+    }
+    if TOO_MANY <= v {
+        return TOO_MANY;
+    }
+    v * 10 + (b - b'0') as usize
+}
+
+// The first n bytes of a field as decimal digits.
+pub fn decimal(field: &[u8], n: usize) -> usize {
+    let mut v: usize = 0;
+    let mut i: usize = 0;
+    while i < n && i < field.len() {
+        let b = field[i];
+        v = step(v, b);
+        i += 1;
+    }
+    v
+}
+
+// The sum of two numbers that are not too many.
+pub fn sum(a: usize, b: usize) -> usize {
+    if TOO_MANY < a {
+        return TOO_MANY;
+    }
+    if TOO_MANY < b {
+        return TOO_MANY;
+    }
+    a + b
+}
+
+// The word that four bytes make, the first of them the highest.
+fn join(a: u8, b: u8, c: u8, d: u8) -> u32 {
+    (a as u32) * 16777216 + (b as u32) * 65536 + (c as u32) * 256 + (d as u32)
+}
+
+// Word i of those that bytes make.
+pub fn word_of(bytes: &[u8], i: usize) -> u32 {
+    if bytes.len() / 4 <= i {
+        return 0;
+    }
+    let at = 4 * i;
+    join(bytes[at], bytes[at + 1], bytes[at + 2], bytes[at + 3])
+}
+
+// Puts word i, where there is room for it.
+pub fn put_word(table: &mut [u32], i: usize, w: u32) {
+    if i < table.len() {
+        table[i] = w;
+    }
+}
+
+// The first n words that bytes make, put into `table` as far as it goes.
+pub fn fill_words(bytes: &[u8], n: usize, table: &mut [u32]) {
+    let mut i: usize = 0;
+    while i < n {
+        let w = word_of(bytes, i);
+        put_word(table, i, w);
+        i += 1;
+    }
+}
+
+// A line that has no such fields.
+pub fn print_bad() {
+    io::write_all(1, b"badline\n");
 }

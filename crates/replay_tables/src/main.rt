@@ -5,13 +5,9 @@
 // tests/replay/tables.py made them.
 ghost use mathlib.Core.Path.{_≡_};
 ghost use lib.ListN.{length};
-use lines::Hex;
 use lines::Line;
 use table::Verdict;
 use writer::Answer;
-
-// More than any field of a line stands for.
-const TOO_MANY: usize = 1000000;
 
 // Whether the words form a table.
 fn print_verdict(verdict: Verdict) {
@@ -66,67 +62,6 @@ fn print_bytes(bytes: &[u8]) {
     }
 }
 
-// The bytes of a line from `from` up to the next blank, or to the end, put into `field`; how many there are.
-fn take_field(line: &[u8], len: usize, from: usize, field: &mut [u8]) -> usize {
-    let mut n: usize = 0;
-    let mut i = from;
-    while i < len && i < line.len() {
-        let b = line[i];
-        if b == b' ' || field.len() <= n {
-            return n;
-        }
-        field[n] = b;
-        n += 1;
-        i += 1;
-    }
-    n
-}
-
-// The first n bytes of a field as hexadecimal digits, put into `out`; how many bytes that gives.
-fn bytes_of(field: &[u8], n: usize, out: &mut [u8]) -> usize {
-    match lines::unhex(field, n, out) {
-        Hex::Bytes(many) => many,
-        Hex::Bad => TOO_MANY,
-    }
-}
-
-// A decimal number with one digit more.
-fn step(v: usize, b: u8) -> usize {
-    if b < b'0' {
-        return TOO_MANY;
-    }
-    if b'9' < b {
-        return TOO_MANY;
-    }
-    if TOO_MANY <= v {
-        return TOO_MANY;
-    }
-    v * 10 + (b - b'0') as usize
-}
-
-// The first n bytes of a field as decimal digits.
-fn decimal(field: &[u8], n: usize) -> usize {
-    let mut v: usize = 0;
-    let mut i: usize = 0;
-    while i < n && i < field.len() {
-        let b = field[i];
-        v = step(v, b);
-        i += 1;
-    }
-    v
-}
-
-// The sum of two numbers that are not too many.
-fn sum(a: usize, b: usize) -> usize {
-    if TOO_MANY < a {
-        return TOO_MANY;
-    }
-    if TOO_MANY < b {
-        return TOO_MANY;
-    }
-    a + b
-}
-
 // The byte b at each place from `from` up to `to`.
 fn fill(out: &mut [u8], from: usize, to: usize, b: u8)
     ensures { λ _. ⌜ length (now (out .exit)) ≡ length (now (out .entry)) ⌝ }
@@ -138,42 +73,11 @@ fn fill(out: &mut [u8], from: usize, to: usize, b: u8)
     }
 }
 
-// The word that four bytes make, the first of them the highest.
-fn join(a: u8, b: u8, c: u8, d: u8) -> u32 {
-    (a as u32) * 16777216 + (b as u32) * 65536 + (c as u32) * 256 + (d as u32)
-}
-
-// Word i of those that bytes make.
-fn word_of(bytes: &[u8], i: usize) -> u32 {
-    if bytes.len() / 4 <= i {
-        return 0;
-    }
-    let at = 4 * i;
-    join(bytes[at], bytes[at + 1], bytes[at + 2], bytes[at + 3])
-}
-
-// Puts word i, where the table has it.
-fn put_word(table: &mut [u32], i: usize, w: u32) {
-    if i < table.len() {
-        table[i] = w;
-    }
-}
-
-// The first n words.
-fn fill_words(bytes: &[u8], n: usize, table: &mut [u32]) {
-    let mut i: usize = 0;
-    while i < n {
-        let w = word_of(bytes, i);
-        put_word(table, i, w);
-        i += 1;
-    }
-}
-
 // Whether a word of the table is not the one that the bytes make.
 fn changed(bytes: &[u8], table: &[u32]) -> bool {
     let mut i: usize = 0;
     while i < table.len() {
-        if table[i] != word_of(bytes, i) {
+        if table[i] != lines::word_of(bytes, i) {
             return true;
         }
         i += 1;
@@ -192,11 +96,6 @@ fn print_answers(doc: &[u8], bytes: &[u8], table: &mut [u32], out: &mut [u8]) {
     io::write_all(1, b"\n");
 }
 
-// A line that has no such fields.
-fn print_bad() {
-    io::write_all(1, b"badline\n");
-}
-
 // The answers to the first `size` bytes as a document and the first n words as a table, with so much room.
 fn print_case(
     doc: &[u8],
@@ -210,7 +109,7 @@ fn print_case(
     if size <= doc.len() && n <= table.len() && room <= out.len() {
         print_answers(&doc[..size], bytes, &mut table[..n], &mut out[..room]);
     } else {
-        print_bad();
+        lines::print_bad();
     }
 }
 
@@ -227,8 +126,8 @@ fn print_last(
     n: usize,
     out: &mut [u8],
 ) {
-    let d = take_field(line, len, from, field);
-    let room = decimal(field, d);
+    let d = lines::take_field(line, len, from, field);
+    let room = lines::decimal(field, d);
     fill(out, 0, room, 0xAA);
     print_case(doc, size, bytes, table, n, out, room);
 }
@@ -245,13 +144,13 @@ fn print_third(
     table: &mut [u32],
     out: &mut [u8],
 ) {
-    let c = take_field(line, len, from, field);
-    let n = bytes_of(field, c, bytes) / 4;
-    fill_words(bytes, n, table);
+    let c = lines::take_field(line, len, from, field);
+    let n = lines::bytes_of(field, c, bytes) / 4;
+    lines::fill_words(bytes, n, table);
     print_last(
         line,
         len,
-        sum(sum(from, c), 1),
+        lines::sum(lines::sum(from, c), 1),
         field,
         doc,
         size,
@@ -274,13 +173,13 @@ fn print_second(
     table: &mut [u32],
     out: &mut [u8],
 ) {
-    let b = take_field(line, len, from, field);
-    let end = sum(size, decimal(field, b));
+    let b = lines::take_field(line, len, from, field);
+    let end = lines::sum(size, lines::decimal(field, b));
     fill(doc, size, end, b'a');
     print_third(
         line,
         len,
-        sum(sum(from, b), 1),
+        lines::sum(lines::sum(from, b), 1),
         field,
         doc,
         end,
@@ -300,9 +199,19 @@ fn print_line(
     table: &mut [u32],
     out: &mut [u8],
 ) {
-    let a = take_field(line, len, 0, field);
-    let size = bytes_of(field, a, doc);
-    print_second(line, len, sum(a, 1), field, doc, size, bytes, table, out);
+    let a = lines::take_field(line, len, 0, field);
+    let size = lines::bytes_of(field, a, doc);
+    print_second(
+        line,
+        len,
+        lines::sum(a, 1),
+        field,
+        doc,
+        size,
+        bytes,
+        table,
+        out,
+    );
 }
 
 // Every line in turn, by way of lent buffers. The turns are for the loop to be seen to end: no input uses them up.
@@ -322,7 +231,7 @@ fn replay(
         match lines::next_line(chunk, input, line) {
             Line::End => return,
             Line::Long { input: rest } => {
-                print_bad();
+                lines::print_bad();
                 input = rest;
             }
             Line::Got { len, input: rest } => {

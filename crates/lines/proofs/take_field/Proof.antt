@@ -1,12 +1,12 @@
--- `replay_tables::take_field` is safe and ends: i rises to the line's length.
+-- `lines::take_field` is safe and ends: i rises to the line's length.
 -- Assumes nothing.
 use borrow.Author.Needs.{needs}
 use native.Mathlib.Omega.{arith}
 use Prim.Native.Nat.{_+_, _*_, _-_, _≤_, _<_}
 use mathlib.Core.Path.{_≡_, refl, sym, ap, _∙_}
 use lib.ListN.{length, length-set}
-use Rattle.replay_tables.proofs.take_field.Statement.{statement}
-use Rattle.replay_tables.proofs.take_field.Tie as tie
+use Rattle.lines.proofs.take_field.Statement.{statement}
+use Rattle.lines.proofs.take_field.Tie as tie
 
 abbrev Inv-loop : tie.InvT-loop
 Inv-loop line len from field₀ n₀ i₀ field n i = (length field ≡ length field₀) × (n ≤ i)
