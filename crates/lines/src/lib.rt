@@ -1,5 +1,7 @@
 // Lines from standard input, their fields, and hexadecimal digits as bytes and words: what the listing and the replay programs share. Proved
 // safe; what is read and written is tested by running.
+ghost use mathlib.Core.Path.{_≡_};
+ghost use lib.ListN.{length};
 
 // What is left of a chunk of input: the bytes from `at` up to `have`.
 pub struct Input {
@@ -229,4 +231,37 @@ pub fn fill_words(bytes: &[u8], n: usize, table: &mut [u32]) {
 // A line that has no such fields.
 pub fn print_bad() {
     io::write_all(1, b"badline\n");
+}
+
+// The capital hexadecimal digit of a number below 16.
+fn capital(n: u8) -> u8 {
+    if n < 10 {
+        return b'0' + n;
+    }
+    if n < 16 {
+        return b'A' + (n - 10);
+    }
+    b'?'
+}
+
+// Bytes in hexadecimal.
+pub fn print_bytes(bytes: &[u8]) {
+    let mut i: usize = 0;
+    while i < bytes.len() {
+        let b = bytes[i];
+        let pair = [capital(b / 16), capital(b % 16)];
+        io::write_all(1, &pair);
+        i += 1;
+    }
+}
+
+// The byte b at each place from `from` up to `to`.
+pub fn fill(out: &mut [u8], from: usize, to: usize, b: u8)
+    ensures { λ _. ⌜ length (now (out .exit)) ≡ length (now (out .entry)) ⌝ }
+{
+    let mut i = from;
+    while i < to && i < out.len() {
+        out[i] = b;
+        i += 1;
+    }
 }

@@ -40,39 +40,6 @@ fn print_answer(answer: Answer) {
     io::write_all(1, b" ");
 }
 
-// The capital hexadecimal digit of a number below 16.
-fn digit(n: u8) -> u8 {
-    if n < 10 {
-        return b'0' + n;
-    }
-    if n < 16 {
-        return b'A' + (n - 10);
-    }
-    b'?'
-}
-
-// Bytes in hexadecimal.
-fn print_bytes(bytes: &[u8]) {
-    let mut i: usize = 0;
-    while i < bytes.len() {
-        let b = bytes[i];
-        let pair = [digit(b / 16), digit(b % 16)];
-        io::write_all(1, &pair);
-        i += 1;
-    }
-}
-
-// The byte b at each place from `from` up to `to`.
-fn fill(out: &mut [u8], from: usize, to: usize, b: u8)
-    ensures { λ _. ⌜ length (now (out .exit)) ≡ length (now (out .entry)) ⌝ }
-{
-    let mut i = from;
-    while i < to && i < out.len() {
-        out[i] = b;
-        i += 1;
-    }
-}
-
 // Whether a word of the table is not the one that the bytes make.
 fn changed(bytes: &[u8], table: &[u32]) -> bool {
     let mut i: usize = 0;
@@ -89,7 +56,7 @@ fn changed(bytes: &[u8], table: &[u32]) -> bool {
 fn print_answers(doc: &[u8], bytes: &[u8], table: &mut [u32], out: &mut [u8]) {
     print_verdict(table::is_table(doc.len(), table));
     print_answer(writer::write(doc, table, out));
-    print_bytes(out);
+    lines::print_bytes(out);
     if changed(bytes, table) {
         io::write_all(1, b" changed");
     }
@@ -128,7 +95,7 @@ fn print_last(
 ) {
     let d = lines::take_field(line, len, from, field);
     let room = lines::decimal(field, d);
-    fill(out, 0, room, 0xAA);
+    lines::fill(out, 0, room, 0xAA);
     print_case(doc, size, bytes, table, n, out, room);
 }
 
@@ -175,7 +142,7 @@ fn print_second(
 ) {
     let b = lines::take_field(line, len, from, field);
     let end = lines::sum(size, lines::decimal(field, b));
-    fill(doc, size, end, b'a');
+    lines::fill(doc, size, end, b'a');
     print_third(
         line,
         len,

@@ -1,12 +1,12 @@
--- `replay_tables::fill` is safe and ends: i rises to `to`.
+-- `lines::fill` is safe and ends: i rises to `to`.
 -- Assumes nothing.
 use borrow.Author.Needs.{needs}
 use native.Mathlib.Omega.{arith}
 use Prim.Native.Nat.{_+_, _*_, _-_, _≤_, _<_}
 use mathlib.Core.Path.{_≡_, refl, sym, ap, _∙_}
 use lib.ListN.{length, length-set}
-use Rattle.replay_tables.proofs.fill.Statement.{statement}
-use Rattle.replay_tables.proofs.fill.Tie as tie
+use Rattle.lines.proofs.fill.Statement.{statement}
+use Rattle.lines.proofs.fill.Tie as tie
 
 abbrev Inv-loop : tie.InvT-loop
 Inv-loop out₀ from to b i₀ out i = length out ≡ length out₀

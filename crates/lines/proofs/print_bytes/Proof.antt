@@ -1,12 +1,12 @@
--- `replay_tables::print_bytes` is safe and ends: i rises to the length.
+-- `lines::print_bytes` is safe and ends: i rises to the length.
 -- Assumes nothing.
 use borrow.Author.Needs.{needs}
 use native.Mathlib.Omega.{arith}
 use Prim.Native.Nat.{_+_, _*_, _-_, _≤_, _<_}
 use mathlib.Core.Path.{_≡_, refl, sym, ap, _∙_}
 use lib.ListN.{length, length-set}
-use Rattle.replay_tables.proofs.print_bytes.Statement.{statement}
-use Rattle.replay_tables.proofs.print_bytes.Tie as tie
+use Rattle.lines.proofs.print_bytes.Statement.{statement}
+use Rattle.lines.proofs.print_bytes.Tie as tie
 
 abbrev Inv-loop : tie.InvT-loop
 Inv-loop bytes i₀ i = i ≤ length bytes
@@ -20,11 +20,11 @@ loop-holds c = search needs
 shared-slice-read-b : tie.Need-shared-slice-read-b Inv-loop μ-loop
 shared-slice-read-b c = search needs
 
-digit-requires : tie.Need-digit-requires Inv-loop μ-loop
-digit-requires c κs = search needs
+capital-requires : tie.Need-capital-requires Inv-loop μ-loop
+capital-requires c κs = search needs
 
-digit-requires-2 : tie.Need-digit-requires-2 Inv-loop μ-loop
-digit-requires-2 c κs = search needs
+capital-requires-2 : tie.Need-capital-requires-2 Inv-loop μ-loop
+capital-requires-2 c κs = search needs
 
 slice-aggregate-write-all : tie.Need-slice-aggregate-write-all Inv-loop μ-loop
 slice-aggregate-write-all c = search needs
@@ -52,8 +52,8 @@ print-bytes-spec =
     μ-loop
     loop-holds
     shared-slice-read-b
-    digit-requires
-    digit-requires-2
+    capital-requires
+    capital-requires-2
     slice-aggregate-write-all
     write-all-requires
     add-i
