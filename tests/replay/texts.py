@@ -174,5 +174,6 @@ def main(folder):
     print(len(todo), "texts,", differ, "of them differ from the crate as 01 asks;", cases, "cases:", dict(count))
 
 
-sys.setrecursionlimit(10000)
-main(sys.argv[1])
+if __name__ == "__main__":
+    sys.setrecursionlimit(10000)
+    main(sys.argv[1])

@@ -129,4 +129,5 @@ def main(folder):
     print(len(todo), "texts,", differ, "of them differ as 01 asks;", dict(count))
 
 
-main(sys.argv[1])
+if __name__ == "__main__":
+    main(sys.argv[1])

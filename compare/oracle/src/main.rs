@@ -3,7 +3,7 @@
 //! | line | answer |
 //! |---|---|
 //! | `read HEX` | `ok CONSUMED TREE`, or `err VARIANT DETAIL PLACE` |
-//! | `rewrite HEX` | `ok HEX` (read, then write_nbt with the root's name), or as `read` |
+//! | `rewrite HEX` | `ok CONSUMED HEX` (read, then write_nbt with the root's name), or as `read` |
 //! | `snbt HEX` | `ok SIZE HEXDOC` (parse_and_size, then write_nbt without a name), or `err KIND INDEX REACH` |
 //! | `lex STOPS START HEX` | `tok KIND VALUE INDEX WIDTH NEXT`, `end NEXT`, or `err KIND INDEX REACH` |
 //!
@@ -180,8 +180,8 @@ fn answer(line: &str) -> String {
             Err(e) => e,
         },
         ("rewrite", 0 | 1) => match read(&bytes) {
-            Ok((root, name, _)) => match write(Some(&name), &root) {
-                Ok(out) => format!("ok {}", hex(&out)),
+            Ok((root, name, consumed)) => match write(Some(&name), &root) {
+                Ok(out) => format!("ok {consumed} {}", hex(&out)),
                 Err(e) => e,
             },
             Err(e) => e,

@@ -1,0 +1,293 @@
+#!/usr/bin/env python3
+"""Compares the proved library with quartz_nbt: documents, tokens and texts. Run by compare/run; prints counts and seeds, and exits 1 on any
+difference that docs/DIFFERENCES.md does not list.
+
+Where the two agree nothing more is asked. Where they differ, the reading of document 01 in tests/replay must say what the library says, and
+the same with the crate's ways switched on must say what the crate says: so every difference is one of those ways, and is counted under
+its entry in docs/DIFFERENCES.md.
+"""
+import argparse
+import collections
+import itertools
+import multiprocessing
+import os
+import random
+import subprocess
+import sys
+
+ROOT = os.path.dirname(os.path.dirname(os.path.abspath(__file__)))
+sys.path.insert(0, os.path.join(ROOT, "tests", "replay"))
+import crate  # noqa: E402
+import listing  # noqa: E402
+import snbt  # noqa: E402
+from library import Library  # noqa: E402
+from listing import Refused  # noqa: E402
+
+STOPS = list(snbt.STOPS)
+DOCUMENT = {"StdIo": 1, "TagTypeMismatch": 2, "InvalidTagId": 3, "InvalidCesu8String": 4}
+TEXT = {
+    "UnmatchedQuote": 16, "UnknownEscapeSequence": 17, "InvalidNumber": 18, "UnexpectedToken": 19, "UnexpectedEOS": 20, "TrailingComma": 21,
+    "UnmatchedBrace": 22, "NonHomogenousList": 11,
+}
+
+
+# ---- documents
+
+class CrateReader(listing.Reader):
+    """The crate's way with documents: no limits, repeated names pass, a negative count panics, and room for a whole list is asked for before
+    its elements are read."""
+
+    largest = 0
+
+    def count(self, at):
+        n = int.from_bytes(self.field(at, 4), "big", signed=True)
+        self.largest = max(n, self.largest)
+        if n < 0:
+            raise Refused("panic", 0)
+        return n
+
+    def payload(self, kind, name, at, deep):
+        if kind != 10:
+            return super().payload(kind, name, at, 0)
+        self.records.append([10, name[1], 0, 0])
+        while True:
+            id = self.field(at, 1)[0]
+            if id == 0:
+                return at + 1
+            name = self.string(at + 1)
+            if id > 12:
+                raise Refused(3, at)
+            at = self.payload(id, name, sum(name), 0)
+
+
+def read_by(reader):
+    """The bytes consumed, or the refusal."""
+    try:
+        return reader.root()
+    except Refused as e:
+        return f"refused {e.args[0]} {e.args[1]}"
+
+
+def document_line(doc):
+    return f"rewrite {doc.hex() or '-'}"
+
+
+def crate_document(line):
+    word, *rest = line.split(" ")
+    if word == "err":
+        return f"refused {DOCUMENT[rest[0]]} {rest[2]}"
+    return line
+
+
+ROOM, HUGE = 4096, 1 << 24
+
+
+def document_entry(doc, ours, theirs):
+    """The entry of docs/DIFFERENCES.md that explains a difference, or None."""
+    listing.ROOM = ROOM
+    if read_by(listing.Reader(doc)) != ours:
+        return None
+    listing.ROOM = 1 << 60
+    reader = CrateReader(doc)
+    way, (said, *rest) = read_by(reader), theirs.split(" ")
+    if said == "abort":
+        return "huge count" if reader.largest >= HUGE else None
+    if said == "ok" and rest[0] != str(way) or said == "panic" and way != "refused panic 0" or said == "refused" and theirs != way:
+        return None
+    return {"5": "negative count", "6": "repeated name", "7": "depth", "8": "records", "9": "size"}.get(ours.split(" ")[1])
+
+
+def documents(r, quick):
+    alphabet = bytes.fromhex("000102030708090A0B0C0DFF61")
+    for n in range(4 if quick else 6):
+        for body in itertools.product(alphabet, repeat=n):
+            yield b"\x0A\0\0" + bytes(body)
+    for n in range(4):
+        for body in itertools.product(bytes.fromhex("00010A0BFF61C080"), repeat=n):
+            yield bytes(body)
+    for _ in range(4000 if quick else 330000):
+        d = bytes([10]) + listing.string(r.choice([b"", b"root", "Höhe".encode()])) + listing.random_entries(r, r.randrange(4))
+        yield d
+        for _ in range(4):
+            yield listing.damaged(r, d)
+
+
+# ---- tokens
+
+def token_line(case):
+    stops, start, text = case
+    return f"lex {STOPS[stops]} {start} {text.hex() or '-'}"
+
+
+def modified(hexed):
+    data = bytes.fromhex("" if hexed == "-" else hexed)
+    return (data if data.isascii() and 0 not in data else snbt.modified(data.decode())).hex().upper()
+
+
+def crate_token(line):
+    word, *rest = line.split(" ")
+    if word == "err":
+        return f"refused {TEXT[rest[0]]} {rest[1]}"
+    if word != "tok":
+        return line
+    kind, value, (index, width, next) = rest[0], rest[1], rest[-3:]
+    if kind == "punct":
+        return f"{value} {index} {width} {next}"
+    if kind in ("string", "quoted"):
+        value = modified(value)
+    elif kind not in ("float", "double"):
+        value = f"{int(value) % 2**64:016X}"
+    return f"{kind} {index} {width} {next} {value}"
+
+
+def same_but_place(ours, theirs):
+    """The crate keeps no place for 18 and 20."""
+    return theirs.endswith(" -") and ours.split(" ")[:2] == theirs.split(" ")[:2]
+
+
+def token_entry(case, ours, theirs):
+    stops, start, text = case
+    try:
+        snbt.token(snbt.Text(text), start, STOPS[stops])
+        return None
+    except Refused as e:
+        if f"refused {e.args[0]} {e.args[1]}" != ours:
+            return None
+    if ours == "refused 15 0":
+        return "text not UTF-8, start" if theirs in ("bad utf8", "bad start") else None
+    if ours.startswith("refused 23 "):
+        return "decimals" if theirs.startswith(("double", "float")) else None
+    return "escape before a long character" if ours.startswith("refused 17 ") and theirs.startswith("panic") else None
+
+
+def tokens(r, quick):
+    for alphabet, longest, sets in (("a1\\'\"{}[],:; é", 3 if quick else 5, range(5)), ("\"'\\u0aéD€", 4 if quick else 6, (0, 1)), ("-.019eEfdbsL+", 3 if quick else 5, (0,))):
+        for n in range(longest + 1):
+            for chars in itertools.product(alphabet, repeat=n):
+                text = "".join(chars).encode()
+                for stops in sets:
+                    yield stops, 0, text
+    pieces = list("abz019-._+\\'\"{}[],:; \t\n\0é€😀") + ["\\u0041", "\\n", "\\ud800", "1.5", "e10", "99999999999", "0.000001"]
+    for _ in range(20000 if quick else 700000):
+        text = "".join(r.choice(pieces) for _ in range(r.randrange(1, 20))).encode()
+        yield r.randrange(5), r.choice([0, 0, r.randrange(len(text) + 2)]), text
+
+
+# ---- texts
+
+def text_line(text):
+    return f"snbt {text.hex() or '-'}"
+
+
+def crate_text(line):
+    word, *rest = line.split(" ")
+    return f"refused {TEXT[rest[0]]} {rest[1]}" if word == "err" else line
+
+
+def answer(parse, *args):
+    try:
+        place, out = parse(*args)
+        return f"ok {place} {out.hex().upper()}"
+    except Refused as e:
+        return f"refused {e.args[0]} {e.args[1]}"
+
+
+def text_entry(text, ours, theirs):
+    if answer(snbt.parse, text, 1 << 18) != ours:
+        return None
+    if ours == "refused 15 0":
+        return "text not UTF-8, start" if theirs == "bad utf8" else None
+    way = answer(crate.parse, text)
+    if theirs.startswith("panic") and way.startswith("refused 17 "):
+        return "escape before a long character"
+    if way != theirs and not same_but_place(way, theirs):
+        return None
+    _, number, place = ours.split(" ")
+    at = text[int(place):int(place) + 1]
+    if number == "19":
+        return {b",": "commas in a compound", b";": "array letters"}.get(at, "stop sets" if theirs.startswith("refused 18") or at not in b"-0123456789" else "range of a value")
+    if number == "22":
+        return "end of text"
+    return {"6": "repeated key", "7": "depth", "11": "array elements", "12": "long string", "18": "stop sets", "23": "decimals", "21": "commas in a compound"}.get(number, "refused earlier")
+
+
+def texts(r, quick):
+    import texts as made
+    pieces = ["{", "}", "[", "]", ",", ":", ";", "a", "1", "1b", "B", "'x'", "I;", "\\"]
+    for front in ("{", "{a:[", "{a:1,", "{a:"):
+        for n in range(4 if quick else 6):
+            for body in itertools.product(pieces, repeat=n):
+                yield (front + "".join(body)).encode()
+    for _ in range(3000 if quick else 300000):
+        s = made.compound(r, 3)
+        yield s.encode()
+        yield made.damaged(r, s).encode()
+        yield made.damaged(r, s).encode()
+
+
+PARTS = {
+    "documents": (documents, document_line, crate_document, lambda lib, d: lib.rewrite(d), document_entry),
+    "tokens": (tokens, token_line, crate_token, lambda lib, c: lib.token(c[2], c[1], c[0]), token_entry),
+    "texts": (texts, text_line, crate_text, lambda lib, t: lib.parse(t), text_entry),
+}
+
+
+def chunk(job):
+    """Compares some cases: how many, refusals by number, differences by entry, and what is unexplained."""
+    part, cases, options = job
+    _, line_of, theirs_of, ours_of, entry_of = PARTS[part]
+    sys.setrecursionlimit(20000)
+    lib = Library(options.lib)
+    asked = "\n".join(map(line_of, cases)) + "\n"
+    lines = subprocess.run([options.oracle], input=asked, capture_output=True, text=True, check=True).stdout.splitlines()
+    assert len(lines) == len(cases)
+    refusals, entries, wrong = collections.Counter(), collections.Counter(), []
+    for case, line in zip(cases, lines):
+        ours, theirs = ours_of(lib, case), theirs_of(line)
+        refusals["accepted" if ours[0] != "r" else int(ours.split(" ")[1])] += 1
+        if ours == theirs or same_but_place(ours, theirs):
+            continue
+        entry = entry_of(case, ours, theirs)
+        if entry is None:
+            wrong.append((part, case, ours, theirs))
+        else:
+            entries[entry] += 1
+    return part, len(cases), refusals, entries, wrong[:5]
+
+
+def jobs(options):
+    for part in options.parts:
+        cases = PARTS[part][0](random.Random(options.seed), options.quick)
+        while group := list(itertools.islice(cases, 40000)):
+            yield part, group, options
+
+
+def main():
+    ask = argparse.ArgumentParser()
+    ask.add_argument("--quick", action="store_true")
+    ask.add_argument("--seed", type=int, default=20261115)
+    ask.add_argument("--lib", required=True)
+    ask.add_argument("--oracle", required=True)
+    ask.add_argument("parts", nargs="*", default=list(PARTS))
+    options = ask.parse_args()
+    count, refusals, entries, wrong = collections.Counter(), collections.defaultdict(collections.Counter), collections.defaultdict(collections.Counter), []
+    with multiprocessing.Pool(os.cpu_count()) as pool:
+        for part, n, r, e, w in pool.imap_unordered(chunk, jobs(options)):
+            count[part] += n
+            refusals[part] += r
+            entries[part] += e
+            wrong += w
+    print(f"seed {options.seed}")
+    for part in options.parts:
+        print(f"\n{part}: {count[part]} compared, {sum(entries[part].values())} differ as listed")
+        print("  answers: " + ", ".join(f"{k} {v}" for k, v in sorted(refusals[part].items(), key=str)))
+        for entry, n in sorted(entries[part].items()):
+            print(f"  {entry}: {n}")
+    for w in wrong[:20]:
+        print("NOT LISTED", *w)
+    print(f"\n{'no difference that is not listed' if not wrong else f'differences that are not listed: {len(wrong)}+'}")
+    sys.exit(1 if wrong else 0)
+
+
+if __name__ == "__main__":
+    main()
