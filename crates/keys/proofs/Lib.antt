@@ -1,0 +1,3 @@
+pub mod Orders
+pub mod Shifts
+pub mod Keys

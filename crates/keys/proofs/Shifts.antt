@@ -1,0 +1,73 @@
+-- Laws of a place put in among others: those behind it move up by one.
+-- Assumes nothing.
+use Prim.Native.Nat.{ℕ, zero, suc, _+_, _-_, _≤_, _<_}
+use mathlib.Core.List.{List, [], _∷_, _++_, append-assoc}
+use mathlib.Core.Path.{_≡_, refl, sym, ap, _∙_}
+use native.Mathlib.Omega.{arith}
+use native.Mathlib.Numerals.{sub-one, add-one}
+use lib.ListN.{length, getD, take, drop, set, length-append, length-take, length-drop, length-set, List·getD-append, take-append-drop}
+use lib.Seq.{take-suc, drop-cons, split-at, set-at, getD-at, getD-append-add, append-snoc, getD-take, getD-drop, length-take-le}
+use Rattle.form.specs.Spans.{part}
+use Rattle.keys.specs.Keys.{putIn}
+
+module _ (k : List ℕ) (top : ℕ) (fits : top < length k) where
+  -- with what stands at top put in there, nothing has changed
+  pub put-start : k ≡ putIn k top top (getD k top 0)
+  put-start =
+      let e : top - top ≡ 0 = omega arith in
+      rw (e, add-one top) (split-at k top 0 fits)
+
+  -- a place in the place of another
+  pub put-over : (i x y : ℕ) → i ≤ top → set (putIn k top i x) i y ≡ putIn k top i y
+  put-over i x y h = set-at (take i k) x (part k i (top - i) ++ drop (top + 1) k) y i (length-take-le i k (omega arith))
+
+  -- what stands before the index is as it was
+  pub put-before : (i x j : ℕ) → i ≤ top → j < i → getD (putIn k top i x) j 0 ≡ getD k j 0
+  put-before i x j h l =
+      List·getD-append (take i k) (x ∷ (part k i (top - i) ++ drop (top + 1) k)) 0 j (simp length-take (omega arith)) ∙ getD-take i k j 0 l
+
+  -- what was put in
+  pub put-here : (i x : ℕ) → i ≤ top → getD (putIn k top i x) i 0 ≡ x
+  put-here i x h = getD-at (take i k) x (part k i (top - i) ++ drop (top + 1) k) 0 i (length-take-le i k (omega arith))
+
+  -- one place is moved up
+  pub put-next : (i : ℕ) → 0 < i → i ≤ top → putIn k top i (getD k (i - 1) 0) ≡ putIn k top (i - 1) (getD k (i - 1) 0)
+  put-next zero h l = absurd (omega arith)
+  put-next (suc i) h l =
+      let e : top - i ≡ suc (top - suc i) = omega arith in
+      let f : i < length k = omega arith in
+      rw (sub-one (suc i), e, take-suc k i 0 f, drop-cons k i 0 f, append-assoc (take i k) (getD k i 0 ∷ []) (getD k i 0 ∷ (part k (suc i) (top - suc i) ++ drop (top + 1) k))) refl
+
+  -- those from the index on stand one further up
+  pub put-behind : (i x j : ℕ) → i ≤ j → j < top → getD (putIn k top i x) (j + 1) 0 ≡ getD k j 0
+  put-behind i x j h l =
+      let e : j + 1 ≡ length (take i k) + suc (j - i) = simp length-take (omega arith) in
+      rw e (getD-append-add (take i k) (x ∷ (part k i (top - i) ++ drop (top + 1) k)) (suc (j - i)) 0
+      ∙ List·getD-append (part k i (top - i)) (drop (top + 1) k) 0 (j - i) (simp (length-take, length-drop) (omega arith))
+      ∙ getD-take (top - i) (drop i k) (j - i) 0 (omega arith)
+      ∙ getD-drop i k (j - i) 0
+      ∙ (let f : i + (j - i) ≡ j = omega arith in rw f refl))
+
+  -- there are as many as there were
+  pub put-length : (i x : ℕ) → i ≤ top → length (putIn k top i x) ≡ length k
+  put-length i x h = simp (length-append, length-take, length-drop) (omega arith)
+
+-- The places from i up to top have been moved up.
+pub record Moved (k₀ k : List ℕ) (top i : ℕ) : Type 0 where
+  pub is : k ≡ putIn k₀ top i (getD k₀ i 0)
+  pub len : length k ≡ length k₀
+
+pub moved-start : (k : List ℕ) (top : ℕ) → top < length k → Moved k k top top
+moved-start k top h = record { is = put-start k top h; len = refl }
+
+module _ (k₀ k : List ℕ) (top i : ℕ) (fits : top < length k₀) (l : i ≤ top) (m : Moved k₀ k top i) where
+  pub moved-next : 0 < i → Moved k₀ (set k i (getD k (i - 1) 0)) top (i - 1)
+  moved-next h =
+      let e : getD k (i - 1) 0 ≡ getD k₀ (i - 1) 0 = rw (m .is) (put-before k₀ top fits i (getD k₀ i 0) (i - 1) l (omega arith)) in
+      record {
+        is = rw (e, m .is) (put-over k₀ top fits i (getD k₀ i 0) (getD k₀ (i - 1) 0) l ∙ put-next k₀ top fits i h l);
+        len = simp length-set (m .len)
+      }
+
+  pub moved-end : (j x : ℕ) → j ≤ i → i ≤ j → set k j x ≡ putIn k₀ top j x
+  moved-end j x p q = let e : i ≡ j = omega arith in rw (m .is, e) (put-over k₀ top fits j (getD k₀ j 0) x (omega arith))
