@@ -1,3 +1,5 @@
 pub mod Orders
 pub mod Shifts
+pub mod Names
+pub mod Sides
 pub mod Keys

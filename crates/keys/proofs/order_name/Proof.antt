@@ -1,4 +1,9 @@
+-- `keys::order_name` meets its contract: the length that was read is that of the name.
+-- Assumes nothing.
 use borrow.Author.Needs.{needs}
+use mathlib.Core.Path.{_∙_}
+use lib.ListN.{take}
+use Rattle.keys.proofs.Names.{order-named}
 use Rattle.keys.proofs.order_name.Statement.{statement}
 use Rattle.keys.proofs.order_name.Tie as tie
 use Rattle.keys.proofs.order_name.Reads as reads
@@ -7,25 +12,23 @@ use Rattle.keys.proofs.count.Reads as count-reads
 use Rattle.keys.proofs.order_bytes.Reads as order-bytes-reads
 use Rattle.raw.proofs.u16_at.Reads as u16-at-reads
 
--- src/lib.rt:80:22
 add-order-bytes : tie.Need-add-order-bytes
 add-order-bytes c = search needs
 
--- src/lib.rt:80:39
 u16-at-requires : tie.Need-u16-at-requires
 u16-at-requires c κs = search needs
 
--- src/lib.rt:80:33
 count-requires : tie.Need-count-requires
 count-requires c κs = search needs
 
--- src/lib.rt:80:5
 order-bytes-requires : tie.Need-order-bytes-requires
 order-bytes-requires c κs = search needs
 
--- src/lib.rt:76:1
 returns : tie.Need-returns
-returns c = ?
+returns c =
+    let a = c .before .before .before .before .before .args in
+    order-named (a .out .now) (a .place) (c .before .count .result) (take (a .size) (a .key .now)) (c .order-bytes .result)
+    (c .before .count .ensures ∙ c .before .before .u16-at .ensures) (c .order-bytes .ensures)
 
 pub order-name-spec : {M : Type 1} → statement M
 order-name-spec =

@@ -1,3 +1,12 @@
+-- `keys::spot_of` meets its contract: the names before `low` are below the key, and the key is below those from `high` on.
+-- Assumes nothing.
+use borrow.Author.Needs.{needs}
+use native.Mathlib.Omega.{arith}
+use Prim.Native.Nat.{ℕ, _+_, _-_, _/_, _≤_, _<_}
+use mathlib.Core.Path.{_≡_, sym, ap, _∙_}
+use lib.ListN.{take, length}
+use Rattle.keys.specs.Keys.{Sides}
+use Rattle.keys.proofs.Sides.{sides-start, sides-up, sides-down, sides-taken, sides-free}
 use Rattle.keys.proofs.spot_of.Statement.{statement}
 use Rattle.keys.proofs.spot_of.Tie as tie
 use Rattle.keys.proofs.spot_of.Reads as reads
@@ -6,78 +15,76 @@ use Rattle.keys.proofs.order_name.Reads as order-name-reads
 use Rattle.keys.proofs.wide.Reads as wide-reads
 
 abbrev Inv-loop : tie.InvT-loop
-Inv-loop out keys base top key size low₀ high₀ low high = ?
+Inv-loop out keys base top key size low₀ high₀ low high = Sides out keys base top (take size key) low high
 
 abbrev μ-loop : tie.MeasureT-loop
-μ-loop out keys base top key size low₀ high₀ low high = ?
+μ-loop out keys base top key size low₀ high₀ low high = high - low
 
--- src/lib.rt:90:5
 loop-holds : tie.Need-loop-holds Inv-loop μ-loop
-loop-holds c = ?
+loop-holds c = sides-start (c .before .before .before .pre .0) _
 
--- src/lib.rt:91:26
 sub-mid : tie.Need-sub-mid Inv-loop μ-loop
-sub-mid c = ?
+sub-mid c = omega arith
 
--- src/lib.rt:91:19
 add-mid : tie.Need-add-mid Inv-loop μ-loop
-add-mid c = ?
+add-mid c = omega arith
 
--- src/lib.rt:92:36
 mul-wide : tie.Need-mul-wide Inv-loop μ-loop
-mul-wide c = ?
+mul-wide c = search needs
 
--- src/lib.rt:92:36
 shared-slice-read-wide : tie.Need-shared-slice-read-wide Inv-loop μ-loop
-shared-slice-read-wide c = ?
+shared-slice-read-wide c = omega arith
 
--- src/lib.rt:92:31
 wide-requires : tie.Need-wide-requires Inv-loop μ-loop
-wide-requires c κs = ?
+wide-requires c κs = search needs
 
--- src/lib.rt:92:15
 order-name-requires : tie.Need-order-name-requires Inv-loop μ-loop
-order-name-requires c κs = ?
+order-name-requires c κs =
+    let l = c .before .before .before in
+    let s = l .before .before .before .before in
+    (rw (c .wide .ensures) (s .pre .0 .ends (l .loop .low + (l .loop .high - l .loop .low) / 2) (omega arith) (omega arith)), s .pre .1)
 
--- src/lib.rt:94:23
 enum-told : tie.Need-enum-told Inv-loop μ-loop
-enum-told c = ?
+enum-told c = search needs
 
--- src/lib.rt:94:23
 add-low : tie.Need-add-low Inv-loop μ-loop
-add-low c = ?
+add-low c = omega arith
 
--- src/lib.rt:90:5
 loop-less : tie.Need-loop-less Inv-loop μ-loop
-loop-less c = ?
+loop-less c = omega arith
 
--- src/lib.rt:90:5
 loop-again : tie.Need-loop-again Inv-loop μ-loop
-loop-again c = ?
+loop-again c =
+    let n = c .before .before in
+    let l = n .before .before .before .before in
+    let s = l .before .before .before .before in
+    sides-up (s .pre .0) _ (l .loop .inv) (omega arith) (omega arith) (rw (c .enum-told .given .1, c .before .before .before .wide .ensures) at (n .order-name .ensures))
 
--- src/lib.rt:97:17
 enum-told-2 : tie.Need-enum-told-2 Inv-loop μ-loop
-enum-told-2 c = ?
+enum-told-2 c = search needs
 
--- src/lib.rt:90:5
 loop-less-2 : tie.Need-loop-less-2 Inv-loop μ-loop
-loop-less-2 c = ?
+loop-less-2 c = omega arith
 
--- src/lib.rt:90:5
 loop-again-2 : tie.Need-loop-again-2 Inv-loop μ-loop
-loop-again-2 c = ?
+loop-again-2 c =
+    let n = c .before .before in
+    let l = n .before .before .before .before in
+    let s = l .before .before .before .before in
+    sides-down (s .pre .0) _ (l .loop .inv) (omega arith) (omega arith) (rw (c .enum-told2 .given .1, c .before .before .before .wide .ensures) at (n .order-name .ensures))
 
--- src/lib.rt:100:17
 enum-told-3 : tie.Need-enum-told-3 Inv-loop μ-loop
-enum-told-3 c = ?
+enum-told-3 c = search needs
 
--- src/lib.rt:100:17
 returns : tie.Need-returns Inv-loop μ-loop
-returns c = ?
+returns c =
+    let n = c .before .before in
+    let l = n .before .before .before .before in
+    let s = l .before .before .before .before in
+    sides-taken (s .pre .0) _ {m = l .loop .low + (l .loop .high - l .loop .low) / 2} (l .loop .inv) (omega arith) (omega arith) (rw (c .enum-told3 .given .1, c .before .before .before .wide .ensures) at (n .order-name .ensures))
 
--- src/lib.rt:84:1
 returns-2 : tie.Need-returns-2 Inv-loop μ-loop
-returns-2 c = ?
+returns-2 c = sides-free (c .before .before .before .before .before .pre .0) _ (c .before .loop .inv) (c .loop-test .left)
 
 pub spot-of-spec : {M : Type 1} → statement M
 spot-of-spec =
