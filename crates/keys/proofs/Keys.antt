@@ -9,13 +9,14 @@ use native.Mathlib.Omega.{arith}
 use lib.ListN.{length, getD, take, drop, length-take, length-append}
 use lib.Seq.{take-take, take-add, drop-drop, take-at, drop-at, getD-take}
 use Rattle.form.specs.Numbers.{bytesOf, bigEndian}
-use Rattle.form.specs.Spans.{part, same}
+use Rattle.form.specs.Spans.{part, over, same}
 use Rattle.form.proofs.Digits.{digits-length, value-digits-below}
 use Rattle.form.proofs.Picks.{lt-or}
+use Rattle.form.proofs.Places.{part-over}
 use Rattle.text_form.specs.Text.{known}
 use Rattle.keys.proofs.Shifts.{put-before, put-here, put-behind, put-length}
-use Rattle.keys.proofs.Names.{names-alike, names-parts, names-first, known-parts, known-first}
-use Rattle.keys.specs.Keys.{sizeAt, nameAt, namesIn, below, Kept, FreeAt, putIn, Named}
+use Rattle.keys.proofs.Names.{names-alike, names-parts, names-first, names-none, known-parts, known-first}
+use Rattle.keys.specs.Keys.{sizeAt, nameAt, namesIn, below, Kept, Knows, FreeAt, putIn, Named}
 
 -- ---- what stands in front
 
@@ -49,7 +50,7 @@ kept-none o k base at h l =
       low = omega arith;
       high = l;
       ends = λ i p q. absurd (omega arith);
-      rise = λ i j p q r. absurd (omega arith)
+      rise = λ i j p q r. absurd (omega arith);
     }
 
 -- ---- the same keys, where more was written behind them
@@ -68,7 +69,7 @@ module _ {o k : List ℕ} {base top at : ℕ} (kept : Kept o k base top at) (o�
         low = kept .low;
         high = omega (arith, kept .high, simp length-take at (ap length places));
         ends = λ i p q. ends i p q;
-        rise = λ i j p q r. rw (← same-name i p (omega arith), ← same-name j (omega arith) r) (kept .rise i j p q r)
+        rise = λ i j p q r. rw (← same-name i p (omega arith), ← same-name j (omega arith) r) (kept .rise i j p q r);
       }
     where
       ends : (i : ℕ) → base ≤ i → i < top → getD k′ i 0 + (2 + sizeAt o′ (getD k′ i 0)) ≤ at′
@@ -90,14 +91,20 @@ pub named-put : (o : List ℕ) (p at : ℕ) (s : List ℕ) → length s < 65536 
 named-put o p at s h e l =
     let long : length (bytesOf 2 (length s)) ≡ 2 = digits-length 2 (length s) in
     let first : part o p 2 ≡ bytesOf 2 (length s) =
-        sym (take-take 2 (2 + length s) (drop p o) (omega arith)) ∙ ap (take 2) e ∙ take-at (bytesOf 2 (length s)) s 2 long in
+    sym (take-take 2 (2 + length s) (drop p o) (omega arith)) ∙ ap (take 2) e ∙ take-at (bytesOf 2 (length s)) s 2 long in
     let parts : part o p (2 + length s) ≡ part o p 2 ++ part o (p + 2) (length s) =
-        take-add 2 (length s) (drop p o) ∙ ap (λ r. part o p 2 ++ take (length s) r) (drop-drop 2 p o) in
+    take-add 2 (length s) (drop p o) ∙ ap (λ r. part o p 2 ++ take (length s) r) (drop-drop 2 p o) in
     record {
       size = ap bigEndian first ∙ value-digits-below 2 (length s) h;
       is = sym (drop-at (part o p 2) (part o (p + 2) (length s)) 2 (ap length first ∙ long)) ∙ ap (drop 2) (sym parts ∙ e) ∙ drop-at (bytesOf 2 (length s)) s 2 long;
-      ends = l
+      ends = l;
     }
+
+-- the same, where it was written over what stood there
+pub named-over : (o : List ℕ) (p : ℕ) (s : List ℕ) → length s < 65536 → p ≤ length o → Named (over o p (bytesOf 2 (length s) ++ s)) p (p + (2 + length s)) s
+named-over o p s h l =
+    let long : length (bytesOf 2 (length s) ++ s) ≡ 2 + length s = length-append (bytesOf 2 (length s)) s ∙ ap (λ n. n + length s) (digits-length 2 (length s)) in
+    named-put (over o p (bytesOf 2 (length s) ++ s)) p (p + (2 + length s)) s h (rw long at (part-over o p (bytesOf 2 (length s) ++ s) l)) (omega arith)
 
 -- ---- one key more
 
@@ -187,7 +194,7 @@ module _ {o k o′ k′ s : List ℕ} {base top at at′ i p : ℕ} (kept : Kept
         low = omega (arith, kept .low);
         high = rw (ap length put, put-length k top room i p (free .sides .high)) (omega arith);
         ends = place-ends;
-        rise = place-rise
+        rise = place-rise;
       }
 
   pub known-more : (x : List ℕ) → known x (namesIn o′ k′ base (top + 1 - base)) ≡ (same s x || known x (namesIn o k base (top - base)))
@@ -198,10 +205,10 @@ module _ {o k o′ k′ s : List ℕ} {base top at at′ i p : ℕ} (kept : Kept
       let f : top - base ≡ (i - base) + (top - i) = omega arith in
       let g : base + (i - base) ≡ i = omega arith in
       let before : namesIn o′ k′ base (i - base) ≡ namesIn o k base (i - base) =
-          names-alike o′ k′ base o k base (i - base) (λ j h. name-before (base + j) (omega arith) (omega arith)) in
+      names-alike o′ k′ base o k base (i - base) (λ j h. name-before (base + j) (omega arith) (omega arith)) in
       let behind : namesIn o′ k′ (i + 1) (top - i) ≡ namesIn o k i (top - i) =
-          names-alike o′ k′ (i + 1) o k i (top - i)
-          (λ j h. let q : i + 1 + j ≡ i + j + 1 = omega arith in rw q (name-behind (i + j) (omega arith) (omega arith))) in
+      names-alike o′ k′ (i + 1) o k i (top - i)
+      (λ j h. let q : i + 1 + j ≡ i + j + 1 = omega arith in rw q (name-behind (i + j) (omega arith) (omega arith))) in
       rw (
         e,
         f,
@@ -217,3 +224,31 @@ module _ {o k o′ k′ s : List ℕ} {base top at at′ i p : ℕ} (kept : Kept
         known-first x s (namesIn o k i (top - i)),
       )
       (or-moved (known x (namesIn o k base (i - base))) (known x (namesIn o k i (top - i))) (same s x))
+
+-- ---- the names of the entries so far, as the definition has them
+
+pub knows-none : (o k : List ℕ) (base at : ℕ) → at ≤ length o → base ≤ length k → Knows o k base base at []
+knows-none o k base at h l = record { kept = kept-none o k base at h l; alike = λ x. rw (names-none o k base) refl }
+
+module _ {o k : List ℕ} {base top at : ℕ} {names : List (List ℕ)} (knows : Knows o k base top at names) where
+  -- a key that is taken is known to the definition, and one that is not taken is not
+  pub knows-taken : (s : List ℕ) → known s (namesIn o k base (top - base)) ≡ true → known s names ≡ true
+  knows-taken s e = sym (knows .alike s) ∙ e
+
+  pub knows-free : {s : List ℕ} {i : ℕ} → FreeAt o k base top s i → known s names ≡ false
+  knows-free {s} free = sym (knows .alike s) ∙ free .new
+
+  pub knows-same : (o′ k′ : List ℕ) {at′ : ℕ} → take at o ≡ take at o′ → take top k ≡ take top k′ → at ≤ at′ → at′ ≤ length o′ → Knows o′ k′ base top at′ names
+  knows-same o′ k′ front places h l =
+      record {
+        kept = kept-same (knows .kept) o′ k′ front places h l;
+        alike = λ x. rw (← names-same (knows .kept) o′ k′ front places) (knows .alike x);
+      }
+
+  pub knows-more : {o′ k′ s : List ℕ} {at′ i p : ℕ} → FreeAt o k base top s i → top < length k → k′ ≡ putIn k top i p → take at o ≡ take at o′ → Named o′ p at′ s
+      → at ≤ p → at′ ≤ length o′ → Knows o′ k′ base (top + 1) at′ (s ∷ names)
+  knows-more {s = s} free room put front name behind within =
+      record {
+        kept = kept-more (knows .kept) free room put front name behind within;
+        alike = λ x. known-more (knows .kept) free room put front name behind within x ∙ ap (λ t. same s x || t) (knows .alike x) ∙ sym (known-first x s names);
+      }

@@ -29,15 +29,15 @@ unfolding namesIn
 names-alike o k a o′ k′ b zero h = refl
 names-alike o k a o′ k′ b (suc n) h =
     let first : nameAt o (getD k a 0) ≡ nameAt o′ (getD k′ b 0) =
-        let e : a + 0 ≡ a = omega arith in
-        let f : b + 0 ≡ b = omega arith in
-        rw (e, f) at (h 0 (omega arith)) in
+    let e : a + 0 ≡ a = omega arith in
+    let f : b + 0 ≡ b = omega arith in
+    rw (e, f) at (h 0 (omega arith)) in
     let rest : namesIn o k (suc a) n ≡ namesIn o′ k′ (suc b) n =
-        names-alike o k (suc a) o′ k′ (suc b) n
-        (λ i l.
-        let e : a + suc i ≡ suc a + i = omega arith in
-        let f : b + suc i ≡ suc b + i = omega arith in
-        rw (e, f) at (h (suc i) (omega arith))) in
+    names-alike o k (suc a) o′ k′ (suc b) n
+    (λ i l.
+    let e : a + suc i ≡ suc a + i = omega arith in
+    let f : b + suc i ≡ suc b + i = omega arith in
+    rw (e, f) at (h (suc i) (omega arith))) in
     rw (first, rest) refl
 
 -- in two parts

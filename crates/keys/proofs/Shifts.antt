@@ -6,7 +6,7 @@ use mathlib.Core.Path.{_≡_, refl, sym, ap, _∙_}
 use native.Mathlib.Omega.{arith}
 use native.Mathlib.Numerals.{sub-one, add-one}
 use lib.ListN.{length, getD, take, drop, set, length-append, length-take, length-drop, length-set, List·getD-append, take-append-drop}
-use lib.Seq.{take-suc, drop-cons, split-at, set-at, getD-at, getD-append-add, append-snoc, getD-take, getD-drop, length-take-le}
+use lib.Seq.{take-suc, take-take, take-append-le, drop-cons, split-at, set-at, getD-at, getD-append-add, append-snoc, getD-take, getD-drop, length-take-le}
 use Rattle.form.specs.Spans.{part}
 use Rattle.keys.specs.Keys.{putIn}
 
@@ -48,6 +48,11 @@ module _ (k : List ℕ) (top : ℕ) (fits : top < length k) where
       ∙ getD-drop i k (j - i) 0
       ∙ (let f : i + (j - i) ≡ j = omega arith in rw f refl))
 
+  -- the places of the compounds around are as they were
+  pub put-front : (i x base : ℕ) → i ≤ top → base ≤ i → take base (putIn k top i x) ≡ take base k
+  put-front i x base h l =
+      take-append-le base (take i k) (x ∷ (part k i (top - i) ++ drop (top + 1) k)) (simp length-take (omega arith)) ∙ take-take base i k l
+
   -- there are as many as there were
   pub put-length : (i x : ℕ) → i ≤ top → length (putIn k top i x) ≡ length k
   put-length i x h = simp (length-append, length-take, length-drop) (omega arith)
@@ -66,7 +71,7 @@ module _ (k₀ k : List ℕ) (top i : ℕ) (fits : top < length k₀) (l : i ≤
       let e : getD k (i - 1) 0 ≡ getD k₀ (i - 1) 0 = rw (m .is) (put-before k₀ top fits i (getD k₀ i 0) (i - 1) l (omega arith)) in
       record {
         is = rw (e, m .is) (put-over k₀ top fits i (getD k₀ i 0) (getD k₀ (i - 1) 0) l ∙ put-next k₀ top fits i h l);
-        len = simp length-set (m .len)
+        len = simp length-set (m .len);
       }
 
   pub moved-end : (j x : ℕ) → j ≤ i → i ≤ j → set k j x ≡ putIn k₀ top j x

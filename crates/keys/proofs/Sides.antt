@@ -22,7 +22,7 @@ module _ {o k : List ℕ} {base top at : ℕ} (kept : Kept o k base top at) (s :
         order = kept .low;
         high = omega arith;
         before = λ j h l. absurd (omega arith);
-        behind = λ j h l. absurd (omega arith)
+        behind = λ j h l. absurd (omega arith);
       }
 
   module _ {a b m : ℕ} (sides : Sides o k base top s a b) (from : a ≤ m) (to : m < b) where
@@ -34,7 +34,7 @@ module _ {o k : List ℕ} {base top at : ℕ} (kept : Kept o k base top at) (s :
           order = omega arith;
           high = sides .high;
           before = λ j h l. go j h (lt-or j m) l;
-          behind = sides .behind
+          behind = sides .behind;
         }
       where
         go : (j : ℕ) → base ≤ j → (j < m) ⊎ (m ≤ j) → j < m + 1 → below (nameAt o (getD k j 0)) s ≡ true
@@ -49,7 +49,7 @@ module _ {o k : List ℕ} {base top at : ℕ} (kept : Kept o k base top at) (s :
           order = from;
           high = omega arith;
           before = sides .before;
-          behind = λ j h l. go j h (lt-or m j) l
+          behind = λ j h l. go j h (lt-or m j) l;
         }
       where
         go : (j : ℕ) → m ≤ j → (m < j) ⊎ (j ≤ m) → j < top → below s (nameAt o (getD k j 0)) ≡ true
@@ -72,8 +72,8 @@ module _ {o k : List ℕ} {base top at : ℕ} (kept : Kept o k base top at) (s :
           order = omega arith;
           high = omega arith;
           before = sides .before;
-          behind = λ j l m. sides .behind j (omega arith) m
-        }
+          behind = λ j l m. sides .behind j (omega arith) m;
+        };
       }
     where
       go : (j : ℕ) → base ≤ j → j < top → (j < a) ⊎ (a ≤ j) → same (nameAt o (getD k j 0)) s ≡ false

@@ -46,6 +46,11 @@ pub record Kept (o k : List ℕ) (base top at : ℕ) : Type 0 where
   pub ends : (i : ℕ) → base ≤ i → i < top → getD k i 0 + (2 + sizeAt o (getD k i 0)) ≤ at
   pub rise : (i j : ℕ) → base ≤ i → i < j → j < top → below (nameAt o (getD k i 0)) (nameAt o (getD k j 0)) ≡ true
 
+-- The kept keys are those of some names: each name is known among the one as among the others.
+pub record Knows (o k : List ℕ) (base top at : ℕ) (names : List (List ℕ)) : Type 0 where
+  pub kept : Kept o k base top at
+  pub alike : (x : List ℕ) → known x (namesIn o k base (top - base)) ≡ known x names
+
 -- A key belongs from index a on and no further than index b: the names before a are below it, and it is below those from b on.
 pub record Sides (o k : List ℕ) (base top : ℕ) (s : List ℕ) (a b : ℕ) : Type 0 where
   pub low : base ≤ a

@@ -38,11 +38,7 @@ fn count(x: u16) -> usize
 fn lesser(n: usize, m: usize) -> usize
     ensures { λ r. ⌜ r ≡ min n m ⌝ }
 {
-    if n < m {
-        n
-    } else {
-        m
-    }
+    if n < m { n } else { m }
 }
 
 // The order of the n bytes at `at` and a key, its first `size` bytes: by the first that differs, then by the lengths.
