@@ -3,12 +3,10 @@
 use Prim.Native.Nat.{ℕ, zero, suc, _+_, _-_, _≤_, _<_}
 use mathlib.Core.List.{List, [], _∷_, _++_}
 use mathlib.Core.Bool.{Bool, true, false, _||_}
-use mathlib.Core.Path.{_≡_, refl, sym, ap, _∙_}
+use mathlib.Core.Path.{_≡_, refl}
 use native.Mathlib.Omega.{arith}
 use native.Mathlib.Numerals.{add-one}
-use lib.ListN.{length, getD, take, drop}
-use Rattle.form.proofs.Picks.{lt-or}
-use mathlib.Core.Logic.{_⊎_, inl, inr}
+use lib.ListN.{getD}
 use Rattle.form.specs.Spans.{part, same}
 use Rattle.text_form.specs.Text.{known}
 use Rattle.keys.proofs.Orders.{same-self}

@@ -2,11 +2,11 @@
 -- Assumes nothing.
 use Prim.Native.Nat.{ℕ, zero, suc, _+_, _-_, _≤_, _<_}
 use mathlib.Core.List.{List, [], _∷_, _++_, append-assoc}
-use mathlib.Core.Path.{_≡_, refl, sym, ap, _∙_}
+use mathlib.Core.Path.{_≡_, refl, _∙_}
 use native.Mathlib.Omega.{arith}
 use native.Mathlib.Numerals.{sub-one, add-one}
-use lib.ListN.{length, getD, take, drop, set, length-append, length-take, length-drop, length-set, List·getD-append, take-append-drop}
-use lib.Seq.{take-suc, take-take, take-append-le, drop-cons, split-at, set-at, getD-at, getD-append-add, append-snoc, getD-take, getD-drop, length-take-le}
+use lib.ListN.{length, getD, take, drop, set, length-append, length-take, length-drop, length-set, List·getD-append}
+use lib.Seq.{take-suc, take-take, take-append-le, drop-cons, split-at, set-at, getD-at, getD-append-add, getD-take, getD-drop, length-take-le}
 use Rattle.form.specs.Spans.{part}
 use Rattle.keys.specs.Keys.{putIn}
 

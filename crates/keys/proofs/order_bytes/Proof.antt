@@ -2,8 +2,7 @@
 -- Assumes nothing.
 use borrow.Author.Needs.{needs}
 use native.Mathlib.Omega.{arith}
-use Prim.Native.Nat.{ℕ, _+_, _-_, _≤_, _<_}
-use mathlib.Core.Path.{_≡_}
+use Prim.Native.Nat.{_-_, _≤_}
 use Rattle.keys.proofs.Orders.{LeftOver, left-start, left-next, left-less, left-more, left-short, left-long, left-same}
 use Rattle.keys.proofs.order_bytes.Statement.{statement}
 use Rattle.keys.proofs.order_bytes.Tie as tie

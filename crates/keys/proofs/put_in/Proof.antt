@@ -2,8 +2,7 @@
 -- Assumes nothing.
 use borrow.Author.Needs.{needs}
 use native.Mathlib.Omega.{arith}
-use Prim.Native.Nat.{ℕ, _+_, _-_, _≤_, _<_}
-use mathlib.Core.Path.{_≡_, _∙_}
+use Prim.Native.Nat.{_≤_}
 use lib.ListN.{length-set}
 use Rattle.keys.proofs.Shifts.{Moved, moved-start, moved-next, moved-end}
 use Rattle.keys.proofs.put_in.Statement.{statement}

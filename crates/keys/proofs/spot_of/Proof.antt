@@ -2,9 +2,8 @@
 -- Assumes nothing.
 use borrow.Author.Needs.{needs}
 use native.Mathlib.Omega.{arith}
-use Prim.Native.Nat.{ℕ, _+_, _-_, _/_, _≤_, _<_}
-use mathlib.Core.Path.{_≡_, sym, ap, _∙_}
-use lib.ListN.{take, length}
+use Prim.Native.Nat.{_+_, _-_, _/_}
+use lib.ListN.{take}
 use Rattle.keys.specs.Keys.{Sides}
 use Rattle.keys.proofs.Sides.{sides-start, sides-up, sides-down, sides-taken, sides-free}
 use Rattle.keys.proofs.spot_of.Statement.{statement}
