@@ -1,0 +1,119 @@
+-- What a number of the text carries: each double is a rounding or a signed zero, so it has whatever property these have.
+-- Assumes nothing.
+use Prim.Native.Nat.{ℕ, suc, _*_, _^_, _<_}
+use mathlib.Core.Bool.{Bool, true, false, not, _&&_}
+use mathlib.Core.List.{List, _++_}
+use mathlib.Core.Path.{_≡_}
+use native.Mathlib.Omega.{arith}
+use lib.Dec.{T, leb, eqb}
+use lib.IntN.{ℤ, pos, negsuc, natAbs, _-ℤ_}
+use lib.ListN.{length}
+use lib.Ieee.{Float, nan, inf, fin, Format, binary32, binary64, up, down, fits, toBits, ofInt, round}
+use lib.Ieee.Fits.{round-fits, nan-fits, inf-fits}
+use lib.Ieee.Bits.{toBits-lt}
+use Rattle.form.specs.Answer.{Out, got, no, pick, _>>=_}
+use Rattle.form.specs.Numbers.{valuesIn}
+use Rattle.text_form.specs.Values.{nearestTo, scaled, toSingle}
+use Rattle.text_form.specs.Numbers.{Number, byte, short, int, long, float, double, isDigit, isPoint, isLetter, empty, has, before, behind, digits, worth, exponentIn, lastOf, butLast, stem, negative, unsigned, suffixed, wholeOf, wholeNumber, valueOf, decimalOf, decimal, realNumber, decimalNumber, number}
+use Rattle.text_form.proofs.Gives.{Gives, gives-got, gives-no, gives-bind, gives-guard, gives-pick}
+
+-- The double that a number carries, if it does, has a property.
+abbrev pub Carries : (Float → Type 0) → Number → Type 0
+Carries P (byte z) = Unit {0}
+Carries P (short z) = Unit {0}
+Carries P (int z) = Unit {0}
+Carries P (long z) = Unit {0}
+Carries P (float x) = P x
+Carries P (double x) = P x
+
+-- ---- a property of roundings and of zeros
+
+module _ (P : Float → Type 0) (rounded : (s : Bool) (a c : ℕ) → P (round binary64 s a c)) (zeros : (s : Bool) → P (fin s 0 (pos 0))) where
+  whole-carries : (z : ℤ) → P (ofInt binary64 z)
+  unfolding ofInt
+  whole-carries (pos n) = rounded false n 1
+  whole-carries (negsuc n) = rounded true (suc n) 1
+
+  nearest-carries : (s : Bool) (w : ℕ) (p : ℤ) → P (nearestTo s w p)
+  nearest-carries s w (pos k) = rounded s (w * 10 ^ k) 1
+  nearest-carries s w (negsuc k) = rounded s w (10 ^ suc k)
+
+  scaled-carries : (s : Bool) (w : ℕ) (p : ℤ) (place : ℕ) → Gives P (scaled s w p place)
+  scaled-carries s w p place =
+      gives-pick (eqb w 0) (λ _. gives-got (zeros s)) (λ _. gives-pick (leb w (2 ^ 53) && leb (natAbs p) 22) (λ _. gives-got (nearest-carries s w p)) (λ _. gives-no))
+
+  value-carries : (s : Bool) (whole fraction : List ℕ) (exponent : Out ℤ) (place : ℕ) → Gives P (valueOf s whole fraction exponent place)
+  value-carries s whole fraction exponent place =
+      let l = whole ++ fraction in
+      gives-guard (not (empty l) && digits l) _ _ _
+      (λ _. gives-bind {P = λ _. Unit {0}} exponent (λ e. scaled s (worth 0 l) (e -ℤ pos (length fraction)) place) (any exponent) (λ e _. scaled-carries s (worth 0 l) (e -ℤ pos (length fraction)) place))
+    where
+      any : {A : Type 0} (o : Out A) → Gives (λ _. Unit {0}) o
+      any (got a) = gives-got tt
+      any (no n p) = gives-no
+
+  decimal-carries : (s : Bool) (l : List ℕ) (place : ℕ) → Gives P (decimalOf s l place)
+  unfolding decimalOf
+  decimal-carries s l place =
+      let r = behind isPoint l in
+      gives-guard (has isPoint l) _ _ _ (λ _. value-carries s (before isPoint l) (before (isLetter 101) r) (exponentIn r place) place)
+
+  real-carries : (single : Bool) (o : Out Float) → Gives P o → Gives (Carries P) (realNumber single o)
+  real-carries single o h = gives-bind o _ h (λ x k. gives-got (go single x k))
+    where
+      go : (b : Bool) (x : Float) → P x → Carries P (pick b (float x) (double x))
+      go true x k = k
+      go false x k = k
+
+  suffixed-carries : (b : ℕ) (z : ℤ) → Carries P (suffixed b z)
+  suffixed-carries b z = go (isLetter 98 b) (isLetter 115 b) (isLetter 108 b) (isLetter 102 b) (isLetter 100 b)
+    where
+      go : (v w x y t : Bool) → Carries P (pick v (byte z) (pick w (short z) (pick x (long z) (pick y (float (ofInt binary64 z)) (pick t (double (ofInt binary64 z)) (int z))))))
+      go true w x y t = tt
+      go false true x y t = tt
+      go false false true y t = tt
+      go false false false true t = whole-carries z
+      go false false false false true = whole-carries z
+      go false false false false false = tt
+
+  pub number-carries : (l : List ℕ) (place : ℕ) → Gives (Carries P) (number l place)
+  unfolding number wholeNumber decimalNumber
+  number-carries l place = gives-pick (has isPoint l)
+      (λ _. gives-pick (isLetter 102 (lastOf l)) (λ _. real true (butLast l))
+      (λ _. gives-pick (isLetter 100 (lastOf l)) (λ _. real false (butLast l))
+      (λ _. gives-pick (isDigit (lastOf l)) (λ _. real false l) (λ _. gives-no))))
+      (λ _. whole (wholeOf (negative (stem l)) (unsigned (stem l)) place))
+    where
+      real : (b : Bool) (k : List ℕ) → Gives (Carries P) (realNumber b (decimal k place))
+      real b k = real-carries b (decimal k place) (decimal-carries (negative k) (unsigned k) place)
+
+      whole : (o : Out ℤ) → Gives (Carries P) (o >>= (λ z. got (suffixed (lastOf l) z)))
+      whole (got z) = gives-got (suffixed-carries (lastOf l) z)
+      whole (no n p) = gives-no
+
+-- ---- bits
+
+-- What a format holds.
+abbrev pub Held : Format → Float → Type 0
+Held f x = T (fits f x)
+
+zero-held : (s : Bool) → Held binary64 (fin s 0 (pos 0))
+unfolding fits
+zero-held s = tt
+
+-- A double token's double is one that the format holds.
+pub number-held : (l : List ℕ) (place : ℕ) → Gives (Carries (Held binary64)) (number l place)
+number-held = number-carries (Held binary64) (round-fits binary64) zero-held
+
+-- The single nearest to any double is held too.
+single-held : (x : Float) → Held binary32 (toSingle x)
+single-held nan = nan-fits binary32
+single-held (inf s) = inf-fits binary32 s
+single-held (fin s m e) = round-fits binary32 s (m * up e) (down e)
+
+-- So their bits are those of 8 bytes and of 4.
+pub double-bits : (x : Float) → Held binary64 x → toBits binary64 x < valuesIn 8
+double-bits x h = toBits-lt binary64 x h
+
+pub single-bits : (x : Float) → toBits binary32 (toSingle x) < valuesIn 4
+single-bits x = toBits-lt binary32 (toSingle x) (single-held x)
