@@ -13,7 +13,9 @@ pub mod Judged
 pub mod Fairly
 pub mod Tabled
 pub mod Near
+pub mod Meant
 pub mod Reading
 pub mod Writing
+pub mod Texts
 pub mod Queries
 pub mod Marked

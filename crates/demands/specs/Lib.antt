@@ -1,4 +1,5 @@
 pub mod Reading
 pub mod Writing
+pub mod Texts
 pub mod Queries
 pub mod Marked

@@ -1,0 +1,471 @@
+-- What a text means keeps the rules and takes the bytes counted: by recursion on the containers left, for each part of a text.
+-- Assumes nothing.
+use Prim.Native.Nat.{ℕ, zero, suc, _+_, _-_, _^_, _≤_, _<_}
+use mathlib.Core.Bool.{Bool, true, false, not, _&&_, _||_}
+use mathlib.Core.List.{List, [], _∷_, _++_}
+use mathlib.Core.Logic.{_⊎_, inl, inr}
+use mathlib.Core.Path.{_≡_, refl, sym, ap, subst, _∙_}
+use native.Mathlib.Omega.{arith}
+use lib.Dec.{ltb, leb, eqb}
+use lib.IntN.{ℤ, pos, negsuc}
+use borrow.Author.Tests.{ltb-true, leb-true, eqb-true, eq-eqb, ne-eqb, not-true}
+use lib.ListN.{length, getD, length-append}
+use Rattle.form.specs.Answer.{Out, got, no, guard, _>>_, _>>=_, pick, textLimit, depthLimit, stringLimit, tooDeep, textEnds, unmatchedBrace, unexpectedToken}
+use Rattle.form.specs.Numbers.{FitsIn, bytesOf, bitsOf}
+use Rattle.form.specs.Spans.{same}
+use Rattle.form.specs.Tree as tree
+use Rattle.form.specs.Tree.{Tag, Tags, Entries, nil, more, entry, kindOf, many, depth, tagsDepth, entriesDepth, Text, Array, AllFit, hasEntry, OneKind, Valid, ValidTags, ValidEntries}
+use Rattle.form.specs.Layout.{stringBytes, intBytes, intsBytes, payload, elementBytes, entryBytes}
+use Rattle.form.proofs.Answer.{guard-got}
+use Rattle.form.proofs.Digits.{digits-length}
+use Rattle.text_form.specs.Numbers.{Number, byte, short, int, long, float, double}
+use Rattle.text_form.specs.Lexing.{Stops, default, key, value, first, later, Token, openCurly, closedCurly, openSquare, closedSquare, comma, colon, semicolon, string, numeral, TokenData, Lexed, found, ended, tokenAt, contentOf, judgedText}
+use Rattle.text_form.specs.Text.{Value, Row, Ints, Block, Next, Then, goesOn, closes, Reads, signOf, orElse, inRange, ranged, numberTag, arrayWidth, wholeIn, elementInt, arrayTag, known, fits, due, following, stringOf, scalarTag, alike, scalarValue, intsBy, arrayAt, elementsBy, listFrom, listAt, letterWidth, Opened, anArray, aList, withSemicolon, openedBy, squareAt, keyOf, colonAt, closeAt, behind, entryAt, entriesBy, compoundAt, valueBy, valueAt, parsed}
+use Rattle.text_form.proofs.Gives.{Gives, gives-got, gives-no, gives-bind, gives-guard, gives-then, gives-pick, gives-elim, gives-all, gives-weaker, gives-it}
+use Rattle.text_form.proofs.Contents.{content-formed}
+use Rattle.text_form.proofs.Carried.{double-bits, single-bits}
+use Rattle.text_form.proofs.Tokens.{TokenHeld, LexedFine, NextFine, token-fine, or-fine, due-fine}
+use Rattle.demands.proofs.Tags.{kind-range}
+use Rattle.demands.proofs.Names.{same-self, same-true}
+
+-- ---- tests
+
+differ : {A : Type 0} → true ≡ false → A
+differ e = let z : _≡_ {A = ℕ} 0 1 = cc in absurd (omega arith)
+
+and-right : (a b : Bool) → (a && b) ≡ true → b ≡ true
+and-right true b e = e
+and-right false b e = differ (sym e)
+
+-- an integer in the range of w bytes fits them
+in-range : (w : ℕ) (z : ℤ) → inRange w z ≡ true → FitsIn w z
+in-range w (pos n) e = ltb-true n _ e
+in-range w (negsuc n) e = ltb-true n _ e
+
+-- a kind that passes the test is the one wanted
+kind-wanted : (want k : ℕ) → (eqb want 0 || eqb k want) ≡ true → (want ≡ 0 → ⊥) → k ≡ want
+kind-wanted want k e n = eqb-true k want (subst (λ b. (b || eqb k want) ≡ true) (ne-eqb want 0 n) e)
+
+-- ---- numbers
+
+-- A tag that is no container and keeps the rules.
+record Leaf (tag : Tag) : Type 0 where
+  valid : Valid tag
+  flat : depth tag ≡ 0
+
+ranged-leaf : (w : ℕ) (z : ℤ) (tag : Tag) (p : ℕ) → (FitsIn w z → Leaf tag) → Gives Leaf (ranged w z tag p)
+ranged-leaf w z tag p f = gives-guard (inRange w z) _ _ _ (λ e. gives-got (f (in-range w z e)))
+
+number-leaf : (n : Number) (p : ℕ) → TokenHeld (numeral n) → Gives Leaf (numberTag n p)
+unfolding Valid depth
+number-leaf (byte z) p h = ranged-leaf 1 z (tree.byte z) p (λ f. record { valid = f; flat = refl })
+number-leaf (short z) p h = ranged-leaf 2 z (tree.short z) p (λ f. record { valid = f; flat = refl })
+number-leaf (int z) p h = ranged-leaf 4 z (tree.int z) p (λ f. record { valid = f; flat = refl })
+number-leaf (long z) p h = ranged-leaf 8 z (tree.long z) p (λ f. record { valid = f; flat = refl })
+number-leaf (float x) p h = gives-got (record { valid = single-bits x; flat = refl })
+number-leaf (double x) p h = gives-got (record { valid = double-bits x h; flat = refl })
+
+element-fits : (w : ℕ) (k : Token) (p : ℕ) → Gives (FitsIn w) (elementInt w k p)
+element-fits w openCurly p = gives-no
+element-fits w closedCurly p = gives-no
+element-fits w openSquare p = gives-no
+element-fits w closedSquare p = gives-no
+element-fits w comma p = gives-no
+element-fits w colon p = gives-no
+element-fits w semicolon p = gives-no
+element-fits w (string q a e) p = gives-no
+element-fits w (numeral n) p =
+    gives-guard (eqb (arrayWidth n) w && inRange w (wholeIn n)) _ _ _ (λ e. gives-got (in-range w (wholeIn n) (and-right (eqb (arrayWidth n) w) _ e)))
+
+-- ---- names
+
+-- No entry of es has one of the earlier names.
+abbrev Apart : List (List ℕ) → Entries → Type 0
+Apart earlier es = (x : List ℕ) → known x earlier ≡ true → hasEntry x es ≡ false
+
+-- An entry of a new name before entries that stand apart from it too.
+apart-entry : (earlier : List (List ℕ)) (n : List ℕ) (tag : Tag) (es : Entries) → known n earlier ≡ false → Apart (n ∷ earlier) es → Apart earlier (entry n tag es) × (hasEntry n es ≡ false)
+unfolding known hasEntry
+apart-entry earlier n tag es new a = ((λ x e. go x e (same n x) refl), a n (rw (same-self n) refl))
+  where
+    go : (x : List ℕ) → known x earlier ≡ true → (b : Bool) → same n x ≡ b → (b || hasEntry x es) ≡ false
+    go x e true i = let q = same-true n x i in differ (sym e ∙ rw (← q) new)
+    go x e false i = a x (rw i e)
+
+-- ---- arrays
+
+abbrev Width : ℕ → Type 0
+Width w = (w ≡ 1) ⊎ ((w ≡ 4) ⊎ (w ≡ 8))
+
+by-width : (P : ℕ → Type 0) (w : ℕ) → Width w → P 1 → P 4 → P 8 → P w
+by-width P w (inl e) a b c = subst P (sym e) a
+by-width P w (inr (inl e)) a b c = subst P (sym e) b
+by-width P w (inr (inr e)) a b c = subst P (sym e) c
+
+ints-length : (w : ℕ) (z : ℤ) (vs : List ℤ) → length (intsBytes w (z ∷ vs)) ≡ w + length (intsBytes w vs)
+unfolding intsBytes
+ints-length w z vs = omega (arith, length-append (intBytes w z) (intsBytes w vs), digits-length w (bitsOf w z))
+
+array-leaf : (w : ℕ) → Width w → (vs : List ℤ) → Array w vs → Leaf (arrayTag w vs) × (length (payload (arrayTag w vs)) ≡ 4 + length (intsBytes w vs))
+unfolding Valid depth payload
+array-leaf w h vs = by-width (λ w. Array w vs → Leaf (arrayTag w vs) × (length (payload (arrayTag w vs)) ≡ 4 + length (intsBytes w vs))) w h
+    (λ a. (record { valid = a; flat = refl }, long 1)) (λ a. (record { valid = a; flat = refl }, long 4)) (λ a. (record { valid = a; flat = refl }, long 8))
+  where
+    long : (w : ℕ) → length (bytesOf 4 (length vs) ++ intsBytes w vs) ≡ 4 + length (intsBytes w vs)
+    long w = omega (arith, length-append (bytesOf 4 (length vs)) (intsBytes w vs), digits-length 4 (length vs))
+
+-- ---- what each part of a text gives
+
+module _ (t : List ℕ) (room : ℕ) where
+  -- A value behind u bytes, where so many containers are left.
+  pub record ValueFine (left want u : ℕ) (v : Value) : Type 0 where
+    kind : (want ≡ 0 → ⊥) → kindOf (v .tag) ≡ want
+    valid : Valid (v .tag)
+    deep : depth (v .tag) ≤ left
+    used : v .used ≡ u + length (payload (v .tag))
+    fits : v .used ≤ room
+
+  -- The rest of an array of elements of w bytes, of fewer than f of them.
+  record IntsFine (f w u : ℕ) (r : Ints) : Type 0 where
+    fit : AllFit w (r .values)
+    few : length (r .values) < f
+    used : r .used ≡ u + length (intsBytes w (r .values))
+    fits : r .used ≤ room
+
+  -- The rest of a list of kind k, of fewer than f elements.
+  record RowFine (left f k u : ℕ) (r : Row) : Type 0 where
+    one-kind : OneKind k (r .tags)
+    valid : ValidTags (r .tags)
+    deep : tagsDepth (r .tags) ≤ left
+    few : many (r .tags) < f
+    used : r .used ≡ u + length (elementBytes (r .tags))
+    fits : r .used ≤ room
+
+  -- The rest of a compound behind the earlier names.
+  pub record BlockFine (left u : ℕ) (earlier : List (List ℕ)) (b : Block) : Type 0 where
+    pub valid : ValidEntries (b .entries)
+    apart : Apart earlier (b .entries)
+    pub deep : entriesDepth (b .entries) ≤ left
+    pub used : b .used ≡ u + length (entryBytes (b .entries))
+    pub fits : b .used ≤ room
+    pub within : b .next ≤ length t
+
+  -- A way of reading values that gives such values.
+  abbrev Right : ℕ → Reads → Type 0
+  Right left val = (want : ℕ) (x : TokenData) (n u : ℕ) → TokenHeld (x .token) → Gives (ValueFine left want u) (val want x n u)
+
+  -- ---- scalars
+
+  string-text : (q : Bool) (a e p : ℕ) → Gives Text (stringOf t room q a e p)
+  unfolding stringOf
+  string-text q a e p =
+      gives-bind (contentOf t q a e) _ (content-formed t q a e)
+      (λ s w. gives-guard (leb (length s) stringLimit) _ _ _ (λ l. gives-got (w, leb-true (length s) stringLimit l)))
+
+  scalar-leaf : (k : Token) (p : ℕ) → TokenHeld k → Gives Leaf (scalarTag t room k p)
+  unfolding scalarTag Valid depth
+  scalar-leaf openCurly p h = gives-no
+  scalar-leaf closedCurly p h = gives-no
+  scalar-leaf openSquare p h = gives-no
+  scalar-leaf closedSquare p h = gives-no
+  scalar-leaf comma p h = gives-no
+  scalar-leaf colon p h = gives-no
+  scalar-leaf semicolon p h = gives-no
+  scalar-leaf (string q a e) p h = gives-bind (stringOf t room q a e p) _ (string-text q a e p) (λ s w. gives-got (record { valid = w; flat = refl }))
+  scalar-leaf (numeral n) p h = number-leaf n p h
+
+  scalar-fine : (left : ℕ) → Right left (scalarValue t room)
+  unfolding scalarValue
+  scalar-fine left want x n u h =
+      gives-bind (scalarTag t room (x .token) (x .index)) _ (scalar-leaf (x .token) (x .index) h)
+      (λ tag l. gives-guard (eqb want 0 || eqb (kindOf tag) want) _ _ _
+      (λ k. gives-guard (leb (u + length (payload tag)) room) _ _ _
+      (λ r. gives-got (record {
+        kind = kind-wanted want (kindOf tag) k;
+        valid = l .valid;
+        deep = omega (arith, l .flat);
+        used = refl;
+        fits = leb-true (u + length (payload tag)) room r;
+      }))))
+
+  -- ---- what follows
+
+  -- The place behind a closing brace lies in the text.
+  abbrev ThenIn : Then → Type 0
+  ThenIn (goesOn i n) = Unit {0}
+  ThenIn (closes i n) = n ≤ length t
+
+  following-in : (closing p n q : ℕ) → Gives ThenIn (following t room closing p n q)
+  unfolding following
+  following-in closing p n q =
+      gives-bind (due t room default p n q) _ (due-fine t room default p n q)
+      (λ x h. gives-pick (eqb (signOf (x .td .token)) 44) (λ _. gives-got tt)
+      (λ _. gives-pick (eqb (signOf (x .td .token)) closing) (λ _. gives-got (h .1)) (λ _. gives-no)))
+
+  -- by what follows
+  then-gives : {A : Type 0} {P : A → Type 0} (s : Then) {x y : ℕ → ℕ → Out A} → ThenIn s → ((i n : ℕ) → n ≤ length t → Gives P (x i n)) → ((i n : ℕ) → Gives P (y i n))
+      → Gives P (elim s [ closes i n ↦ x i n | goesOn i n ↦ y i n ])
+  then-gives (closes i n) h f g = f i n h
+  then-gives (goesOn i n) h f g = g i n
+
+  -- ---- arrays
+
+  ints-fine : (f w brace last p u : ℕ) → u ≤ room → Gives (IntsFine f w u) (intsBy t room f w brace last p u)
+  unfolding intsBy AllFit intsBytes
+  ints-fine zero w brace last p u r = gives-no
+  ints-fine (suc f) w brace last p u r =
+      gives-bind (due t room later p unmatchedBrace brace) _ (due-fine t room later p unmatchedBrace brace)
+      (λ x h. gives-elim (eqb (signOf (x .td .token)) 44)
+      (λ _. gives-weaker (intsBy t room f w brace (x .td .index) (x .next) u) (ints-fine f w brace (x .td .index) (x .next) u r)
+      (λ i j. record { fit = j .fit; few = omega (arith, j .few); used = j .used; fits = j .fits }))
+      (λ _. gives-elim (eqb (signOf (x .td .token)) 93)
+      (λ _. gives-guard (eqb last 0) _ _ _ (λ _. gives-got (record { fit = tt; few = omega arith; used = omega arith; fits = r })))
+      (λ _. gives-bind (elementInt w (x .td .token) (x .td .index)) _ (element-fits w (x .td .token) (x .td .index))
+      (λ z k. gives-guard (leb (u + w) room) _ _ _
+      (λ e. gives-bind (intsBy t room f w brace 0 (x .next) (u + w)) _ (ints-fine f w brace 0 (x .next) (u + w) (leb-true (u + w) room e))
+      (λ i j. gives-got (record {
+        fit = (k, j .fit);
+        few = omega (arith, j .few);
+        used = omega (arith, j .used, ints-length w z (i .values));
+        fits = j .fits;
+      })))))))
+
+  module _ (small : length t ≤ textLimit) where
+    array-fine : (left w brace p u : ℕ) → Width w → Gives (ValueFine left 0 u) (arrayAt t room w brace p u)
+    unfolding arrayAt
+    array-fine left w brace p u h =
+        gives-guard (leb (u + 4) room) _ _ _
+        (λ e. gives-bind (intsBy t room (suc (length t)) w brace 0 p (u + 4)) _ (ints-fine (suc (length t)) w brace 0 p (u + 4) (leb-true (u + 4) room e))
+        (λ r j. let a = array-leaf w h (r .values) (j .fit, omega (arith, j .few)) in
+        gives-got (record {
+          kind = λ z. absurd (z refl);
+          valid = a .0 .valid;
+          deep = omega (arith, a .0 .flat);
+          used = omega (arith, j .used, a .1);
+          fits = j .fits;
+        })))
+
+    -- ---- lists
+
+    module _ (left : ℕ) (val : Reads) (right : Right (left - 1) val) where
+      row-fine : (f k p u : ℕ) → 0 < k → u ≤ room → Gives (RowFine (left - 1) f k u) (elementsBy t room f val k p u)
+      unfolding elementsBy OneKind Valid depth many payload
+      row-fine zero k p u o r = gives-no
+      row-fine (suc f) k p u o r =
+          gives-bind (following t room 93 p textEnds (length t)) _ (following-in 93 p textEnds (length t))
+          (λ s h. then-gives s h
+          (λ i n _. gives-got (record { one-kind = tt; valid = tt; deep = omega arith; few = omega arith; used = omega arith; fits = r }))
+          (λ i n. gives-bind (due t room later n textEnds (length t)) _ (due-fine t room later n textEnds (length t))
+          (λ x y. gives-bind (val k (x .td) (x .next) u) _ (right k (x .td) (x .next) u (y .0))
+          (λ v w. gives-bind (elementsBy t room f val k (v .next) (v .used)) _ (row-fine f k (v .next) (v .used) o (w .fits))
+          (λ z j. gives-got (record {
+            one-kind = (w .kind (λ e. omega arith), j .one-kind);
+            valid = (w .valid, j .valid);
+            deep = omega (arith, w .deep, j .deep);
+            few = omega (arith, j .few);
+            used = omega (arith, w .used, j .used, length-append (payload (v .tag)) (elementBytes (z .tags)));
+            fits = j .fits;
+          }))))))
+
+      -- A list takes five bytes and its elements.
+      list-length : (ts : Tags) → length (payload (tree.list ts)) ≡ 5 + length (elementBytes ts)
+      unfolding payload
+      list-length ts = omega (arith, length-append (bytesOf 4 (many ts)) (elementBytes ts), digits-length 4 (many ts))
+
+      from-fine : (x : Next) (u : ℕ) → 0 < left → NextFine t x → u + 5 ≤ room → Gives (ValueFine left 0 u) (listFrom t room val x (u + 5))
+      unfolding listFrom Valid depth many OneKind elementBytes
+      from-fine x u o h r = gives-elim (eqb (signOf (x .td .token)) 93)
+          (λ _. gives-got (record { kind = λ z. absurd (z refl); valid = (tt, omega arith, tt); deep = omega arith; used = omega (arith, list-length nil); fits = r }))
+          (λ _. gives-bind (val 0 (x .td) (x .next) (u + 5)) _ (right 0 (x .td) (x .next) (u + 5) (h .0))
+          (λ v w. gives-bind (elementsBy t room (suc (length t)) val (kindOf (v .tag)) (v .next) (v .used)) _
+          (row-fine (suc (length t)) (kindOf (v .tag)) (v .next) (v .used) (kind-range (v .tag) .0) (w .fits))
+          (λ z j. gives-got (record {
+            kind = λ z. absurd (z refl);
+            valid = (j .one-kind, omega (arith, j .few), (w .valid, j .valid));
+            deep = omega (arith, w .deep, j .deep);
+            used = omega (arith, w .used, j .used, list-length (more (v .tag) (z .tags)), length-append (payload (v .tag)) (elementBytes (z .tags)));
+            fits = j .fits;
+          }))))
+
+      list-fine : (brace : ℕ) (x : Lexed) (u : ℕ) → LexedFine t x → Gives (ValueFine left 0 u) (listAt t room left val brace x u)
+      unfolding listAt
+      list-fine brace x u h =
+          gives-guard (ltb 0 left) _ _ _
+          (λ o. gives-guard (leb (u + 5) room) _ _ _
+          (λ r. gives-bind (orElse x unmatchedBrace brace) _ (or-fine t x unmatchedBrace brace h)
+          (λ y k. from-fine y u (ltb-true 0 left o) k (leb-true (u + 5) room r))))
+
+      -- ---- what a `[` opens
+
+      -- An array's elements are of 1, 4 or 8 bytes.
+      abbrev OpenedFine : Opened t room → Type 0
+      OpenedFine (anArray w n) = Width w
+      OpenedFine aList = Unit {0}
+
+      letter-width : (k : Token) → eqb (letterWidth t room k) 0 ≡ false → Width (letterWidth t room k)
+      letter-width openCurly e = differ e
+      letter-width closedCurly e = differ e
+      letter-width openSquare e = differ e
+      letter-width closedSquare e = differ e
+      letter-width comma e = differ e
+      letter-width colon e = differ e
+      letter-width semicolon e = differ e
+      letter-width (string q a e) h = go (not q && eqb e (a + 1)) (eqb (getD t a 0) 66) (eqb (getD t a 0) 73) (eqb (getD t a 0) 76) h
+        where
+          go : (x b i l : Bool) → eqb (pick x (pick b 1 (pick i 4 (pick l 8 0))) 0) 0 ≡ false → Width (pick x (pick b 1 (pick i 4 (pick l 8 0))) 0)
+          go true true i l h = inl refl
+          go true false true l h = inr (inl refl)
+          go true false false true h = inr (inr refl)
+          go true false false false h = differ h
+          go false b i l h = differ h
+      letter-width (numeral n) e = differ e
+
+      with-width : (w : ℕ) (x : Lexed) → Width w → OpenedFine (withSemicolon t room w x)
+      with-width w (ended p) h = tt
+      with-width w (found d n) h = go (eqb (signOf (d .token)) 59)
+        where
+          go : (b : Bool) → OpenedFine (pick b (anArray w n) aList)
+          go true = h
+          go false = tt
+
+      opened-fine : (x : Lexed) → Gives OpenedFine (openedBy t room x)
+      opened-fine (ended p) = gives-got tt
+      opened-fine (found d n) = gives-elim (eqb (letterWidth t room (d .token)) 0) (λ _. gives-got tt)
+          (λ e. gives-bind (tokenAt default t n) _ (token-fine t default n) (λ y _. gives-got (with-width (letterWidth t room (d .token)) y (letter-width (d .token) e))))
+
+      square-fine : (brace p u : ℕ) → Gives (ValueFine left 0 u) (squareAt t room left val brace p u)
+      unfolding squareAt
+      square-fine brace p u =
+          gives-bind (tokenAt first t p) _ (token-fine t first p)
+          (λ x h. gives-bind (openedBy t room x) _ (opened-fine x) (λ o k. go x h o k))
+        where
+          go : (x : Lexed) → LexedFine t x → (o : Opened t room) → OpenedFine o → Gives (ValueFine left 0 u) (elim o [ anArray w n ↦ arrayAt t room w brace n u | aList ↦ listAt t room left val brace x u ])
+          go x h (anArray w n) k = array-fine left w brace n u k
+          go x h aList k = list-fine brace x u h
+
+      -- ---- compounds
+
+      key-text : (k : Token) (p : ℕ) → Gives Text (keyOf t room k p)
+      unfolding keyOf
+      key-text openCurly p = gives-no
+      key-text closedCurly p = gives-no
+      key-text openSquare p = gives-no
+      key-text closedSquare p = gives-no
+      key-text comma p = gives-no
+      key-text colon p = gives-no
+      key-text semicolon p = gives-no
+      key-text (string q a e) p = string-text q a e p
+      key-text (numeral n) p = gives-no
+
+      close-fine : (p n u : ℕ) (earlier : List (List ℕ)) → n ≤ length t → Gives (BlockFine (left - 1) u earlier) (closeAt t room p n u)
+      unfolding closeAt Valid depth payload hasEntry
+      close-fine p n u earlier h =
+          gives-guard (leb (u + 1) room) _ _ _
+          (λ e. gives-got (record { valid = tt; apart = λ x _. refl; deep = omega arith; used = refl; fits = leb-true (u + 1) room e; within = h }))
+
+      -- An entry by its key.
+      record EntryFine (earlier : List (List ℕ)) (u : ℕ) (e : List ℕ × Value) : Type 0 where
+        text : Text (e .0)
+        new : known (e .0) earlier ≡ false
+        value : ValueFine (left - 1) 0 (u + (3 + length (e .0))) (e .1)
+
+      entry-fine : (brace : ℕ) (earlier : List (List ℕ)) (x : Next) (u : ℕ) → Gives (EntryFine earlier u) (entryAt t room val brace earlier x u)
+      unfolding entryAt
+      entry-fine brace earlier x u =
+          gives-bind (keyOf t room (x .td .token) (x .td .index)) _ (key-text (x .td .token) (x .td .index))
+          (λ s h. gives-guard (not (known s earlier)) _ _ _
+          (λ n. gives-bind (colonAt t room brace (x .next)) _ (gives-all {P = λ _. Unit {0}} (colonAt t room brace (x .next)) (λ _ _. tt))
+          (λ p _. gives-bind (due t room value p textEnds (length t)) _ (due-fine t room value p textEnds (length t))
+          (λ y k. gives-bind (val 0 (y .td) (y .next) (u + (3 + length s))) _ (right 0 (y .td) (y .next) (u + (3 + length s)) (k .0))
+          (λ v w. gives-got (record { text = h; new = not-true _ n; value = w }))))))
+
+      more-entries : (earlier : List (List ℕ)) (u : ℕ) (e : List ℕ × Value) (r : Block) → EntryFine earlier u e → BlockFine (left - 1) (e .1 .used) (e .0 ∷ earlier) r
+          → BlockFine (left - 1) u earlier (record { entries = entry (e .0) (e .1 .tag) (r .entries); next = r .next; used = r .used })
+      unfolding Valid depth payload
+      more-entries earlier u e r h k =
+          let a = apart-entry earlier (e .0) (e .1 .tag) (r .entries) (h .new) (k .apart) in
+          let p = payload (e .1 .tag) in
+          let b = entryBytes (r .entries) in
+          record {
+            valid = (h .text, a .1, h .value .valid, k .valid);
+            apart = a .0;
+            deep = omega (arith, h .value .deep, k .deep);
+            used = omega (
+              arith,
+              k .used,
+              h .value .used,
+              length-append (stringBytes (e .0)) (p ++ b),
+              length-append (bytesOf 2 (length (e .0))) (e .0),
+              digits-length 2 (length (e .0)),
+              length-append p b,
+            );
+            fits = k .fits;
+            within = k .within;
+          }
+
+      entries-fine : (f brace : ℕ) (earlier : List (List ℕ)) (last p u : ℕ) → Gives (BlockFine (left - 1) u earlier) (entriesBy t room f val brace earlier last p u)
+      unfolding entriesBy
+      entries-fine zero brace earlier last p u = gives-no
+      entries-fine (suc f) brace earlier last p u =
+          gives-bind (due t room key p unmatchedBrace brace) _ (due-fine t room key p unmatchedBrace brace)
+          (λ x h. gives-elim (eqb (signOf (x .td .token)) 125)
+          (λ _. gives-guard (eqb last 0) _ _ _ (λ _. close-fine (x .td .index) (x .next) u earlier (h .1)))
+          (λ _. gives-bind (entryAt t room val brace earlier x u) _ (entry-fine brace earlier x u)
+          (λ e k. gives-bind (following t room 125 (e .1 .next) unmatchedBrace brace) _ (following-in 125 (e .1 .next) unmatchedBrace brace)
+          (λ s j. gives-bind (behind t room (λ i n. entriesBy t room f val brace (e .0 ∷ earlier) i n (e .1 .used)) (e .1 .used) s) _ (rest e s j (entries-fine f brace (e .0 ∷ earlier)))
+          (λ r w. gives-got (more-entries earlier u e r k w))))))
+        where
+          rest : (e : List ℕ × Value) (s : Then) → ThenIn s → ((last p u : ℕ) → Gives (BlockFine (left - 1) u (e .0 ∷ earlier)) (entriesBy t room f val brace (e .0 ∷ earlier) last p u))
+              → Gives (BlockFine (left - 1) (e .1 .used) (e .0 ∷ earlier)) (behind t room (λ i n. entriesBy t room f val brace (e .0 ∷ earlier) i n (e .1 .used)) (e .1 .used) s)
+          rest e (closes i n) j ih = close-fine i n (e .1 .used) (e .0 ∷ earlier) j
+          rest e (goesOn i n) j ih = ih i n (e .1 .used)
+
+      -- A compound, where a container is left.
+      pub compound-fine : (brace p u : ℕ) → Gives (λ b. (0 < left) × BlockFine (left - 1) u [] b) (compoundAt t room left val brace p u)
+      unfolding compoundAt
+      compound-fine brace p u =
+          gives-guard (ltb 0 left) _ _ _
+          (λ o. gives-guard (leb u room) _ _ _
+          (λ _. gives-weaker (entriesBy t room (suc (length t)) val brace [] 0 p u) (entries-fine (suc (length t)) brace [] 0 p u) (λ b k. (ltb-true 0 left o, k))))
+
+      -- ---- values
+
+      value-fine : Right left (valueBy t room left val)
+      unfolding valueBy Valid depth payload
+      value-fine want x n u h = gives-elim (eqb (signOf (x .token)) 123)
+          (λ _. gives-bind (compoundAt t room left val (x .index) n u) _ (compound-fine (x .index) n u)
+          (λ b k. gives-guard (eqb want 0 || eqb (kindOf (tree.compound (b .entries))) want) _ _ _
+          (λ e. gives-got (record {
+            kind = kind-wanted want (kindOf (tree.compound (b .entries))) e;
+            valid = k .1 .valid;
+            deep = omega (arith, k .0, k .1 .deep);
+            used = k .1 .used;
+            fits = k .1 .fits;
+          }))))
+          (λ _. gives-elim (eqb (signOf (x .token)) 91)
+          (λ _. gives-bind (squareAt t room left val (x .index) n u) _ (square-fine (x .index) n u)
+          (λ v k. gives-guard (eqb want 0 || eqb (kindOf (v .tag)) want) _ _ _
+          (λ e. gives-got (record { kind = kind-wanted want (kindOf (v .tag)) e; valid = k .valid; deep = k .deep; used = k .used; fits = k .fits }))))
+          (λ _. scalar-fine left want x n u h))
+
+    -- With so many containers left.
+    at-fine : (d : ℕ) → Right d (valueAt t room d)
+    unfolding valueAt
+    at-fine zero = value-fine 0 (λ want x n u. no tooDeep (x .index)) (λ want x n u h. gives-no)
+    at-fine (suc d) = let e : suc d - 1 ≡ d = omega arith in value-fine (suc d) (valueAt t room d) (rw e (at-fine d))
+
+  -- ---- a whole text
+
+  text-small : judgedText t ≡ got tt → length t ≤ textLimit
+  unfolding judgedText
+  text-small e = leb-true (length t) textLimit (guard-got (leb (length t) textLimit) _ _ _ e .0)
+
+  pub parsed-fine : Gives (BlockFine (depthLimit - 1) 3 []) (parsed t room)
+  unfolding parsed
+  parsed-fine =
+      gives-then (judgedText t) _
+      (λ s. gives-bind (due t room default 0 textEnds (length t)) _ (due-fine t room default 0 textEnds (length t))
+      (λ x h. gives-guard (eqb (signOf (x .td .token)) 123) _ _ _
+      (λ _. gives-weaker (compoundAt t room depthLimit (valueAt t room (depthLimit - 1)) (x .td .index) (x .next) 3)
+      (compound-fine (text-small s) depthLimit (valueAt t room (depthLimit - 1)) (at-fine (text-small s) (depthLimit - 1)) (x .td .index) (x .next) 3)
+      (λ b k. k .1))))

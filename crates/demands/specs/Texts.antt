@@ -1,0 +1,43 @@
+-- What is claimed of texts: what a text means keeps the rules, its layout is what the output has room for and begins with, and reading
+-- that layout gives the document again. The proofs are in proofs/Texts.antt, under the names given here.
+-- Assumes nothing.
+use Prim.Native.Nat.{ℕ, _+_, _≤_}
+use mathlib.Core.Path.{_≡_}
+use mathlib.Core.List.{List, _++_}
+use lib.ListN.{length, take}
+use Rattle.form.specs.Answer.{Out, got, documentLimit}
+use Rattle.form.specs.Tree.{Lawful, entriesCount}
+use Rattle.form.specs.Layout.{layout}
+use Rattle.text_form.specs.Text.{Block, parsed, documentOf, Lengths, ParseIs}
+use Rattle.demands.specs.Reading.{Complete}
+
+-- `lawful-text`: the document that an accepted text means keeps the rules and the limits.
+abbrev pub IsLawfulText : Type 0
+IsLawfulText = (t : List ℕ) (room : ℕ) (b : Block) → parsed t room ≡ got b → Lawful (documentOf b)
+
+-- `text-fills`: the bytes counted, token by token, are those of the document's layout, and there was room for them.
+abbrev pub IsTextFills : Type 0
+IsTextFills = (t : List ℕ) (room : ℕ) (b : Block) → parsed t room ≡ got b → (b .used ≡ length (layout (documentOf b))) × (b .used ≤ room)
+
+-- `text-consumed`: no more of the text is consumed than there is.
+abbrev pub IsTextConsumed : Type 0
+IsTextConsumed = (t : List ℕ) (room : ℕ) (b : Block) → parsed t room ≡ got b → b .next ≤ length t
+
+-- `text-output`: whoever keeps the promise of a parse leaves, of an accepted text, an output as long as it was that begins with the layout.
+abbrev pub IsTextOutput : Type 0
+IsTextOutput =
+    (t o : List ℕ) (b : Block) (answer : Out Lengths) (o′ : List ℕ) → parsed t (length o) ≡ got b → ParseIs t o answer o′
+    → (length o′ ≡ length o) × (take (b .used) o′ ≡ layout (documentOf b))
+
+-- `text-read-back`: the layout of an accepted text's document is read back, whatever follows it, as that document, where there is room for
+-- its records and the whole is no longer than a document may be.
+abbrev pub IsTextReadBack : Type 0
+IsTextReadBack =
+    (t : List ℕ) (room : ℕ) (b : Block) → parsed t room ≡ got b → (rest : List ℕ) → length (layout (documentOf b) ++ rest) ≤ documentLimit
+    → (records : ℕ) → 1 + entriesCount (b .entries) ≤ records
+    → Complete (layout (documentOf b) ++ rest) records (documentOf b) (layout (documentOf b))
+
+-- `one-text-answer`: two outcomes that the promise of a parse allows are one.
+abbrev pub IsOneTextAnswer : Type 0
+IsOneTextAnswer =
+    (t o : List ℕ) (a₁ a₂ : Out Lengths) (o₁ o₂ : List ℕ) → ParseIs t o a₁ o₁ → ParseIs t o a₂ o₂ → (a₁ ≡ a₂) × (o₁ ≡ o₂)
