@@ -2,20 +2,30 @@
 -- computing that the definitions answer so.
 -- Assumes nothing.
 use Prim.Native.Nat.{ℕ}
+use Prim.Native.String as text
 use mathlib.Core.Path.{_≡_}
 use mathlib.Core.List.{List, [], _∷_, map}
-use Rattle.form.specs.Answer.{Out, got, no}
+use lib.Ieee.{binary64, toBits}
+use Rattle.form.specs.Answer.{Out, got, no, _>>=_}
+use Rattle.form.specs.Numbers.{bitsOf}
+use Rattle.form.specs.Layout.{layout}
 use Rattle.form.specs.Decoding.{Sequence, is, stuck, scalarOf}
 use Rattle.form.specs.Table.{none, node, flat}
 use Rattle.form.specs.Reading.{One, documentAt}
 use Rattle.form.specs.Query.{asked}
+use Rattle.text_form.specs.Marked.{ascii}
+use Rattle.text_form.specs.Numbers.{byte, short, int, long, float, double}
+use Rattle.text_form.specs.Lexing.{Stops, default, later, Token, openCurly, closedCurly, openSquare, closedSquare, comma, colon, semicolon, string, numeral, Lexed, found, ended, lexed, content}
+use Rattle.text_form.specs.Text.{Block, parsed, documentOf}
 
--- What a marked record asks: a document to read, with room for eight records; what some bytes of modified UTF-8 begin with; or a document
--- and a query of it.
+-- What a marked record asks: a document to read, with room for eight records; what some bytes of modified UTF-8 begin with; a document
+-- and a query of it; a text's first token, for a stop set; or a text to parse, with room for 15 bytes.
 pub data Asked : Type 0 where
   read : List ℕ → Asked
   scalar : List ℕ → Asked
   ask : List ℕ → List ℕ → Asked
+  token : text.String → Stops → Asked
+  parse : text.String → Asked
 
 -- A read as numbers: the bytes consumed, then the words of the records; or the refusal's number and place.
 abbrev pub readAnswer : Out One → Out (List ℕ)
@@ -32,11 +42,46 @@ abbrev pub askAnswer : List ℕ → List ℕ → Out One → Out (List ℕ)
 askAnswer doc q (got x) = asked doc q (x .head) (x .inner)
 askAnswer doc q (no n p) = no n p
 
+-- What a token means as numbers: of a string 8 and the bytes of its content, of a number its kind and the 64 bits that it carries, of a
+-- sign the character.
+abbrev pub meaning : List ℕ → Token → Out (List ℕ)
+meaning t openCurly = got (123 ∷ [])
+meaning t closedCurly = got (125 ∷ [])
+meaning t openSquare = got (91 ∷ [])
+meaning t closedSquare = got (93 ∷ [])
+meaning t comma = got (44 ∷ [])
+meaning t colon = got (58 ∷ [])
+meaning t semicolon = got (59 ∷ [])
+meaning t (string q a e) = do
+  s ← content t a e q 15
+  got (8 ∷ s)
+meaning t (numeral (byte z)) = got (1 ∷ bitsOf 8 z ∷ [])
+meaning t (numeral (short z)) = got (2 ∷ bitsOf 8 z ∷ [])
+meaning t (numeral (int z)) = got (3 ∷ bitsOf 8 z ∷ [])
+meaning t (numeral (long z)) = got (4 ∷ bitsOf 8 z ∷ [])
+meaning t (numeral (float x)) = got (5 ∷ toBits binary64 x ∷ [])
+meaning t (numeral (double x)) = got (6 ∷ toBits binary64 x ∷ [])
+
+-- A token as numbers: its width, the next place, then what it means; the end of the text as its place.
+abbrev pub tokenAnswer : List ℕ → Out Lexed → Out (List ℕ)
+tokenAnswer t (got (found d n)) = do
+  m ← meaning t (d .token)
+  got (d .width ∷ n ∷ m)
+tokenAnswer t (got (ended p)) = got (p ∷ [])
+tokenAnswer t (no n p) = no n p
+
+-- A parse as numbers: the bytes consumed, then the bytes of the document.
+abbrev pub parseAnswer : Out Block → Out (List ℕ)
+parseAnswer (got b) = got (b .next ∷ layout (documentOf b))
+parseAnswer (no n p) = no n p
+
 -- What the definitions answer.
 abbrev pub answerTo : Asked → Out (List ℕ)
 answerTo (read doc) = readAnswer (documentAt doc 8)
 answerTo (scalar bs) = scalarAnswer (scalarOf bs)
 answerTo (ask doc q) = askAnswer doc q (documentAt doc 8)
+answerTo (token t set) = tokenAnswer (ascii t) (lexed (ascii t) 0 set)
+answerTo (parse t) = parseAnswer (parsed (ascii t) 15)
 
 -- The records. A document's bytes are those of its line in 01, in decimal.
 unfoldable pub records : List (Asked × Out (List ℕ))
@@ -67,6 +112,15 @@ records =
     ∷ (read (10 ∷ 0 ∷ 0 ∷ 1 ∷ 0 ∷ 1 ∷ 98 ∷ 1 ∷ 1 ∷ 0 ∷ 1 ∷ 98 ∷ 2 ∷ 0 ∷ []), no 6 8)
     -- EDA0BDEDB880 is U+1F600
     ∷ (scalar (237 ∷ 160 ∷ 189 ∷ 237 ∷ 184 ∷ 128 ∷ []), got (128512 ∷ 6 ∷ []))
+    -- tokens: a\,b with stops ,] and a quoted A
+    ∷ (token "a\\,b" later, got (1 ∷ 2 ∷ 8 ∷ 97 ∷ []))
+    ∷ (token "\"\\u0041\"" default, got (8 ∷ 8 ∷ 8 ∷ 65 ∷ []))
+    -- numbers
+    ∷ (token "0.1" default, got (3 ∷ 3 ∷ 6 ∷ 0x3FB9_9999_9999_999A ∷ []))
+    ∷ (token "-0d" default, got (3 ∷ 3 ∷ 6 ∷ 0 ∷ []))
+    ∷ (token "9007199254740993d" default, got (17 ∷ 17 ∷ 6 ∷ 0x4340_0000_0000_0000 ∷ []))
+    -- a text: 11 consumed, 0A0000090001610100000002010200
+    ∷ (parse "{a:[1b,2b]}", got (11 ∷ 10 ∷ 0 ∷ 0 ∷ 9 ∷ 0 ∷ 1 ∷ 97 ∷ 1 ∷ 0 ∷ 0 ∷ 0 ∷ 2 ∷ 1 ∷ 2 ∷ 0 ∷ []))
     ∷ []
 
 -- `marked`: the definitions answer each record as it says.
