@@ -1,7 +1,7 @@
 -- The theorems on texts, as specs/Texts.antt states them.
 -- Assumes nothing.
-use Prim.Native.Nat.{ℕ, _+_}
-use mathlib.Core.List.{List, []}
+use Prim.Native.Nat.{_+_}
+use mathlib.Core.List.{[]}
 use mathlib.Core.Path.{_≡_, refl, sym, ap, _∙_}
 use native.Mathlib.Omega.{arith}
 use lib.ListN.{length}
@@ -12,8 +12,8 @@ use Rattle.form.specs.Layout.{entryBytes, layout}
 use Rattle.form.proofs.Places.{part-over}
 use Rattle.form.proofs.Table.{over-length}
 use Rattle.text_form.specs.Text.{documentOf, outputAfter}
-use Rattle.text_form.proofs.Gives.{gives-it}
-use Rattle.demands.specs.Texts.{IsLawfulText, IsTextFills, IsTextConsumed, IsTextOutput, IsTextReadBack, IsOneTextAnswer}
+use Rattle.text_form.proofs.Gives.{gives-it, gives-number}
+use Rattle.demands.specs.Texts.{IsLawfulText, IsTextFills, IsTextConsumed, IsTextOutput, IsTextReadBack, IsTextNeverZero, IsOneTextAnswer}
 use Rattle.demands.proofs.Meant.{parsed-fine}
 use Rattle.demands.proofs.Reading.{canonical, complete}
 
@@ -34,7 +34,7 @@ text-fills t room b e = let x = gives-it e (parsed-fine t room) in (omega (arith
 
 -- It ends in the text.
 pub text-consumed : IsTextConsumed
-text-consumed t room b e = (gives-it e (parsed-fine t room)) .within
+text-consumed t room b e = gives-it e (parsed-fine t room) .ahead .1
 
 -- So its layout stands in the output, and nothing behind it.
 pub text-output : IsTextOutput
@@ -49,6 +49,10 @@ pub text-read-back : IsTextReadBack
 text-read-back t room b e rest small records few =
     let d = documentOf b in
     complete d (layout d) rest records (canonical d) (lawful-text t room b e) few small
+
+-- Each turn moves on in the text, so that no bound runs out.
+pub text-never-zero : IsTextNeverZero
+text-never-zero t room p e = omega (arith, gives-number e (parsed-fine t room))
 
 -- Both are what the definition says.
 pub one-text-answer : IsOneTextAnswer

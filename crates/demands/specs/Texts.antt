@@ -5,7 +5,7 @@ use Prim.Native.Nat.{ℕ, _+_, _≤_}
 use mathlib.Core.Path.{_≡_}
 use mathlib.Core.List.{List, _++_}
 use lib.ListN.{length, take}
-use Rattle.form.specs.Answer.{Out, got, documentLimit}
+use Rattle.form.specs.Answer.{Out, got, no, documentLimit}
 use Rattle.form.specs.Tree.{Lawful, entriesCount}
 use Rattle.form.specs.Layout.{layout}
 use Rattle.text_form.specs.Text.{Block, parsed, documentOf, Lengths, ParseIs}
@@ -36,6 +36,10 @@ IsTextReadBack =
     (t : List ℕ) (room : ℕ) (b : Block) → parsed t room ≡ got b → (rest : List ℕ) → length (layout (documentOf b) ++ rest) ≤ documentLimit
     → (records : ℕ) → 1 + entriesCount (b .entries) ≤ records
     → Complete (layout (documentOf b) ++ rest) records (documentOf b) (layout (documentOf b))
+
+-- `text-never-zero`: a refusal has a number of document 01: the 0 that stands in a definition for a bound that runs out is never answered.
+abbrev pub IsTextNeverZero : Type 0
+IsTextNeverZero = (t : List ℕ) (room p : ℕ) → parsed t room ≡ no 0 p → ⊥
 
 -- `one-text-answer`: two outcomes that the promise of a parse allows are one.
 abbrev pub IsOneTextAnswer : Type 0

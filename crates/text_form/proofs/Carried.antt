@@ -1,9 +1,8 @@
 -- What a number of the text carries: each double is a rounding or a signed zero, so it has whatever property these have.
 -- Assumes nothing.
-use Prim.Native.Nat.{ℕ, suc, _*_, _^_, _<_}
+use Prim.Native.Nat.{ℕ, suc, _-_, _*_, _^_, _<_}
 use mathlib.Core.Bool.{Bool, true, false, not, _&&_}
-use mathlib.Core.List.{List, _++_}
-use mathlib.Core.Path.{_≡_}
+use mathlib.Core.List.{List, [], _∷_, _++_}
 use native.Mathlib.Omega.{arith}
 use lib.Dec.{T, leb, eqb}
 use lib.IntN.{ℤ, pos, negsuc, natAbs, _-ℤ_}
@@ -11,11 +10,11 @@ use lib.ListN.{length}
 use lib.Ieee.{Float, nan, inf, fin, Format, binary32, binary64, up, down, fits, toBits, ofInt, round}
 use lib.Ieee.Fits.{round-fits, nan-fits, inf-fits}
 use lib.Ieee.Bits.{toBits-lt}
-use Rattle.form.specs.Answer.{Out, got, no, pick, _>>=_}
+use Rattle.form.specs.Answer.{Out, pick}
 use Rattle.form.specs.Numbers.{valuesIn}
 use Rattle.text_form.specs.Values.{nearestTo, scaled, toSingle}
-use Rattle.text_form.specs.Numbers.{Number, byte, short, int, long, float, double, isDigit, isPoint, isLetter, empty, has, before, behind, digits, worth, exponentIn, lastOf, butLast, stem, negative, unsigned, suffixed, wholeOf, wholeNumber, valueOf, decimalOf, decimal, realNumber, decimalNumber, number}
-use Rattle.text_form.proofs.Gives.{Gives, gives-got, gives-no, gives-bind, gives-guard, gives-pick}
+use Rattle.text_form.specs.Numbers.{Number, byte, short, int, long, float, double, isDigit, isPoint, isLetter, empty, has, before, behind, digits, worth, power, exponent, exponentIn, lastOf, butLast, stem, negative, unsigned, suffixed, wholeOf, wholeNumber, valueOf, decimalOf, decimal, realNumber, decimalNumber, number}
+use Rattle.text_form.proofs.Gives.{Gives, Any, gives-got, gives-no, gives-bind, gives-guard, gives-pick}
 
 -- The double that a number carries, if it does, has a property.
 abbrev pub Carries : (Float → Type 0) → Number → Type 0
@@ -25,6 +24,23 @@ Carries P (int z) = Unit {0}
 Carries P (long z) = Unit {0}
 Carries P (float x) = P x
 Carries P (double x) = P x
+
+-- ---- whole numbers are refused with 18 alone
+
+whole-any : (s : Bool) (l : List ℕ) (place : ℕ) → Gives Any (wholeOf s l place)
+unfolding wholeOf
+whole-any s l place =
+    gives-guard (not (empty l) && digits l) _ _ _ (omega arith) (λ _. gives-guard (leb (worth 0 l) (pick s (2 ^ 63) (2 ^ 63 - 1))) _ _ _ (omega arith) (λ _. gives-got tt))
+
+power-any : (s : Bool) (l : List ℕ) (place : ℕ) → Gives Any (power s l place)
+power-any s l place = gives-guard (not (empty l) && digits l) _ _ _ (omega arith) (λ _. gives-got tt)
+
+exponent-any : (l : List ℕ) (place : ℕ) → Gives Any (exponentIn l place)
+exponent-any l place = gives-pick (has (isLetter 101) l) (λ _. go (behind (isLetter 101) l)) (λ _. gives-got tt)
+  where
+    go : (k : List ℕ) → Gives Any (exponent k place)
+    go [] = gives-no (omega arith)
+    go (b ∷ k) = gives-pick (eqb b 45) (λ _. power-any true k place) (λ _. gives-pick (eqb b 43) (λ _. power-any false k place) (λ _. power-any false (b ∷ k) place))
 
 -- ---- a property of roundings and of zeros
 
@@ -40,23 +56,20 @@ module _ (P : Float → Type 0) (rounded : (s : Bool) (a c : ℕ) → P (round b
 
   scaled-carries : (s : Bool) (w : ℕ) (p : ℤ) (place : ℕ) → Gives P (scaled s w p place)
   scaled-carries s w p place =
-      gives-pick (eqb w 0) (λ _. gives-got (zeros s)) (λ _. gives-pick (leb w (2 ^ 53) && leb (natAbs p) 22) (λ _. gives-got (nearest-carries s w p)) (λ _. gives-no))
+      gives-pick (eqb w 0) (λ _. gives-got (zeros s)) (λ _. gives-pick (leb w (2 ^ 53) && leb (natAbs p) 22) (λ _. gives-got (nearest-carries s w p)) (λ _. gives-no (omega arith)))
 
-  value-carries : (s : Bool) (whole fraction : List ℕ) (exponent : Out ℤ) (place : ℕ) → Gives P (valueOf s whole fraction exponent place)
-  value-carries s whole fraction exponent place =
+  value-carries : (s : Bool) (whole fraction : List ℕ) (exponent : Out ℤ) (place : ℕ) → Gives Any exponent → Gives P (valueOf s whole fraction exponent place)
+  value-carries s whole fraction exponent place h =
       let l = whole ++ fraction in
-      gives-guard (not (empty l) && digits l) _ _ _
-      (λ _. gives-bind {P = λ _. Unit {0}} exponent (λ e. scaled s (worth 0 l) (e -ℤ pos (length fraction)) place) (any exponent) (λ e _. scaled-carries s (worth 0 l) (e -ℤ pos (length fraction)) place))
-    where
-      any : {A : Type 0} (o : Out A) → Gives (λ _. Unit {0}) o
-      any (got a) = gives-got tt
-      any (no n p) = gives-no
+      gives-guard (not (empty l) && digits l) _ _ _ (omega arith)
+      (λ _. gives-bind exponent (λ e. scaled s (worth 0 l) (e -ℤ pos (length fraction)) place) h (λ e _. scaled-carries s (worth 0 l) (e -ℤ pos (length fraction)) place))
 
   decimal-carries : (s : Bool) (l : List ℕ) (place : ℕ) → Gives P (decimalOf s l place)
   unfolding decimalOf
   decimal-carries s l place =
       let r = behind isPoint l in
-      gives-guard (has isPoint l) _ _ _ (λ _. value-carries s (before isPoint l) (before (isLetter 101) r) (exponentIn r place) place)
+      gives-guard (has isPoint l) _ _ _ (omega arith)
+      (λ _. value-carries s (before isPoint l) (before (isLetter 101) r) (exponentIn r place) place (exponent-any r place))
 
   real-carries : (single : Bool) (o : Out Float) → Gives P o → Gives (Carries P) (realNumber single o)
   real-carries single o h = gives-bind o _ h (λ x k. gives-got (go single x k))
@@ -81,15 +94,11 @@ module _ (P : Float → Type 0) (rounded : (s : Bool) (a c : ℕ) → P (round b
   number-carries l place = gives-pick (has isPoint l)
       (λ _. gives-pick (isLetter 102 (lastOf l)) (λ _. real true (butLast l))
       (λ _. gives-pick (isLetter 100 (lastOf l)) (λ _. real false (butLast l))
-      (λ _. gives-pick (isDigit (lastOf l)) (λ _. real false l) (λ _. gives-no))))
-      (λ _. whole (wholeOf (negative (stem l)) (unsigned (stem l)) place))
+      (λ _. gives-pick (isDigit (lastOf l)) (λ _. real false l) (λ _. gives-no (omega arith)))))
+      (λ _. gives-bind (wholeOf (negative (stem l)) (unsigned (stem l)) place) _ (whole-any (negative (stem l)) (unsigned (stem l)) place) (λ z _. gives-got (suffixed-carries (lastOf l) z)))
     where
       real : (b : Bool) (k : List ℕ) → Gives (Carries P) (realNumber b (decimal k place))
       real b k = real-carries b (decimal k place) (decimal-carries (negative k) (unsigned k) place)
-
-      whole : (o : Out ℤ) → Gives (Carries P) (o >>= (λ z. got (suffixed (lastOf l) z)))
-      whole (got z) = gives-got (suffixed-carries (lastOf l) z)
-      whole (no n p) = gives-no
 
 -- ---- bits
 

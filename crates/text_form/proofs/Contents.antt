@@ -3,29 +3,29 @@
 use Prim.Native.Nat.{ℕ, zero, suc, _+_, _-_, _*_, _^_, _≤_, _<_}
 use mathlib.Core.Bool.{Bool, true, false, _&&_}
 use mathlib.Core.List.{List, [], _∷_}
-use mathlib.Core.Logic.{_⊎_, inl, inr}
+use mathlib.Core.Logic.{inl, inr}
 use mathlib.Core.Path.{_≡_, refl, ap, _∙_}
 use native.Mathlib.Omega.{arith}
 use native.Mathlib.Nat.{pow-suc, mul-assoc, mul-comm, mul-le-mul-right}
 use lib.Dec.{ltb, leb, eqb}
-use borrow.Author.Tests.{ltb-true, ltb-false, leb-true, leb-false, eqb-true}
+use borrow.Author.Tests.{ltb-true, ltb-false, leb-false, eqb-true}
 use lib.ListN.{drop}
 use Rattle.form.specs.Answer.{Out, got, no, pick, unknownEscape}
 use Rattle.form.specs.Spans.{part}
-use Rattle.form.specs.Strings.{IsScalar, AllScalar, WellFormed, encodeBy, scalarBytes, utf8Bytes}
+use Rattle.form.specs.Strings.{IsScalar, AllScalar, WellFormed, utf8Bytes}
 use Rattle.form.specs.Decoding.{Sequence, is, stuck, utf8Of}
 use Rattle.form.proofs.Coding.{SoundBy}
 use Rattle.form.proofs.Utf8 as utf8
-use Rattle.form.proofs.Picks.{pick-lt, pick-eq}
+use Rattle.form.proofs.Picks.{pick-eq}
 use Rattle.text_form.specs.Lexing.{among, Escape, stands, bad, cut, hexOf, hexes, unicode, escapeOf, Front, written, escaped, frontOf, scalarsBy, contentOf}
-use Rattle.text_form.proofs.Gives.{Gives, gives-got, gives-no, gives-bind, gives-pick, gives-weaker, gives-it}
+use Rattle.text_form.proofs.Gives.{Gives, gives-got, gives-no, gives-bind, gives-pick, gives-also, gives-it, gives-number}
 
 -- ---- escapes
 
--- An escape that stands for something stands for a scalar value.
-abbrev Stands : Escape → Type 0
+-- An escape stands for a scalar value, or has a refusal's number.
+abbrev pub Stands : Escape → Type 0
 Stands (stands c n) = IsScalar c
-Stands (bad n p) = Unit {0}
+Stands (bad n p) = 0 < n
 Stands cut = Unit {0}
 
 -- n more hexadecimal digits behind v stay below as many places.
@@ -38,23 +38,23 @@ next-digit v h m w l k =
 hexes-below : (n v : ℕ) (l : List ℕ) (p : ℕ) → Gives (λ w. w < (v + 1) * 16 ^ n) (hexes n v l p)
 unfolding hexes
 hexes-below zero v l p = gives-got (omega arith)
-hexes-below (suc n) v [] p = gives-no
+hexes-below (suc n) v [] p = gives-no (omega arith)
 hexes-below (suc n) v (b ∷ l) p =
     gives-pick (ltb (hexOf b) 16)
-    (λ e. gives-weaker (hexes n (v * 16 + hexOf b) l (p + 1)) (hexes-below n (v * 16 + hexOf b) l (p + 1)) (λ w k. rw (pow-suc 16 n) (next-digit v (hexOf b) (16 ^ n) w (ltb-true (hexOf b) 16 e) k)))
-    (λ e. gives-no)
+    (λ e. gives-also (hexes n (v * 16 + hexOf b) l (p + 1)) (hexes-below n (v * 16 + hexOf b) l (p + 1)) (λ w _ k. rw (pow-suc 16 n) (next-digit v (hexOf b) (16 ^ n) w (ltb-true (hexOf b) 16 e) k)))
+    (λ e. gives-no (omega arith))
 
 -- A scalar value below 65,536 is none of the surrogates.
 unicode-stands : (o : Out ℕ) (p : ℕ) → Gives (λ w. w < 65536) o → Stands (unicode o p)
 unicode-stands (got v) p h = go (leb 55296 v) (ltb v 57344) refl refl
   where
     go : (x y : Bool) → leb 55296 v ≡ x → ltb v 57344 ≡ y → Stands (pick (x && y) (bad unknownEscape p) (stands v 6))
-    go true true a b = tt
+    go true true a b = omega arith
     go true false a b = (inr (ltb-false v 57344 b), omega (arith, gives-it refl h))
     go false y a b = (inl (leb-false 55296 v a), omega (arith, gives-it refl h))
-unicode-stands (no n q) p h = tt
+unicode-stands (no n q) p h = gives-number refl h
 
-escape-stands : (l : List ℕ) (p : ℕ) → Stands (escapeOf l p)
+pub escape-stands : (l : List ℕ) (p : ℕ) → Stands (escapeOf l p)
 unfolding escapeOf among
 escape-stands [] p = tt
 escape-stands (b ∷ l) p =
@@ -65,7 +65,7 @@ escape-stands (b ∷ l) p =
     low c n h = (inl (omega arith), omega arith)
 
     plain : Stands (pick (eqb b 110) (stands 10 2) (pick (eqb b 114) (stands 13 2) (pick (eqb b 116) (stands 9 2) (bad unknownEscape p))))
-    plain = pick-eq Stands b 110 (λ e. low 10 2 (omega arith)) (λ _. pick-eq Stands b 114 (λ e. low 13 2 (omega arith)) (λ _. pick-eq Stands b 116 (λ e. low 9 2 (omega arith)) (λ _. tt)))
+    plain = pick-eq Stands b 110 (λ e. low 10 2 (omega arith)) (λ _. pick-eq Stands b 114 (λ e. low 13 2 (omega arith)) (λ _. pick-eq Stands b 116 (λ e. low 9 2 (omega arith)) (λ _. omega arith)))
 
     go : (x y z : Bool) → eqb b 34 ≡ x → eqb b 39 ≡ y → eqb b 92 ≡ z
         → Stands (pick (pick x true (pick y true (pick z true false))) (stands b 2)
@@ -83,16 +83,16 @@ Scalar x = IsScalar (x .scalar)
 
 written-scalar : (l : List ℕ) (r : Sequence) → SoundBy utf8Bytes l r → Gives Scalar (written r)
 written-scalar l (is c n) h = gives-got (h .0)
-written-scalar l stuck h = gives-no
+written-scalar l stuck h = gives-no (omega arith)
 
 escaped-scalar : (e : Escape) (p : ℕ) → Stands e → Gives Scalar (escaped e p)
 escaped-scalar (stands c n) p h = gives-got h
-escaped-scalar (bad n q) p h = gives-no
-escaped-scalar cut p h = gives-no
+escaped-scalar (bad n q) p h = gives-no h
+escaped-scalar cut p h = gives-no (omega arith)
 
 front-scalar : (q : Bool) (l : List ℕ) (p : ℕ) → Gives Scalar (frontOf q l p)
 unfolding frontOf
-front-scalar q [] p = gives-no
+front-scalar q [] p = gives-no (omega arith)
 front-scalar q (b ∷ l) p =
     gives-pick (q && eqb b 92) (λ _. escaped-scalar (escapeOf l p) p (escape-stands l p)) (λ _. written-scalar (b ∷ l) (utf8Of (b ∷ l)) (utf8.sound (b ∷ l)))
 
@@ -101,7 +101,7 @@ front-scalar q (b ∷ l) p =
 scalars-all : (f : ℕ) (q : Bool) (l : List ℕ) (p : ℕ) → Gives AllScalar (scalarsBy f q l p)
 unfolding scalarsBy
 scalars-all zero q [] p = gives-got tt
-scalars-all zero q (b ∷ l) p = gives-no
+scalars-all zero q (b ∷ l) p = gives-no (omega arith)
 scalars-all (suc f) q [] p = gives-got tt
 scalars-all (suc f) q (b ∷ l) p =
     gives-bind (frontOf q (b ∷ l) p) _ (front-scalar q (b ∷ l) p)

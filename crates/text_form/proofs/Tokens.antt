@@ -1,22 +1,23 @@
--- What the parser takes from a token: the double that a number carries is one of its format, and the next place lies in the text.
+-- What the parser takes from a token: the double that a number carries is one of its format, the token moves on and stays in the text, and
+-- its refusal has a number.
 -- Assumes nothing.
-use Prim.Native.Nat.{ℕ, _-_, _≤_}
+use Prim.Native.Nat.{ℕ, zero, suc, _+_, _-_, _≤_, _<_}
 use mathlib.Core.Bool.{Bool, true, false, _||_}
-use mathlib.Core.List.{List}
-use mathlib.Core.Path.{_≡_, refl, sym, _∙_}
+use mathlib.Core.List.{List, [], _∷_}
+use mathlib.Core.Path.{_≡_}
 use native.Mathlib.Omega.{arith}
 use lib.Dec.{leb, eqb}
-use borrow.Author.Tests.{leb-true, leb-false, le-leb}
-use lib.ListN.{length, getD}
+use lib.ListN.{length, getD, drop}
 use lib.Ieee.{binary64}
-use Rattle.form.specs.Answer.{Out, got, no, pick}
+use Rattle.form.specs.Answer.{Out, got, pick}
 use Rattle.form.specs.Spans.{part}
 use Rattle.text_form.specs.Numbers.{isDigit, number}
-use Rattle.text_form.specs.Lexing.{Stops, Token, openCurly, closedCurly, openSquare, closedSquare, comma, colon, semicolon, string, numeral, TokenData, Lexed, found, ended, word, unquoted, quoted, skip, unquotedAt, quotedAt, tokenBy, tokenAt}
+use Rattle.text_form.specs.Lexing.{Stops, Token, openCurly, closedCurly, openSquare, closedSquare, comma, colon, semicolon, string, numeral, Lexed, found, ended, word, begins, unquoted, Escape, stands, bad, cut, escapeOf, Quoted, onEscape, quotedBy, quoted, skip, unquotedAt, quotedAt, tokenBy, tokenAt}
 use Rattle.text_form.specs.Text.{Next, orElse, due}
-use Rattle.text_form.proofs.Gives.{Gives, gives-got, gives-no, gives-bind, gives-pick, gives-all, gives-weaker, gives-it}
+use Rattle.text_form.proofs.Gives.{Gives, Any, gives-got, gives-no, gives-bind, gives-pick, gives-also}
+use Rattle.text_form.proofs.Contents.{Stands, escape-stands}
 use Rattle.text_form.proofs.Carried.{Carries, Held, number-held}
-use Rattle.text_form.proofs.Moves.{skip-ge, token-moves}
+use Rattle.text_form.proofs.Moves.{token-moves}
 
 -- A number token carries what its format holds.
 abbrev pub TokenHeld : Token → Type 0
@@ -45,9 +46,27 @@ module _ (t : List ℕ) where
           (λ _. gives-bind (number (part t i (e - i)) i) _ (number-held (part t i (e - i)) i) (λ n h. gives-got h))
           (λ _. gives-got tt)
 
+  escape-any : (k : ℕ → Out Quoted) (start : ℕ) (e : Escape) → Stands e → ((n : ℕ) → Gives Any (k n)) → Gives Any (onEscape k start e)
+  escape-any k start (stands c n) h f = f n
+  escape-any k start (bad n p) h f = gives-no h
+  escape-any k start cut h f = gives-no (omega arith)
+
+  quoted-any : (f start q : ℕ) (l : List ℕ) (i w : ℕ) → Gives Any (quotedBy f start q l i w)
+  unfolding quotedBy
+  quoted-any zero start q l i w = gives-no (omega arith)
+  quoted-any (suc f) start q [] i w = gives-no (omega arith)
+  quoted-any (suc f) start q (b ∷ l) i w =
+      gives-pick (eqb b q) (λ _. gives-got tt)
+      (λ _. go (eqb b 92) (λ n. quotedBy f start q (drop n (b ∷ l)) (i + n) (w + pick (eqb b 92) n (begins b)))
+      (λ n. quoted-any f start q (drop n (b ∷ l)) (i + n) (w + pick (eqb b 92) n (begins b))))
+    where
+      go : (x : Bool) (k : ℕ → Out Quoted) → ((n : ℕ) → Gives Any (k n)) → Gives Any (onEscape k start (pick x (escapeOf l i) (stands b 1)))
+      go true k h = escape-any k start (escapeOf l i) (escape-stands l i) h
+      go false k h = h 1
+
   quoted-held : (i : ℕ) → Gives LexedHeld (quotedAt t i)
-  unfolding quotedAt
-  quoted-held i = gives-bind (quoted t i) _ (gives-all {P = λ _. Unit {0}} (quoted t i) (λ _ _. tt)) (λ r _. gives-got tt)
+  unfolding quotedAt quoted
+  quoted-held i = gives-bind (quoted t i) _ (quoted-any (suc (length t)) i (getD t i 0) (drop (i + 1) t) (i + 1) 1) (λ r _. gives-got tt)
 
   by-held : (set : Stops) (i b : ℕ) → Gives LexedHeld (tokenBy set t i b)
   unfolding tokenBy
@@ -61,45 +80,30 @@ module _ (t : List ℕ) where
       (λ _. gives-pick (eqb b 125) (λ _. gives-got tt)
       (λ _. gives-pick (eqb b 34 || eqb b 39) (λ _. quoted-held i) (λ _. unquoted-held set i))))))))
 
-  -- Behind the text's end there is no token.
-  none-behind : (set : Stops) (p : ℕ) → length t ≤ p → tokenAt set t p ≡ got (ended (length t))
-  unfolding tokenAt
-  none-behind set p h = rw (le-leb (length t) (skip t p) (omega (arith, skip-ge t p))) refl
+  -- A token from p on as the parser takes it: it moves on, and stays within the text.
+  abbrev pub LexedFine : ℕ → Lexed → Type 0
+  LexedFine p (found d n) = TokenHeld (d .token) × (p < n) × (n ≤ length t)
+  LexedFine p (ended q) = Unit {0}
 
-  -- A token as the parser takes it.
-  abbrev pub LexedFine : Lexed → Type 0
-  LexedFine (found d n) = TokenHeld (d .token) × (n ≤ length t)
-  LexedFine (ended p) = Unit {0}
-
-  pub token-fine : (set : Stops) (p : ℕ) → Gives LexedFine (tokenAt set t p)
+  pub token-fine : (set : Stops) (p : ℕ) → p ≤ length t → Gives (LexedFine p) (tokenAt set t p)
   unfolding tokenAt
-  token-fine set p = gives-all (tokenAt set t p) go
+  token-fine set p l = gives-also (tokenAt set t p) held go
     where
-      found-not-ended : {d : TokenData} {n q : ℕ} → found d n ≡ ended q → ⊥
-      found-not-ended e = let z : _≡_ {A = ℕ} 0 1 = cc in omega arith
-
-      inner : {x y : Lexed} → got x ≡ got y → x ≡ y
-      inner e = cc e
-
       held : Gives LexedHeld (tokenAt set t p)
       held = gives-pick (leb (length t) (skip t p)) (λ _. gives-got tt) (λ _. by-held set (skip t p) (getD t (skip t p) 0))
 
-      within : (d : TokenData) (n : ℕ) → tokenAt set t p ≡ got (found d n) → (b : Bool) → leb p (length t) ≡ b → n ≤ length t
-      within d n e true l = token-moves set t p d n e (leb-true p (length t) l) .2
-      within d n e false l = absurd (found-not-ended (inner (sym e ∙ none-behind set p (omega (arith, leb-false p (length t) l)))))
+      go : (x : Lexed) → tokenAt set t p ≡ got x → LexedHeld x → LexedFine p x
+      go (found d n) e h = let m = token-moves set t p d n e l in (h, omega (arith, m .0, m .1), m .2)
+      go (ended q) e h = tt
 
-      go : (x : Lexed) → tokenAt set t p ≡ got x → LexedFine x
-      go (found d n) e = (gives-it e held, within d n e (leb p (length t)) refl)
-      go (ended q) e = tt
+  -- A token that is due at p.
+  abbrev pub NextFine : ℕ → Next → Type 0
+  NextFine p x = TokenHeld (x .td .token) × (p < x .next) × (x .next ≤ length t)
 
-  -- A token that is due.
-  abbrev pub NextFine : Next → Type 0
-  NextFine x = TokenHeld (x .td .token) × (x .next ≤ length t)
+  pub or-fine : (p : ℕ) (x : Lexed) (n q : ℕ) → 0 < n → LexedFine p x → Gives (NextFine p) (orElse x n q)
+  or-fine p (found d m) n q o h = gives-got h
+  or-fine p (ended r) n q o h = gives-no o
 
-  pub or-fine : (x : Lexed) (n p : ℕ) → LexedFine x → Gives NextFine (orElse x n p)
-  or-fine (found d m) n p h = gives-got h
-  or-fine (ended q) n p h = gives-no
-
-  pub due-fine : (room : ℕ) (set : Stops) (p n q : ℕ) → Gives NextFine (due t room set p n q)
+  pub due-fine : (room : ℕ) (set : Stops) (p n q : ℕ) → 0 < n → p ≤ length t → Gives (NextFine p) (due t room set p n q)
   unfolding due
-  due-fine room set p n q = gives-bind (tokenAt set t p) _ (token-fine set p) (λ x h. or-fine x n q h)
+  due-fine room set p n q o l = gives-bind (tokenAt set t p) _ (token-fine set p l) (λ x h. or-fine p x n q o h)
