@@ -96,6 +96,7 @@ apart-entry earlier n tag es new a = ((λ x e. go x e (same n x) refl), a n (rw 
 
 -- ---- arrays
 
+-- The widths of elements.
 abbrev Width : ℕ → Type 0
 Width w = (w ≡ 1) ⊎ ((w ≡ 4) ⊎ (w ≡ 8))
 
@@ -104,10 +105,12 @@ by-width P w (inl e) a b c = subst P (sym e) a
 by-width P w (inr (inl e)) a b c = subst P (sym e) b
 by-width P w (inr (inr e)) a b c = subst P (sym e) c
 
+-- An element takes its width.
 ints-length : (w : ℕ) (z : ℤ) (vs : List ℤ) → length (intsBytes w (z ∷ vs)) ≡ w + length (intsBytes w vs)
 unfolding intsBytes
 ints-length w z vs = omega (arith, length-append (intBytes w z) (intsBytes w vs), digits-length w (bitsOf w z))
 
+-- An array of elements that fit takes four bytes and its elements.
 array-leaf : (w : ℕ) → Width w → (vs : List ℤ) → Array w vs → Leaf (arrayTag w vs) × (length (payload (arrayTag w vs)) ≡ 4 + length (intsBytes w vs))
 unfolding Valid depth payload
 array-leaf w h vs = by-width (λ w. Array w vs → Leaf (arrayTag w vs) × (length (payload (arrayTag w vs)) ≡ 4 + length (intsBytes w vs))) w h
