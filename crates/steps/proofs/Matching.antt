@@ -1,12 +1,14 @@
 -- The matcher, case by case: what is left of the steps and of the path, and what is answered there.
 -- Assumes nothing.
 use Prim.Native.Nat.{ℕ, _+_, _-_, _≤_, _<_}
-use mathlib.Core.Path.{_≡_, sym, ap, _∙_}
+use mathlib.Core.Path.{_≡_, refl, sym, ap, subst, _∙_}
 use mathlib.Core.List.{List, [], _∷_}
-use mathlib.Core.Bool.{true, false}
+use mathlib.Core.Bool.{Bool, true, false}
+use lib.Dec.{leb}
+use borrow.Author.Tests.{leb-true, leb-false}
 use Rattle.form.specs.Paths.{Hop, Step, takes, fits}
 use Rattle.steps.specs.Steps.{span}
-use Rattle.steps.specs.Three.{isDeep, lastFits, deepen, stepOn, fitOf, levelOn, goesOn, isFits}
+use Rattle.steps.specs.Three.{isDeep, settle, lastFits, deepen, stepOn, fitOf, levelOn, goesOn, isFits}
 use Rattle.steps.specs.declared.Fit.{Fit}
 use Rattle.steps.specs.declared.Fit.the-variants.{Fits, NotHere, Nowhere}
 use Rattle.steps.proofs.Runs.{span-more, span-none}
@@ -48,13 +50,13 @@ module _ (f : ℕ → Step) (g : ℕ → Hop) (m s n p : ℕ) where
     deep-is l = rw (span-more f s m h, d) (ap (λ ss. lastFits ss (deepen (fitOf (span f (s + 1) (m - (s + 1)))) (span g p (n - p)))) (span-more f (s + 1) m l))
 
     module _ (l : s + 1 < m) where
-      pub deep-fits : (r : Fit) → r ≡ fitOf (span f (s + 1) (m - (s + 1))) (span g p (n - p)) → r ≡ Fits → Fits ≡ fitOf (span f s (m - s)) (span g p (n - p))
+      deep-fits : (r : Fit) → r ≡ fitOf (span f (s + 1) (m - (s + 1))) (span g p (n - p)) → r ≡ Fits → Fits ≡ fitOf (span f s (m - s)) (span g p (n - p))
       deep-fits r e k = deepen-fits (fitOf (span f (s + 1) (m - (s + 1)))) (span g p (n - p)) (sym k ∙ e) ∙ sym (deep-is l)
 
-      pub deep-nowhere : (r : Fit) → r ≡ fitOf (span f (s + 1) (m - (s + 1))) (span g p (n - p)) → r ≡ Nowhere → Nowhere ≡ fitOf (span f s (m - s)) (span g p (n - p))
+      deep-nowhere : (r : Fit) → r ≡ fitOf (span f (s + 1) (m - (s + 1))) (span g p (n - p)) → r ≡ Nowhere → Nowhere ≡ fitOf (span f s (m - s)) (span g p (n - p))
       deep-nowhere r e k = deepen-nowhere (fitOf (span f (s + 1) (m - (s + 1)))) (span g p (n - p)) (sym k ∙ e) ∙ sym (deep-is l)
 
-      pub deep-last : (r : Fit) → r ≡ fitOf (span f (s + 1) (m - (s + 1))) (span g p (n - p)) → r ≡ NotHere → n ≤ p → Nowhere ≡ fitOf (span f s (m - s)) (span g p (n - p))
+      deep-last : (r : Fit) → r ≡ fitOf (span f (s + 1) (m - (s + 1))) (span g p (n - p)) → r ≡ NotHere → n ≤ p → Nowhere ≡ fitOf (span f s (m - s)) (span g p (n - p))
       unfolding deepen
       deep-last r e i k =
           let x : NotHere ≡ fitOf (span f (s + 1) (m - (s + 1))) [] = rw (span-none g p n k) at (sym i ∙ e) in
@@ -70,6 +72,21 @@ module _ (f : ℕ → Step) (g : ℕ → Hop) (m s n p : ℕ) where
         where
           deep-next : p < n → fitOf (span f s (m - s)) (span g (p + 1) (n - (p + 1))) ≡ deepen (fitOf (span f (s + 1) (m - (s + 1)))) (span g (p + 1) (n - (p + 1)))
           deep-next k = unfold fitOf in (rw (span-more f s m h, d) (ap (λ ss. lastFits ss (deepen (fitOf (span f (s + 1) (m - (s + 1)))) (span g (p + 1) (n - (p + 1))))) (span-more f (s + 1) m l)))
+
+      -- What each answer of `settle` says.
+      abbrev pub Settled : Fit → Fit → Type 0
+      Settled r Fits = Fits ≡ fitOf (span f s (m - s)) (span g p (n - p))
+      Settled r Nowhere = Nowhere ≡ fitOf (span f s (m - s)) (span g p (n - p))
+      Settled r NotHere = (r ≡ NotHere) × (p < n)
+
+      settles : (r : Fit) → r ≡ fitOf (span f (s + 1) (m - (s + 1))) (span g p (n - p)) → (b : Bool) → leb n p ≡ b → Settled r (settle r b)
+      settles Fits e b k = deep-fits Fits e refl
+      settles Nowhere e b k = deep-nowhere Nowhere e refl
+      settles NotHere e true k = deep-last NotHere e refl (leb-true n p k)
+      settles NotHere e false k = (refl, leb-false n p k)
+
+      pub deep-settled : (r : Fit) → r ≡ fitOf (span f (s + 1) (m - (s + 1))) (span g p (n - p)) → (x : Fit) → x ≡ settle r (leb n p) → {y : Fit} → x ≡ y → Settled r y
+      deep-settled r e x i k = subst (Settled r) (sym i ∙ k) (settles r e (leb n p) refl)
 
   -- ---- a step that takes one level
 

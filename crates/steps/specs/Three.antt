@@ -25,6 +25,12 @@ orLater Fits l = Fits
 orLater NotHere l = l
 orLater Nowhere l = Nowhere
 
+-- The same before the level one on is asked, where `last` is whether the path ends here: NotHere is to ask it.
+abbrev pub settle : Fit → Bool → Fit
+settle Fits last = Fits
+settle NotHere last = pick last Nowhere NotHere
+settle Nowhere last = Nowhere
+
 unfoldable pub deepen : (List Hop → Fit) → List Hop → Fit
 deepen rest [] = atEnd (rest [])
 deepen rest (h ∷ hs) = orLater (rest (h ∷ hs)) (deepen rest hs)

@@ -4,13 +4,14 @@ ghost use mathlib.Core.Path.{_≡_};
 ghost use mathlib.Core.Bool.{false};
 ghost use Prim.Native.Nat.{_+_, _*_, _≤_, _<_};
 ghost use lib.ListN.{length};
+ghost use lib.Dec.{leb};
 ghost use Rattle.form.specs.Spans.{part, same};
 ghost use Rattle.form.specs.Paths.{takes, fits};
 ghost use Rattle.form.specs.Query.{blamed, stepBy, stepAt};
 ghost use Rattle.steps.specs.Steps.{stepOf, stepsFrom, NameIn};
 ghost use Rattle.steps.specs.Spelling.{Reads, TakenIs};
 ghost use Rattle.steps.specs.Levels.{recordNo, indexNo, nameOf, hopTo, hopNo, hopsFrom, RecordIn, LevelIn, Ready};
-ghost use Rattle.steps.specs.Three.{fitOf, goesOn};
+ghost use Rattle.steps.specs.Three.{settle, fitOf, goesOn};
 
 // The kinds of step, by their first byte.
 const NAME: u8 = 1;
@@ -282,6 +283,22 @@ enum Fit {
     Nowhere,
 }
 
+// What 04 makes of what the rest answers at level p of d: not here means nowhere at the path's end, and else that a later level is to be tried.
+fn settled(here: Fit, d: usize, p: usize) -> Fit
+    ensures { λ r. ⌜ r ≡ settle here (leb d p) ⌝ }
+{
+    match here {
+        Fit::Fits => Fit::Fits,
+        Fit::Nowhere => Fit::Nowhere,
+        Fit::NotHere => {
+            if d <= p {
+                return Fit::Nowhere;
+            }
+            Fit::NotHere
+        }
+    }
+}
+
 // Path matching recurses on steps and path left; their sum falls, and step 04 branches twice. The answer Nowhere stops every 04 before it,
 // so that no part of the path is tried again for each of them.
 fn matched(
@@ -305,20 +322,14 @@ fn matched(
         return Fit::NotHere;
     }
     let step = query.steps[s];
-    let kind = step.kind;
-    if kind == DEEP {
+    if step.kind == DEEP {
         if count <= s + 1 {
             return Fit::Fits;
         }
-        match matched(doc, table, q, query, trail, d, s + 1, p) {
+        match settled(matched(doc, table, q, query, trail, d, s + 1, p), d, p) {
             Fit::Fits => return Fit::Fits,
             Fit::Nowhere => return Fit::Nowhere,
-            Fit::NotHere => {
-                if d <= p {
-                    return Fit::Nowhere;
-                }
-                return matched(doc, table, q, query, trail, d, s, p + 1);
-            }
+            Fit::NotHere => return matched(doc, table, q, query, trail, d, s, p + 1),
         }
     }
     if d <= p {
