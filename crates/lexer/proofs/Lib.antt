@@ -1,0 +1,5 @@
+pub mod Among
+pub mod Scans
+pub mod Slurps
+pub mod Finds
+pub mod Quiet

@@ -1,0 +1,187 @@
+-- Rule 11's walk, for the loop that makes it: a byte at a time, or a run of ordinary characters at once.
+-- Assumes nothing.
+use Prim.Native.Nat.{ℕ, zero, suc, _+_, _-_, _≤_, _<_}
+use mathlib.Core.Path.{_≡_, refl, sym, ap, _∙_}
+use mathlib.Core.Bool.{Bool, true, false, not, _&&_}
+use mathlib.Core.List.{List}
+use mathlib.Core.Logic.{_⊎_, inl, inr}
+use native.Mathlib.Nat.{eq-or-lt-of-le}
+use native.Mathlib.Omega.{arith}
+use borrow.Author.Tests.{lt-ltb, ne-eqb}
+use lib.Dec.{ltb, eqb}
+use lib.ListN.{length, getD, drop, drop-of-length-le}
+use Rattle.form.specs.Answer.{pick}
+use Rattle.form.proofs.Drops.{drop1}
+use Rattle.text_form.specs.Lexing.{Stops, default, key, value, first, later, Scan, among, blank, begins, stopSet, within, stops, level, grown, after, wordOf, slurp, begun, word, skipBy, skip}
+use Rattle.text_form.proofs.Moves.{either-way}
+use Rattle.lexer.specs.Runs.{Ordinary, Run, Bounded, extended}
+
+-- ---- the numbers stay small
+
+pub begins-le : (b : ℕ) → begins b ≤ 1
+begins-le b = either-way (λ (n : ℕ). n ≤ 1) (ltb b 128) (omega arith) (either-way (λ (n : ℕ). n ≤ 1) (ltb b 192) (omega arith) (omega arith))
+
+module _ (i : ℕ) where
+  abbrev Below : ℕ → Type 0
+  Below n = n ≤ i + 1
+
+  level-kept : (s : Scan) (opening closing b n : ℕ) → n ≤ i → Below (level s opening closing b n)
+  level-kept s opening closing b n h =
+      either-way Below (within s) (omega arith) (either-way Below (eqb b opening) (omega arith) (either-way Below (eqb b closing) (omega arith) (omega arith)))
+
+  grown-kept : (s : Scan) (b : ℕ) → Bounded s i → Bounded (grown s b i) (i + 1)
+  grown-kept s b h = record {
+    curly = level-kept s 123 125 b (s .curly) (h .curly);
+    square = level-kept s 91 93 b (s .square) (h .square);
+    end = either-way Below (blank b) (omega (arith, h .end)) (omega arith);
+    width = either-way Below (blank b) (omega (arith, h .width)) (omega (arith, h .width, begins-le b));
+  }
+
+  pub after-kept : (s : Scan) (b : ℕ) → Bounded s i → Bounded (after s b i) (i + 1)
+  unfolding after
+  after-kept s b h =
+      let P : Scan → Type 0 = λ (s′ : Scan). Bounded s′ (i + 1) in
+      let same : (x y z : Bool) → P (record { curly = s .curly; square = s .square; single = x; double = y; escape = z; end = s .end; width = s .width }) = λ (x : Bool) (y : Bool) (z : Bool). record {
+        curly = omega (arith, h .curly);
+        square = omega (arith, h .square);
+        end = omega (arith, h .end);
+        width = omega (arith, h .width);
+      } in
+      either-way P (eqb b 92) (same _ _ _) (either-way P (eqb b 39) (same _ _ _) (either-way P (eqb b 34) (same _ _ _) (grown-kept s b h)))
+
+  pub run-kept : (s : Scan) (j : ℕ) → Bounded s i → i ≤ j → Bounded (extended s (j - i) j) j
+  run-kept s j h k = record {
+    curly = omega (arith, h .curly);
+    square = omega (arith, h .square);
+    end = omega arith;
+    width = omega (arith, h .width);
+  }
+
+-- ---- an ordinary character
+
+module _ (b : ℕ) (o : Ordinary b) where
+  no-stop : (set : Stops) → among (stopSet set) b ≡ false
+  unfolding among
+  no-stop default = simp (ne-eqb b 44 (λ e. omega (arith, o .low, e)), ne-eqb b 59 (o .semicolon), ne-eqb b 91 (o .opening), ne-eqb b 93 (o .closing), ne-eqb b 123 (λ e. omega (arith, o .high, e)), ne-eqb b 125 (λ e. omega (arith, o .high, e)))
+  no-stop key = simp (ne-eqb b 58 (o .colon))
+  no-stop value = simp (ne-eqb b 44 (λ e. omega (arith, o .low, e)), ne-eqb b 125 (λ e. omega (arith, o .high, e)))
+  no-stop first = simp (ne-eqb b 44 (λ e. omega (arith, o .low, e)), ne-eqb b 59 (o .semicolon), ne-eqb b 93 (o .closing))
+  no-stop later = simp (ne-eqb b 44 (λ e. omega (arith, o .low, e)), ne-eqb b 93 (o .closing))
+
+  not-blank : blank b ≡ false
+  unfolding among
+  not-blank = simp (ne-eqb b 9 (λ e. omega (arith, o .low, e)), ne-eqb b 10 (λ e. omega (arith, o .low, e)), ne-eqb b 12 (λ e. omega (arith, o .low, e)), ne-eqb b 13 (λ e. omega (arith, o .low, e)), ne-eqb b 32 (λ e. omega (arith, o .low, e)))
+
+  -- it ends no token
+  ordinary-passes : (set : Stops) (s : Scan) → stops set s b ≡ false
+  ordinary-passes set s = rw (no-stop set) (go (not (within s)) (eqb (s .curly) 0) (eqb (s .square) 0))
+    where
+      go : (x y z : Bool) → (x && (y && (z && false))) ≡ false
+      go true true true = refl
+      go true true false = refl
+      go true false z = refl
+      go false y z = refl
+
+  -- it changes no level
+  no-brace : (s : Scan) (opening closing n : ℕ) → (b ≡ opening → ⊥) → (b ≡ closing → ⊥) → level s opening closing b n ≡ n
+  no-brace s opening closing n x y = rw (ne-eqb b opening x, ne-eqb b closing y) (go (within s))
+    where
+      go : (t : Bool) → pick t n n ≡ n
+      go true = refl
+      go false = refl
+
+  -- it extends the token by a byte and a character, and ends a backslash's effect
+  ordinary-grows : (s : Scan) (i : ℕ) → after s b i ≡ extended s 1 (i + 1)
+  unfolding after
+  ordinary-grows s i =
+      rw (
+        ne-eqb b 92 (o .backslash),
+        ne-eqb b 39 (λ e. omega (arith, o .low, e)),
+        ne-eqb b 34 (λ e. omega (arith, o .low, e)),
+        no-brace s 123 125 (s .curly) (λ e. omega (arith, o .high, e)) (λ e. omega (arith, o .high, e)),
+        no-brace s 91 93 (s .square) (o .opening) (o .closing),
+        not-blank,
+        lt-ltb b 128 (omega (arith, o .high)),
+      ) refl
+
+-- ---- a run of them, one by one
+
+module _ (t : List ℕ) (from : ℕ) where
+  pub run-none : from ≤ length t → Run t from from
+  run-none h = record { low = omega arith; high = h; each = λ k x y. absurd (omega (arith, x, y)) }
+
+  pub run-more : (to : ℕ) → Run t from to → to < length t → Ordinary (getD t to 0) → Run t from (to + 1)
+  run-more to r h o = record { low = omega (arith, r .low); high = omega arith; each = λ k x y. go k x (eq-or-lt-of-le (below k y)) }
+    where
+      below : (k : ℕ) → k < to + 1 → k ≤ to
+      below k y = omega (arith, y)
+
+      go : (k : ℕ) → from ≤ k → (k ≡ to) ⊎ (k < to) → Ordinary (getD t k 0)
+      go k x (inl e) = rw e o
+      go k x (inr y) = r .each k x y
+
+-- ---- the walk from a place
+
+module _ (set : Stops) (t : List ℕ) where
+  slurp-stop : (i : ℕ) (s : Scan) → i < length t → stops set s (getD t i 0) ≡ true → slurp set (drop i t) s i ≡ wordOf s i
+  unfolding slurp
+  slurp-stop i s h e = rw (drop1 t i h, e) refl
+
+  slurp-on : (i : ℕ) (s : Scan) → i < length t → stops set s (getD t i 0) ≡ false → slurp set (drop i t) s i ≡ slurp set (drop (i + 1) t) (after s (getD t i 0) i) (i + 1)
+  unfolding slurp
+  slurp-on i s h e = rw (drop1 t i h, e) refl
+
+  run-one : (i j : ℕ) (s : Scan) → i < j → Run t i j → slurp set (drop i t) s i ≡ slurp set (drop (i + 1) t) (extended s 1 (i + 1)) (i + 1)
+  run-one i j s h r =
+      let o : Ordinary (getD t i 0) = r .each i (omega arith) h in
+      slurp-on i s (omega (arith, r .high)) (ordinary-passes (getD t i 0) o set s)
+      ∙ ap (λ (x : Scan). slurp set (drop (i + 1) t) x (i + 1)) (ordinary-grows (getD t i 0) o s i)
+
+  -- taking a run of ordinary characters is adding its length
+  slurp-run : (n i j : ℕ) (s : Scan) → j ≡ i + suc n → Run t i j → slurp set (drop i t) s i ≡ slurp set (drop j t) (extended s (suc n) j) j
+  slurp-run zero i j s e r = let z : j ≡ i + 1 = omega (arith, e) in rw z (run-one i j s (omega (arith, e)) r)
+  slurp-run (suc n) i j s e r =
+      run-one i j s (omega (arith, e)) r
+      ∙ slurp-run n (i + 1) j (extended s 1 (i + 1)) (omega (arith, e)) (record { low = omega (arith, e); high = r .high; each = λ k x y. r .each k (omega (arith, x)) y })
+      ∙ ap (λ (w : ℕ). slurp set (drop j t) (record { curly = s .curly; square = s .square; single = s .single; double = s .double; escape = false; end = j; width = w }) j) (omega arith)
+
+  module _ (start : ℕ) where
+    -- From a place on the walk gives the token.
+    abbrev pub Going : Scan → ℕ → Type 0
+    Going s i = slurp set (drop i t) s i ≡ word set t start
+
+    pub going-start : Going (begun start) (start + 1)
+    unfolding word
+    going-start = refl
+
+    pub going-run : (i j : ℕ) (s : Scan) → i < j → Run t i j → Going s i → Going (extended s (j - i) j) j
+    going-run i j s h r g = go (j - i) (omega arith) (omega arith)
+      where
+        go : (m : ℕ) → j ≡ i + m → 0 < m → Going (extended s m j) j
+        go zero e k = absurd (omega arith)
+        go (suc n) e k = sym (slurp-run n i j s e r) ∙ g
+
+    pub going-on : (i : ℕ) (s : Scan) → i < length t → stops set s (getD t i 0) ≡ false → Going s i → Going (after s (getD t i 0) i) (i + 1)
+    going-on i s h e g = sym (slurp-on i s h e) ∙ g
+
+    pub going-stop : (i : ℕ) (s : Scan) → i < length t → stops set s (getD t i 0) ≡ true → Going s i → wordOf s i ≡ word set t start
+    going-stop i s h e g = sym (slurp-stop i s h e) ∙ g
+
+    pub going-end : (i : ℕ) (s : Scan) → length t ≤ i → Going s i → wordOf s i ≡ word set t start
+    unfolding slurp
+    going-end i s h g = rw (drop-of-length-le t {i = i} h) at g
+
+-- ---- blanks
+
+module _ (t : List ℕ) (i : ℕ) where
+  pub skip-more : i < length t → blank (getD t i 0) ≡ true → skip t i ≡ skip t (i + 1)
+  unfolding skip skipBy
+  skip-more h e = rw (drop1 t i h, e) refl
+
+  pub skip-stop : i < length t → blank (getD t i 0) ≡ false → skip t i ≡ i
+  unfolding skip skipBy
+  skip-stop h e = rw (drop1 t i h, e) refl
+
+  pub skip-end : length t ≤ i → skip t i ≡ i
+  unfolding skip skipBy
+  skip-end h = rw (drop-of-length-le t {i = i} h) refl

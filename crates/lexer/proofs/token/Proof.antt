@@ -1,0 +1,35 @@
+-- `token` meets its contract: the text's own refusal, then the place's, then the token.
+-- Assumes nothing.
+use mathlib.Core.Path.{ap}
+use borrow.Author.Needs.{needs}
+use Rattle.quotes.specs.Answers.{textOut}
+use Rattle.tokens.specs.Answers.{stopsIs}
+use Rattle.lexer.proofs.Finds.{text-refused, off-character, on-a-character, place-within}
+use Rattle.lexer.proofs.token.Statement.{statement}
+use Rattle.lexer.proofs.token.Tie as tie
+
+pub token-spec : {M : Type 1} → statement M
+token-spec =
+    tie.close
+    (tie.spec
+    (λ c κs. search needs)
+    (λ c. search needs)
+    (λ c. search needs)
+    (λ c κs. search needs)
+    (λ c κs.
+    let a = c .before .before .before .before .before .before .args in
+    place-within (a .text .now) (a .start) _ (c .before .on-character .ensures) (c .if1 .taken))
+    (λ c.
+    let o = c .before .before in
+    let j = o .before .before .before in
+    let a = j .before .before .args in
+    on-a-character (stopsIs (a .set)) (a .text .now) (a .start) _ (j .judged-text .ensures) (ap textOut (o .before .enum-told .given .1)) _ (o .on-character .ensures) _ (c .before .if1 .taken) (c .token-at .ensures))
+    (λ c.
+    let j = c .before .before .before in
+    let a = j .before .before .args in
+    text-refused (stopsIs (a .set)) (a .text .now) (a .start) _ (j .judged-text .ensures) _ 0 (ap textOut (c .before .number .given .1)))
+    (λ c.
+    let o = c .before in
+    let j = o .before .before .before in
+    let a = j .before .before .args in
+    off-character (stopsIs (a .set)) (a .text .now) (a .start) _ (j .judged-text .ensures) (ap textOut (o .before .enum-told .given .1)) _ (o .on-character .ensures) (c .if1 .left)))

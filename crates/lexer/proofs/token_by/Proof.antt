@@ -1,0 +1,38 @@
+-- `token_by` meets its contract: each arm is the definition's case of its byte.
+-- Assumes nothing.
+use borrow.Author.Needs.{needs}
+use Rattle.text_form.specs.Lexing.{tokenBy}
+use Rattle.tokens.specs.Answers.{stopsIs}
+use Rattle.lexer.proofs.Finds.{by-quote, by-word}
+use Rattle.lexer.proofs.token_by.Statement.{statement}
+use Rattle.lexer.proofs.token_by.Tie as tie
+
+pub token-by-spec : {M : Type 1} → statement M
+token-by-spec =
+    tie.close
+    (tie.spec
+    (λ c. search needs)
+    (λ c κs. search needs)
+    (λ c. search needs)
+    (λ c κs. search needs)
+    (λ c. search needs)
+    (λ c κs. search needs)
+    (λ c. search needs)
+    (λ c κs. search needs)
+    (λ c. search needs)
+    (λ c κs. search needs)
+    (λ c. search needs)
+    (λ c κs. search needs)
+    (λ c. search needs)
+    (λ c κs. search needs)
+    (λ c κs. search needs)
+    (λ c κs. search needs)
+    (λ c. unfold tokenBy in rw (c .before .match .keys1) (c .found .ensures))
+    (λ c. unfold tokenBy in rw (c .before .match .keys2) (c .found2 .ensures))
+    (λ c. unfold tokenBy in rw (c .before .match .keys3) (c .found3 .ensures))
+    (λ c. unfold tokenBy in rw (c .before .match .keys4) (c .found4 .ensures))
+    (λ c. unfold tokenBy in rw (c .before .match .keys5) (c .found5 .ensures))
+    (λ c. unfold tokenBy in rw (c .before .match .keys6) (c .found6 .ensures))
+    (λ c. unfold tokenBy in rw (c .before .match .keys7) (c .found7 .ensures))
+    (λ c. let a = c .before .before .before .args in by-quote (stopsIs (a .set)) (a .text .now) (a .i) (a .b) _ (c .before .match .keys8) (c .quoted-found .ensures))
+    (λ c. let a = c .before .before .before .args in by-word (stopsIs (a .set)) (a .text .now) (a .i) (a .b) _ (c .before .match .rest .0 .0 .0 .0 .0 .0 .0 .1) (c .before .match .rest .0 .0 .0 .0 .0 .0 .1) (c .before .match .rest .0 .0 .0 .0 .0 .1) (c .before .match .rest .0 .0 .0 .0 .1) (c .before .match .rest .0 .0 .0 .1) (c .before .match .rest .0 .0 .1) (c .before .match .rest .0 .1) (c .before .match .rest .1) (c .unquoted-at .ensures)))

@@ -1,0 +1,33 @@
+-- `unquoted_at` meets its contract: rule 11's span, which is a number or a string by its first byte.
+-- Assumes nothing.
+use borrow.Author.Needs.{needs}
+use Rattle.tokens.specs.Answers.{stopsIs}
+use Rattle.lexer.specs.Answers.{wordIs}
+use Rattle.lexer.proofs.Finds.{reaches, unquoted-number, unquoted-string}
+use Rattle.lexer.proofs.unquoted_at.Statement.{statement}
+use Rattle.lexer.proofs.unquoted_at.Tie as tie
+
+pub unquoted-at-spec : {M : Type 1} → statement M
+unquoted-at-spec =
+    tie.close
+    (tie.spec
+    (λ c κs. search needs)
+    (λ c. search needs)
+    (λ c κs. search needs)
+    (λ c κs.
+    let v = c .before .before .before in
+    let s = v .before .before in
+    let a = s .args in
+    reaches (stopsIs (a .set)) (a .text .now) (a .i) (wordIs (v .word-at .result)) (v .word-at .ensures) (s .pre))
+    (λ c κs. search needs)
+    (λ c.
+    let o = c .before .before .before in
+    let v = o .before .before in
+    let a = v .before .before .args in
+    unquoted-number (stopsIs (a .set)) (a .text .now) (a .i) (wordIs (v .word-at .result)) (v .word-at .ensures) _ _ (o .opens-number .ensures) _ (c .before .before .if1 .taken) (c .before .number-at .ensures) (c .numeral-found .ensures))
+    (λ c κs. search needs)
+    (λ c.
+    let o = c .before .before in
+    let v = o .before .before in
+    let a = v .before .before .args in
+    unquoted-string (stopsIs (a .set)) (a .text .now) (a .i) (wordIs (v .word-at .result)) (v .word-at .ensures) _ _ (o .opens-number .ensures) (c .before .if1 .left) (c .found .ensures)))

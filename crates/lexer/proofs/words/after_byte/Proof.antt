@@ -1,0 +1,19 @@
+-- `after_byte` meets its contract: a backslash, a quote of either sort, or any other byte.
+-- Assumes nothing.
+use borrow.Author.Needs.{needs}
+use Rattle.lexer.specs.Answers.{scanOf}
+use Rattle.lexer.proofs.Scans.{after-slash, after-single, after-double, after-other}
+use Rattle.lexer.proofs.words.after_byte.Statement.{statement}
+use Rattle.lexer.proofs.words.after_byte.Tie as tie
+
+pub after-byte-spec : {M : Type 1} → statement M
+after-byte-spec =
+    tie.close
+    (tie.spec
+    (λ c. let a = c .before .args in after-slash (scanOf (a .st)) (a .b) (a .i) (c .if1 .taken))
+    (λ c κs. search needs)
+    (λ c. let a = c .before .before .before .args in after-single (scanOf (a .st)) (a .b) (a .i) _ (c .before .before .if1 .left) (c .before .if2 .taken) (c .toggled .ensures))
+    (λ c κs. search needs)
+    (λ c. let a = c .before .before .before .before .args in after-double (scanOf (a .st)) (a .b) (a .i) _ (c .before .before .before .if1 .left) (c .before .before .if2 .left) (c .before .if3 .taken) (c .toggled2 .ensures))
+    (λ c κs. search needs)
+    (λ c. let a = c .before .before .before .before .args in after-other (scanOf (a .st)) (a .b) (a .i) _ (c .before .before .before .if1 .left) (c .before .before .if2 .left) (c .before .if3 .left) (c .grown-by .ensures)))

@@ -1,0 +1,28 @@
+-- `ends` meets its contract: it makes the definition's tests in their order.
+-- Assumes nothing.
+use borrow.Author.Needs.{needs}
+use Rattle.tokens.specs.Answers.{stopsIs}
+use Rattle.lexer.specs.Answers.{scanOf}
+use Rattle.lexer.proofs.Scans.{stops-quoted, stops-curly, stops-square, stops-level}
+use Rattle.lexer.proofs.words.ends.Statement.{statement}
+use Rattle.lexer.proofs.words.ends.Tie as tie
+
+pub ends-spec : {M : Type 1} → statement M
+ends-spec =
+    tie.close
+    (tie.spec
+    (λ c κs. search needs)
+    (λ c. let a = c .before .before .args in stops-quoted (stopsIs (a .set)) (scanOf (a .st)) (a .b) _ (c .before .in-quotes .ensures) (c .if1 .taken))
+    (λ c.
+    let p = c .before .before in
+    let a = p .before .before .args in
+    stops-curly (stopsIs (a .set)) (scanOf (a .st)) (a .b) _ (p .before .in-quotes .ensures) (p .if1 .left) (c .if2 .taken))
+    (λ c.
+    let p = c .before .before .before .before in
+    let a = p .before .before .args in
+    stops-square (stopsIs (a .set)) (scanOf (a .st)) (a .b) _ (p .before .in-quotes .ensures) (p .if1 .left) (c .before .before .if2 .left) (c .if3 .taken))
+    (λ c κs. search needs)
+    (λ c.
+    let p = c .before .before .before .before .before in
+    let a = p .before .before .args in
+    stops-level (stopsIs (a .set)) (scanOf (a .st)) (a .b) _ (p .before .in-quotes .ensures) (p .if1 .left) _ (c .before .before .before .if2 .left) (c .before .if3 .left) (c .is-stop .ensures)))

@@ -1,0 +1,57 @@
+-- `word_at` meets its contract: from each place that the loop comes to, rule 11's walk gives the same token.
+-- Assumes nothing.
+use Prim.Native.Nat.{_-_, _≤_}
+use mathlib.Core.Path.{sym, _∙_}
+use native.Mathlib.Omega.{arith}
+use borrow.Author.Needs.{needs}
+use lib.ListN.{length, getD}
+use Rattle.tokens.specs.Answers.{stopsIs}
+use Rattle.lexer.specs.Answers.{scanOf}
+use Rattle.lexer.specs.Runs.{Bounded}
+use Rattle.lexer.proofs.Slurps.{Going, going-start, going-run, going-on, going-stop, going-end, after-kept, run-kept}
+use Rattle.lexer.proofs.words.word_at.Statement.{statement}
+use Rattle.lexer.proofs.words.word_at.Tie as tie
+
+abbrev Inv-loop : tie.InvT-loop
+Inv-loop text start set i₀ st₀ i st = (i ≤ length text) × Bounded (scanOf st) i × Going (stopsIs set) text start (scanOf st) i
+
+abbrev μ-loop : tie.MeasureT-loop
+μ-loop text start set i₀ st₀ i st = length text - i
+
+pub word-at-spec : {M : Type 1} → statement M
+word-at-spec =
+    tie.close
+    (tie.spec
+    Inv-loop
+    μ-loop
+    (λ c. omega arith)
+    (λ c. (omega arith, record { curly = omega arith; square = omega arith; end = omega arith; width = omega arith }, going-start _ _ _))
+    (λ c κs. omega arith)
+    (λ c κs. let l = c .before .before .before .loop in let r = c .before .run-end .ensures in (l .inv .1, r .low, omega (arith, r .high)))
+    (λ c. let r = c .before .before .run-end .ensures in omega (arith, r .high, c .before .if1 .taken))
+    (λ c.
+    let l = c .before .before .before .before .loop in
+    let r = c .before .before .run-end .ensures in
+    let a = c .before .before .before .before .before .before .args in
+    let e = c .after-run .ensures in
+    (r .high, rw e (run-kept _ (scanOf (l .st)) _ (l .inv .1) (r .low)), rw e (going-run (stopsIs (a .set)) (a .text .now) (a .start) (l .i) _ (scanOf (l .st)) (c .before .if1 .taken) r (l .inv .2))))
+    (λ c. omega arith)
+    (λ c κs. search needs)
+    (λ c.
+    let q = c .before .before .before .before .before in
+    let l = q .before .loop in
+    let a = q .before .before .before .args in
+    going-stop (stopsIs (a .set)) (a .text .now) (a .start) (l .i) (scanOf (l .st)) (q .loop-test .taken) (sym (c .before .ends .ensures) ∙ c .if2 .taken) (l .inv .2))
+    (λ c κs. let q = c .before .before .before .before .before in (q .before .loop .inv .1, omega arith))
+    (λ c. omega arith)
+    (λ c. omega arith)
+    (λ c.
+    let q = c .before .before .before .before .before .before in
+    let l = q .before .loop in
+    let a = q .before .before .before .args in
+    let e = c .after-byte .ensures in (
+      omega arith,
+      rw e (after-kept (l .i) (scanOf (l .st)) (getD (a .text .now) (l .i) 0) (l .inv .1)),
+      rw e (going-on (stopsIs (a .set)) (a .text .now) (a .start) (l .i) (scanOf (l .st)) (q .loop-test .taken) (sym (c .before .before .ends .ensures) ∙ c .before .if2 .left) (l .inv .2)),
+    ))
+    (λ c. let l = c .before .loop in going-end _ _ _ (l .i) (scanOf (l .st)) (c .loop-test .left) (l .inv .2)))

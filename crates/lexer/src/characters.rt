@@ -1,0 +1,105 @@
+// What a byte is to the lexer: blank, a stop character, the beginning of a character, or one that every unquoted token takes;
+// and the runs of blanks and of such bytes.
+use tokens::Stops;
+ghost use mathlib.Core.Path.{_≡_};
+ghost use mathlib.Core.Bool.{true};
+ghost use Prim.Native.Nat.{_≤_};
+ghost use lib.ListN.{length};
+ghost use Rattle.text_form.specs.Lexing.{among, blank, begins, stopSet, skip};
+ghost use Rattle.tokens.specs.Answers.{stopsIs};
+ghost use Rattle.lexer.specs.Runs.{Ordinary, Run};
+
+// ASCII whitespace; 0x0B is none (rule 10).
+pub fn is_blank(b: u8) -> bool
+    ensures { λ r. ⌜ r ≡ blank b ⌝ }
+{
+    match b {
+        9 | 10 | 12 | 13 | 32 => true,
+        _ => false,
+    }
+}
+
+// Whether a byte is in a set of stop characters (rule 11).
+pub fn is_stop(set: Stops, b: u8) -> bool
+    ensures { λ r. ⌜ r ≡ among (stopSet (stopsIs set)) b ⌝ }
+{
+    match set {
+        Stops::Default => match b {
+            b',' | b';' | b'[' | b']' | b'{' | b'}' => true,
+            _ => false,
+        },
+        Stops::Key => b == b':',
+        Stops::Value => match b {
+            b',' | b'}' => true,
+            _ => false,
+        },
+        Stops::First => match b {
+            b',' | b';' | b']' => true,
+            _ => false,
+        },
+        Stops::Later => match b {
+            b',' | b']' => true,
+            _ => false,
+        },
+    }
+}
+
+// 1 for a byte that begins a character, 0 for one within it (rule 10: a width counts characters).
+pub fn first_byte(b: u8) -> usize
+    ensures { λ r. ⌜ r ≡ begins b ⌝ }
+{
+    if b < 128 {
+        return 1;
+    }
+    if b < 192 {
+        return 0;
+    }
+    1
+}
+
+// Letters, digits and some signs, `- . _` among them: every unquoted token takes them (rule 11).
+fn is_ordinary(b: u8) -> bool
+    ensures { λ r. ⌜ (r ≡ true → Ordinary b) ⌝ }
+{
+    if 94 <= b {
+        return b <= 122;
+    }
+    if 60 <= b {
+        return b <= 90;
+    }
+    if 57 < b {
+        return false;
+    }
+    45 <= b
+}
+
+// The first place from a place on at which no such byte stands.
+pub fn run_end(text: &[u8], at: usize) -> usize
+    requires { ⌜ at ≤ length (now text) ⌝ }
+    ensures { λ r. ⌜ Run (now (text .entry)) at r ⌝ }
+{
+    let mut i = at;
+    while i < text.len() {
+        if is_ordinary(text[i]) {
+            i += 1;
+        } else {
+            return i;
+        }
+    }
+    i
+}
+
+// The first place from a place on that is not blank (rule 10).
+pub fn skip_blank(text: &[u8], at: usize) -> usize
+    ensures { λ r. ⌜ r ≡ skip (now (text .entry)) at ⌝ }
+{
+    let mut i = at;
+    while i < text.len() {
+        if is_blank(text[i]) {
+            i += 1;
+        } else {
+            return i;
+        }
+    }
+    i
+}

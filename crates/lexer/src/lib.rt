@@ -1,0 +1,157 @@
+// Rules 10 and 11: the token at a place of a text. A caller that has judged the text asks `token_at`; `token` judges it first.
+// Numbers are the crate numbers' (rule 13), quoted tokens the crate quotes' (rule 12).
+pub mod characters;
+pub mod words;
+
+use numbers::Number;
+use quotes::Quoted;
+use quotes::Text;
+use tokens::Index;
+use tokens::Lexed;
+use tokens::Stops;
+use tokens::Token;
+use tokens::TokenData;
+use tokens::Width;
+ghost use mathlib.Core.Path.{_≡_};
+ghost use Prim.Native.Nat.{_≤_, _<_};
+ghost use mathlib.Core.Bool.{_||_};
+ghost use lib.Dec.{eqb};
+ghost use lib.ListN.{length};
+ghost use Rattle.form.specs.Answer.{got};
+ghost use Rattle.text_form.specs.Numbers.{isDigit};
+ghost use Rattle.text_form.specs.Lexing.{made, unquotedAt, quotedAt, tokenBy, tokenAt, lexed};
+ghost use Rattle.numbers.specs.Answers.{numberOut};
+ghost use Rattle.tokens.specs.Answers.{tokenIs, lexedOut, stopsIs};
+ghost use Rattle.lexer.specs.Answers.{numeralAt};
+
+// A token at i of some width, and the next place (rule 10).
+fn found(token: Token, i: usize, width: usize, next: usize) -> Lexed
+    ensures { λ r. ⌜ lexedOut r ≡ got (made (tokenIs token) i width next) ⌝ }
+{
+    Lexed::Found {
+        data: TokenData {
+            token,
+            index: Index(i),
+            char_width: Width(width),
+        },
+        next,
+    }
+}
+
+// A number's token at i, or its refusal (rule 13).
+fn numeral_found(n: Number, i: usize, width: usize, next: usize) -> Lexed
+    ensures { λ r. ⌜ lexedOut r ≡ numeralAt (numberOut n) i width next ⌝ }
+{
+    match n {
+        Number::Byte(z) => found(Token::Byte(z), i, width, next),
+        Number::Short(z) => found(Token::Short(z), i, width, next),
+        Number::Int(z) => found(Token::Int(z), i, width, next),
+        Number::Long(z) => found(Token::Long(z), i, width, next),
+        Number::Float(x) => found(Token::Float(x), i, width, next),
+        Number::Double(x) => found(Token::Double(x), i, width, next),
+        Number::Refused { number, place } => Lexed::Refused { number, place },
+    }
+}
+
+// Whether a byte begins a number: a minus or a digit (rule 13).
+fn opens_number(b: u8) -> bool
+    ensures { λ r. ⌜ r ≡ (eqb b 45 || isDigit b) ⌝ }
+{
+    if b == 45 {
+        return true;
+    }
+    if b < 48 {
+        return false;
+    }
+    b <= 57
+}
+
+// The unquoted token at i: a number or a string (rules 11 and 13).
+fn unquoted_at(text: &[u8], i: usize, set: Stops) -> Lexed
+    requires { ⌜ i < length (now text) ⌝ }
+    ensures { λ r. ⌜ lexedOut r ≡ unquotedAt (stopsIs set) (now (text .entry)) i ⌝ }
+{
+    let w = words::word_at(text, i, set);
+    let end = w.end;
+    if opens_number(text[i]) {
+        return numeral_found(numbers::number_at(text, i, end), i, w.width, w.next);
+    }
+    found(
+        Token::Str {
+            quoted: false,
+            start: i,
+            end,
+        },
+        i,
+        w.width,
+        w.next,
+    )
+}
+
+// The quoted token at i, its content between the quotes (rule 12).
+fn quoted_found(text: &[u8], i: usize) -> Lexed
+    requires { ⌜ i < length (now text) ⌝ }
+    ensures { λ r. ⌜ lexedOut r ≡ quotedAt (now (text .entry)) i ⌝ }
+{
+    match quotes::quoted_at(text, i) {
+        Quoted::Closed { end, width } => found(
+            Token::Str {
+                quoted: true,
+                start: i + 1,
+                end,
+            },
+            i,
+            width,
+            end + 1,
+        ),
+        Quoted::Refused { number, place } => Lexed::Refused { number, place },
+    }
+}
+
+// The token at i, which is not blank, by its first byte (rule 10).
+fn token_by(text: &[u8], i: usize, set: Stops, b: u8) -> Lexed
+    requires { ⌜ i < length (now text) ⌝ }
+    ensures { λ r. ⌜ lexedOut r ≡ tokenBy (stopsIs set) (now (text .entry)) i b ⌝ }
+{
+    match b {
+        b',' => found(Token::Comma, i, 1, i + 1),
+        b':' => found(Token::Colon, i, 1, i + 1),
+        b';' => found(Token::Semicolon, i, 1, i + 1),
+        b'[' => found(Token::OpenSquare, i, 1, i + 1),
+        b']' => found(Token::ClosedSquare, i, 1, i + 1),
+        b'{' => found(Token::OpenCurly, i, 1, i + 1),
+        b'}' => found(Token::ClosedCurly, i, 1, i + 1),
+        34 | 39 => quoted_found(text, i),
+        _ => unquoted_at(text, i, set),
+    }
+}
+
+// The next token from a place on, or the end, in a text that was judged (rules 10 to 13): the parser asks this.
+pub fn token_at(text: &[u8], start: usize, set: Stops) -> Lexed
+    requires { ⌜ start ≤ length (now text) ⌝ }
+    ensures { λ r. ⌜ lexedOut r ≡ tokenAt (stopsIs set) (now (text .entry)) start ⌝ }
+{
+    let i = characters::skip_blank(text, start);
+    if text.len() <= i {
+        return Lexed::Ended { place: text.len() };
+    }
+    token_by(text, i, set, text[i])
+}
+
+// The next token of a text and a place that nobody has judged: 9, then 15, then the token, its refusal or the end (rule 10).
+pub fn token(text: &[u8], start: usize, set: Stops) -> Lexed
+    ensures { λ r. ⌜ lexedOut r ≡ lexed (now (text .entry)) start (stopsIs set) ⌝ }
+{
+    match quotes::judged_text(text) {
+        Text::Refused { number } => Lexed::Refused { number, place: 0 },
+        Text::Fine => {
+            if quotes::on_character(text, start) {
+                return token_at(text, start, set);
+            }
+            Lexed::Refused {
+                number: form::BAD_TEXT,
+                place: 0,
+            }
+        }
+    }
+}
