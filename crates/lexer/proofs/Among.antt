@@ -1,14 +1,16 @@
 -- A `match` on a byte with literals, as the definitions' `among`.
 -- Assumes nothing.
-use Prim.Native.Nat.{ℕ}
+use Prim.Native.Nat.{ℕ, _+_, _≤_, _<_}
 use mathlib.Core.Path.{_≡_, refl}
 use mathlib.Core.Bool.{Bool, true, false}
 use mathlib.Core.Logic.{_⊎_, inl, inr}
 use mathlib.Core.List.{List, [], _∷_}
+use native.Mathlib.Nat.{eq-or-lt-of-le}
+use native.Mathlib.Omega.{arith}
 use lib.Dec.{eqb}
 use borrow.Author.Tests.{eq-eqb, ne-eqb}
 use Rattle.form.specs.Answer.{pick}
-use Rattle.text_form.specs.Lexing.{among, stopSet}
+use Rattle.text_form.specs.Lexing.{among, blank, stopSet}
 use Rattle.tokens.specs.Answers.{stopsIs}
 use Rattle.tokens.specs.declared.Stops.{Stops}
 use Rattle.tokens.specs.declared.Stops.the-variants.{Key}
@@ -42,6 +44,21 @@ unfolding among
 is-out [] b k = refl
 is-out (x ∷ []) b k = rw (ne-eqb b x k)
 is-out (x ∷ y ∷ l) b k = rw (ne-eqb b x (λ e. k (inl e))) (is-out (y ∷ l) b (λ z. k (inr z)))
+
+-- ---- blanks
+
+-- none of the five
+pub blank-out : (b : ℕ) → (b ≡ 9 → ⊥) → (b ≡ 10 → ⊥) → (b ≡ 12 → ⊥) → (b ≡ 13 → ⊥) → (b ≡ 32 → ⊥) → false ≡ blank b
+unfolding among
+blank-out b x₁ x₂ x₃ x₄ x₅ = rw (ne-eqb b 9 x₁, ne-eqb b 10 x₂, ne-eqb b 12 x₃, ne-eqb b 13 x₄, ne-eqb b 32 x₅) refl
+
+-- one of two neighbours, which an arm knows as a range
+pub two-blanks : (b n : ℕ) → true ≡ blank n → true ≡ blank (n + 1) → n ≤ b → b < n + 2 → true ≡ blank b
+two-blanks b n p q h k = go (eq-or-lt-of-le h)
+  where
+    go : (n ≡ b) ⊎ (n < b) → true ≡ blank b
+    go (inl e) = rw (← e) p
+    go (inr l) = let e : b ≡ n + 1 = omega arith in rw e q
 
 -- ---- a set of stop characters
 

@@ -3,3 +3,4 @@ pub mod Scans
 pub mod Slurps
 pub mod Finds
 pub mod Quiet
+pub mod Answered

@@ -11,6 +11,12 @@ use Rattle.text_form.specs.Lexing.{Stops, Scan, among, blank, begins, stopSet, 
 
 -- ---- a quote is open, or not
 
+pub in-single : (s : Scan) → s .single ≡ true → true ≡ within s
+in-single s e = rw e refl
+
+pub in-double : (s : Scan) → s .single ≡ false → s .double ≡ within s
+in-double s e = rw e refl
+
 module _ (set : Stops) (s : Scan) (b : ℕ) (w : Bool) (is : w ≡ within s) where
   pub stops-quoted : w ≡ true → false ≡ stops set s b
   stops-quoted e = rw (sym is ∙ e) refl

@@ -62,7 +62,15 @@ module _ (i : ℕ) where
 module _ (b : ℕ) (o : Ordinary b) where
   no-stop : (set : Stops) → among (stopSet set) b ≡ false
   unfolding among
-  no-stop default = simp (ne-eqb b 44 (λ e. omega (arith, o .low, e)), ne-eqb b 59 (o .semicolon), ne-eqb b 91 (o .opening), ne-eqb b 93 (o .closing), ne-eqb b 123 (λ e. omega (arith, o .high, e)), ne-eqb b 125 (λ e. omega (arith, o .high, e)))
+  no-stop default =
+      simp (
+        ne-eqb b 44 (λ e. omega (arith, o .low, e)),
+        ne-eqb b 59 (o .semicolon),
+        ne-eqb b 91 (o .opening),
+        ne-eqb b 93 (o .closing),
+        ne-eqb b 123 (λ e. omega (arith, o .high, e)),
+        ne-eqb b 125 (λ e. omega (arith, o .high, e)),
+      )
   no-stop key = simp (ne-eqb b 58 (o .colon))
   no-stop value = simp (ne-eqb b 44 (λ e. omega (arith, o .low, e)), ne-eqb b 125 (λ e. omega (arith, o .high, e)))
   no-stop first = simp (ne-eqb b 44 (λ e. omega (arith, o .low, e)), ne-eqb b 59 (o .semicolon), ne-eqb b 93 (o .closing))
@@ -70,7 +78,14 @@ module _ (b : ℕ) (o : Ordinary b) where
 
   not-blank : blank b ≡ false
   unfolding among
-  not-blank = simp (ne-eqb b 9 (λ e. omega (arith, o .low, e)), ne-eqb b 10 (λ e. omega (arith, o .low, e)), ne-eqb b 12 (λ e. omega (arith, o .low, e)), ne-eqb b 13 (λ e. omega (arith, o .low, e)), ne-eqb b 32 (λ e. omega (arith, o .low, e)))
+  not-blank =
+      simp (
+        ne-eqb b 9 (λ e. omega (arith, o .low, e)),
+        ne-eqb b 10 (λ e. omega (arith, o .low, e)),
+        ne-eqb b 12 (λ e. omega (arith, o .low, e)),
+        ne-eqb b 13 (λ e. omega (arith, o .low, e)),
+        ne-eqb b 32 (λ e. omega (arith, o .low, e)),
+      )
 
   -- it ends no token
   ordinary-passes : (set : Stops) (s : Scan) → stops set s b ≡ false

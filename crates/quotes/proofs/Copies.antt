@@ -1,11 +1,11 @@
 -- Laws of a copy, byte by byte.
 -- Assumes nothing.
-use Prim.Native.Nat.{ℕ, _+_, _≤_, _<_}
+use Prim.Native.Nat.{ℕ, _+_, _<_}
 use mathlib.Core.List.{List, [], _∷_, _++_}
 use mathlib.Core.Path.{_≡_, refl, sym, ap, _∙_}
 use native.Mathlib.Omega.{arith}
 use native.Mathlib.Numerals.{add-one}
-use lib.ListN.{length, getD, set, drop, length-append, length-drop}
+use lib.ListN.{length, getD, set, drop, length-drop}
 use lib.Seq.{set-split, take-suc, getD-drop}
 use Rattle.form.specs.Spans.{part, over}
 use Rattle.form.proofs.Spans.{part-length}

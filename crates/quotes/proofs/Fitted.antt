@@ -1,6 +1,6 @@
 -- Laws of a single content (rule 12): its refusals in their order, and the room for it.
 -- Assumes nothing.
-use Prim.Native.Nat.{ℕ, _+_, _≤_, _<_}
+use Prim.Native.Nat.{ℕ, _≤_, _<_}
 use mathlib.Core.Path.{_≡_, refl, sym, ap, _∙_}
 use mathlib.Core.Bool.{Bool, true, false, _&&_}
 use mathlib.Core.List.{List}
@@ -9,7 +9,6 @@ use borrow.Author.Tests.{le-leb, lt-leb}
 use lib.Dec.{leb}
 use lib.ListN.{length}
 use Rattle.form.specs.Answer.{Out, got, no, outputFull, badText}
-use Rattle.form.specs.Spans.{over}
 use Rattle.form.specs.Writing.{lengthOf, Gives}
 use Rattle.text_form.specs.Lexing.{judgedText, onCharacter, contentOf, content}
 use Rattle.quotes.specs.declared.Text.{Text}

@@ -6,13 +6,13 @@ use mathlib.Core.Bool.{Bool, true, false, _&&_}
 use mathlib.Core.Logic.{⊎-elim}
 use mathlib.Core.List.{List, [], _∷_, _++_, append-assoc, append-nil}
 use native.Mathlib.Omega.{arith}
-use borrow.Author.Tests.{lt-ltb, le-ltb, lt-leb, le-leb, eq-eqb, ne-eqb}
-use lib.Dec.{eqb, ltb, leb}
-use lib.ListN.{length, getD, drop, take, length-append}
+use borrow.Author.Tests.{lt-ltb, le-ltb, lt-leb, ne-eqb}
+use lib.Dec.{eqb}
+use lib.ListN.{length, getD, drop, length-append}
 use Rattle.form.specs.Answer.{Out, got, no, _>>=_, pick}
 use Rattle.form.specs.Spans.{part, over}
-use Rattle.form.specs.Strings.{encodeBy, scalarBytes, unitBytes, utf8Bytes, IsScalar}
-use Rattle.form.specs.Decoding.{Sequence, is, stuck, unitOf, unpaired, utf8Of}
+use Rattle.form.specs.Strings.{encodeBy, scalarBytes, unitBytes, utf8Bytes}
+use Rattle.form.specs.Decoding.{Sequence, is, stuck, unitOf, utf8Of}
 use Rattle.form.specs.Writing.{lengthOf}
 use Rattle.form.proofs.Picks.{lt-or}
 use Rattle.form.proofs.Spans.{part-length}
@@ -23,8 +23,6 @@ use Rattle.form.proofs.Coding.{SoundBy}
 use Rattle.form.proofs.Utf8.{utf8, sound}
 use Rattle.form.proofs.Walks as W
 use Rattle.text_form.specs.Lexing.{Front, Escape, stands, bad, cut, escapeOf, escaped, written, frontOf, scalarsBy, contentOf}
-use Rattle.mutf8.specs.declared.Put.the-variants.{To}
-use Rattle.mutf8.specs.Answers.{Wrote}
 use Rattle.quotes.specs.declared.Front.{Front as Told}
 use Rattle.quotes.specs.declared.Front.the-variants.{Is, Refused}
 use Rattle.quotes.specs.Answers.{frontOut}
@@ -306,16 +304,16 @@ module _ (t : List ℕ) (quoted : Bool) (start e : ℕ) (o₀ : List ℕ) (at : 
       further : Sofar t quoted start e (g .done ++ scalarBytes c) (i + m)
       further = sofar-front t quoted start e (g .done) i h (ready .within .1) (g .so) c m (front-told r (Is c m) p d)
 
-      pub putting-front : (n : ℕ) (o′ : List ℕ) → Wrote o to (scalarBytes c) (To n) o′ → Putting t quoted start e o₀ at o′ n (i + m)
-      putting-front n o′ w = record {
+      pub front-room : to + length (scalarBytes c) ≤ length o
+      front-room = omega (arith, roomy _ (i + m) further, length-append (g .done) (scalarBytes c), putting-length o to i g, g .place)
+
+      pub putting-front : (n : ℕ) (o′ : List ℕ) → n ≡ to + length (scalarBytes c) → o′ ≡ over o to (scalarBytes c) → Putting t quoted start e o₀ at o′ n (i + m)
+      putting-front n o′ p w = record {
         done = g .done ++ scalarBytes c;
         so = further;
-        place = omega (arith, w .0, length-append (g .done) (scalarBytes c), g .place);
-        wrote = behind o o′ (scalarBytes c) to i g (w .2);
+        place = omega (arith, p, length-append (g .done) (scalarBytes c), g .place);
+        wrote = behind o o′ (scalarBytes c) to i g w;
       }
-
-      pub never-full : length o < to + length (scalarBytes c) → ⊥
-      never-full f = omega (arith, f, roomy _ (i + m) further, length-append (g .done) (scalarBytes c), putting-length o to i g, g .place)
 
     pub putting-refused : (m q : ℕ) → r ≡ Refused m q → (n : ℕ) (o′ : List ℕ) → PutIs (contentOf t quoted start e) o₀ at n o′
     putting-refused m q d n o′ =

@@ -1,6 +1,6 @@
 -- Laws of a text that is judged as a whole (refusals 9 and 15), and of places on its characters.
 -- Assumes nothing.
-use Prim.Native.Nat.{ℕ, _+_, _≤_, _<_}
+use Prim.Native.Nat.{ℕ, _≤_, _<_}
 use mathlib.Core.Path.{_≡_, refl, sym, ap, _∙_}
 use mathlib.Core.Bool.{Bool, true, false, _&&_}
 use mathlib.Core.List.{List}
@@ -8,7 +8,7 @@ use native.Mathlib.Omega.{arith}
 use borrow.Author.Tests.{le-leb, lt-leb, leb-true}
 use lib.Dec.{leb, eqb}
 use lib.ListN.{length, getD, List·getD-eq-default}
-use Rattle.form.specs.Answer.{Out, got, no, guard, textLimit, overLimit, badText}
+use Rattle.form.specs.Answer.{no, guard, textLimit, overLimit, badText}
 use Rattle.form.specs.Strings.{utf8Bytes}
 use Rattle.form.specs.Decoding.{utf8Of, utf8Verdict, isGood, Judged}
 use Rattle.mutf8.specs.declared.Checked.{Checked}

@@ -1,27 +1,26 @@
 -- Rule 12's walk through a quoted token, for the loop that makes it.
 -- Assumes nothing.
-use Prim.Native.Nat.{ℕ, zero, suc, _+_, _-_, _*_, _≤_, _<_}
+use Prim.Native.Nat.{ℕ, zero, suc, _+_, _-_, _≤_, _<_}
 use mathlib.Core.Path.{_≡_, refl, sym, ap, _∙_}
 use mathlib.Core.Bool.{Bool, true, false}
 use mathlib.Core.Logic.{⊎-elim}
-use mathlib.Core.List.{List, [], _∷_}
+use mathlib.Core.List.{List}
 use native.Mathlib.Omega.{arith}
-use native.Mathlib.Numerals.{add-one}
-use borrow.Author.Tests.{lt-ltb, le-ltb, eq-eqb, ne-eqb}
+use borrow.Author.Tests.{lt-ltb, eq-eqb, ne-eqb}
 use lib.Dec.{eqb, ltb}
 use lib.ListN.{length, getD, drop, length-drop, drop-of-length-le}
 use lib.Seq.{drop-drop}
-use Rattle.form.specs.Answer.{Out, got, no, pick, quoteOpen}
+use Rattle.form.specs.Answer.{got, no, pick, quoteOpen}
 use Rattle.form.specs.Spans.{part}
 use Rattle.form.proofs.Drops.{drop1}
 use Rattle.form.proofs.Picks.{lt-or}
-use Rattle.text_form.specs.Lexing.{Escape, stands, bad, cut, begins, escapeOf, Quoted, onEscape, quotedBy, quoted}
+use Rattle.text_form.specs.Lexing.{Escape, stands, bad, cut, begins, escapeOf, onEscape, quotedBy, quoted}
 use Rattle.quotes.specs.declared.Escape.{Escape as Told}
 use Rattle.quotes.specs.declared.Escape.the-variants.{Stands, Bad, Cut}
 use Rattle.quotes.specs.Answers.{escapeIs}
 use Rattle.quotes.specs.Runs.{IsPlain, Plain}
 use Rattle.quotes.proofs.Parts.{part-rest}
-use Rattle.quotes.proofs.Escapes.{EscapeFits, escape-fits}
+use Rattle.quotes.proofs.Escapes.{escape-fits}
 
 pub begins-le : (b : ℕ) → begins b ≤ 1
 begins-le b = go (ltb b 128) (ltb b 192)

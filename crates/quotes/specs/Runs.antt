@@ -3,7 +3,7 @@
 use Prim.Native.Nat.{ℕ, _≤_, _<_}
 use mathlib.Core.Path.{_≡_}
 use mathlib.Core.List.{List}
-use lib.ListN.{length, getD}
+use lib.ListN.{getD}
 
 -- A byte is 1 to 127, and neither a backslash nor q.
 pub record IsPlain (q b : ℕ) : Type 0 where

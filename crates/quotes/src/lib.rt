@@ -3,13 +3,15 @@
 ghost use mathlib.Core.Path.{_≡_};
 ghost use mathlib.Core.Bool.{true, _&&_};
 ghost use mathlib.Core.List.{[], _∷_};
-ghost use Prim.Native.Nat.{ℕ, _+_, _-_, _≤_, _<_};
+ghost use Prim.Native.Nat.{_+_, _-_, _≤_, _<_};
 ghost use lib.Dec.{leb};
 ghost use lib.ListN.{length};
 ghost use Rattle.form.specs.Spans.{part, over};
+ghost use Rattle.form.specs.Answer.{no, quoteOpen};
+ghost use Rattle.form.specs.Strings.{scalarBytes};
 ghost use Rattle.form.specs.Decoding.{utf8Of};
 ghost use Rattle.form.specs.Writing.{lengthOf, Gives};
-ghost use Rattle.text_form.specs.Lexing.{begins, hexOf, hexes, unicode, escapeOf, quoted, judgedText, onCharacter, escaped, written, frontOf, contentOf, content as single};
+ghost use Rattle.text_form.specs.Lexing.{begins, hexOf, hexes, stands, unicode, escapeOf, quoted, judgedText, onCharacter, escaped, written, frontOf, contentOf, content as single};
 ghost use Rattle.quotes.specs.Answers.{hexOut, escapeIs, quotedOut, textOut, frontOut, contentOut};
 ghost use Rattle.quotes.specs.Runs.{IsPlain, Plain};
 ghost use Rattle.quotes.specs.Puts.{Ready, PutIs, fitted};
@@ -129,46 +131,35 @@ fn unicode_at(text: &[u8], at: usize, end: usize) -> Escape
     }
 }
 
+// An escape of one letter, which takes two bytes.
+fn of_letter(scalar: u32) -> Escape
+    ensures { λ r. ⌜ escapeIs r ≡ stands scalar 2 ⌝ }
+{
+    Escape::Stands { scalar, bytes: 2 }
+}
+
 // The escapes of one letter, with their backslash at a place; any other letter is refusal 17 (rule 12).
 fn letter(b: u8, at: usize) -> Escape
     requires { ⌜ (b ≡ 117 → ⊥) ⌝ }
     ensures { λ r. ⌜ escapeIs r ≡ escapeOf (b ∷ []) at ⌝ }
 {
     if b == 34 {
-        return Escape::Stands {
-            scalar: b as u32,
-            bytes: 2,
-        };
+        return of_letter(b as u32);
     }
     if b == 39 {
-        return Escape::Stands {
-            scalar: b as u32,
-            bytes: 2,
-        };
+        return of_letter(b as u32);
     }
     if b == 92 {
-        return Escape::Stands {
-            scalar: b as u32,
-            bytes: 2,
-        };
+        return of_letter(b as u32);
     }
     if b == 110 {
-        return Escape::Stands {
-            scalar: 10,
-            bytes: 2,
-        };
+        return of_letter(10);
     }
     if b == 114 {
-        return Escape::Stands {
-            scalar: 13,
-            bytes: 2,
-        };
+        return of_letter(13);
     }
     if b == 116 {
-        return Escape::Stands {
-            scalar: 9,
-            bytes: 2,
-        };
+        return of_letter(9);
     }
     Escape::Bad {
         number: form::UNKNOWN_ESCAPE,
@@ -287,6 +278,16 @@ fn plain_end(q: u8, text: &[u8], at: usize, end: usize) -> usize
     at
 }
 
+// A quote that stays open: refusal 16, at the token.
+fn left_open(start: usize) -> Quoted
+    ensures { λ r. ⌜ quotedOut r ≡ no quoteOpen start ⌝ }
+{
+    Quoted::Refused {
+        number: form::QUOTE_OPEN,
+        place: start,
+    }
+}
+
 // The quoted token whose quote stands at a place (rule 12): refusal 16 where it stays open, and those of its escapes.
 pub fn quoted_at(text: &[u8], start: usize) -> Quoted
     requires { ⌜ start < length (now text) ⌝ }
@@ -296,18 +297,16 @@ pub fn quoted_at(text: &[u8], start: usize) -> Quoted
     let mut i = start + 1;
     let mut width: usize = 1;
     while i < text.len() {
-        let j = plain_end(q, text, i, text.len());
-        width = width + (j - i);
-        i = j;
+        let end = plain_end(q, text, i, text.len());
+        width = width + (end - i);
+        i = end;
         if i == text.len() {
             continue;
         }
         let b = text[i];
         if b == q {
-            return Quoted::Closed {
-                end: i,
-                width: width + 1,
-            };
+            width = width + 1;
+            return Quoted::Closed { end, width };
         }
         if b == 92 {
             match escape_at(text, i, text.len()) {
@@ -320,20 +319,14 @@ pub fn quoted_at(text: &[u8], start: usize) -> Quoted
                     return Quoted::Refused { number, place };
                 }
                 Escape::Cut => {
-                    return Quoted::Refused {
-                        number: form::QUOTE_OPEN,
-                        place: start,
-                    };
+                    return left_open(start);
                 }
             }
         }
         width = width + beginning(b);
         i = i + 1;
     }
-    Quoted::Refused {
-        number: form::QUOTE_OPEN,
-        place: start,
-    }
+    left_open(start)
 }
 
 // Whether a text keeps its limit (refusal 9) and is UTF-8 (refusal 15).
@@ -448,6 +441,17 @@ fn copy(text: &[u8], start: usize, size: usize, out: &mut [u8], at: usize)
     }
 }
 
+// A scalar value in rule 2's form, at a place of the output that has room for it; the place behind it.
+fn put_value(c: u32, out: &mut [u8], at: usize) -> usize
+    requires { ⌜ (c < 1114112) × (at + length (scalarBytes c) ≤ length (now out)) ⌝ }
+    ensures { λ r. ⌜ (r ≡ at + length (scalarBytes c)) × (now (out .exit) ≡ over (now (out .entry)) at (scalarBytes c)) ⌝ }
+{
+    match mutf8::put_scalar(c, out, at) {
+        mutf8::Put::To(next) => next,
+        mutf8::Put::Full => at,
+    }
+}
+
 // A string token's content in rule 2's form, at a place of the output that has room for it; the place behind it (rule 12).
 pub fn put_content(
     text: &[u8],
@@ -471,15 +475,10 @@ pub fn put_content(
             continue;
         }
         match front_at(text, i, end, quoted) {
-            Front::Is { scalar, bytes } => match mutf8::put_scalar(scalar, out, to) {
-                mutf8::Put::To(next) => {
-                    to = next;
-                    i = i + bytes;
-                }
-                mutf8::Put::Full => {
-                    return to;
-                }
-            },
+            Front::Is { scalar, bytes } => {
+                to = put_value(scalar, out, to);
+                i = i + bytes;
+            }
             Front::Refused {
                 number: _,
                 place: _,

@@ -35,4 +35,15 @@ token-by-spec =
     (λ c. unfold tokenBy in rw (c .before .match .keys6) (c .found6 .ensures))
     (λ c. unfold tokenBy in rw (c .before .match .keys7) (c .found7 .ensures))
     (λ c. let a = c .before .before .before .args in by-quote (stopsIs (a .set)) (a .text .now) (a .i) (a .b) _ (c .before .match .keys8) (c .quoted-found .ensures))
-    (λ c. let a = c .before .before .before .args in by-word (stopsIs (a .set)) (a .text .now) (a .i) (a .b) _ (c .before .match .rest .0 .0 .0 .0 .0 .0 .0 .1) (c .before .match .rest .0 .0 .0 .0 .0 .0 .1) (c .before .match .rest .0 .0 .0 .0 .0 .1) (c .before .match .rest .0 .0 .0 .0 .1) (c .before .match .rest .0 .0 .0 .1) (c .before .match .rest .0 .0 .1) (c .before .match .rest .0 .1) (c .before .match .rest .1) (c .unquoted-at .ensures)))
+    (λ c.
+    let a = c .before .before .before .args in
+    by-word (stopsIs (a .set)) (a .text .now) (a .i) (a .b) _
+    (c .before .match .rest .0 .0 .0 .0 .0 .0 .0 .1)
+    (c .before .match .rest .0 .0 .0 .0 .0 .0 .1)
+    (c .before .match .rest .0 .0 .0 .0 .0 .1)
+    (c .before .match .rest .0 .0 .0 .0 .1)
+    (c .before .match .rest .0 .0 .0 .1)
+    (c .before .match .rest .0 .0 .1)
+    (c .before .match .rest .0 .1)
+    (c .before .match .rest .1)
+    (c .unquoted-at .ensures)))

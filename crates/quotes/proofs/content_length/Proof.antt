@@ -1,11 +1,8 @@
 -- Right since what is counted and the bytes left make the content; it is at most twice as long as the bytes read, so the sum fits.
 -- Assumes nothing.
 use Prim.Native.Nat.{_+_, _-_, _*_, _≤_, _<_}
-use mathlib.Core.Path.{_≡_, refl}
 use native.Mathlib.Omega.{arith}
 use borrow.Author.Needs.{needs}
-use lib.ListN.{length}
-use Rattle.form.specs.Strings.{scalarBytes}
 use Rattle.quotes.specs.declared.Front.the-variants.{Is}
 use Rattle.quotes.proofs.Fronts.{front-told}
 use Rattle.quotes.proofs.Sofar.{front-reach, Counted, counted-start, counted-plain, counted-end, counted-front, counted-refused}

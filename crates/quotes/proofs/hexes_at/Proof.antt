@@ -1,10 +1,9 @@
 -- Right since each turn takes one digit more, and the digits left decide the answer.
 -- Assumes nothing.
-use Prim.Native.Nat.{_+_, _-_, _*_, _≤_, _<_}
+use Prim.Native.Nat.{_-_, _≤_, _<_}
 use mathlib.Core.Path.{_≡_, refl, sym, _∙_}
 use native.Mathlib.Omega.{arith}
 use borrow.Author.Needs.{needs}
-use lib.ListN.{length, getD}
 use Rattle.form.specs.Spans.{part}
 use Rattle.text_form.specs.Lexing.{hexes}
 use Rattle.quotes.proofs.Escapes.{room, room-next, room-le, hexes-cut, hexes-stuck, hexes-more, hexes-done}

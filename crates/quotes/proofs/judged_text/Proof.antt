@@ -1,12 +1,7 @@
 -- Right since the limit is tested first, and the verdict on the bytes is the definition's.
 -- Assumes nothing.
-use mathlib.Core.Path.{sym, ap, _∙_}
 use native.Mathlib.Omega.{arith}
 use borrow.Author.Needs.{needs}
-use borrow.Author.Tests.{le-leb, lt-leb}
-use lib.ListN.{length}
-use Rattle.form.specs.Answer.{textLimit}
-use Rattle.text_form.specs.Lexing.{judgedText}
 use Rattle.quotes.proofs.Texts.{text-long, text-judged}
 use Rattle.quotes.proofs.judged_text.Statement.{statement}
 use Rattle.quotes.proofs.judged_text.Tie as tie

@@ -2,7 +2,6 @@
 -- Assumes nothing.
 use Prim.Native.Nat.{_-_, _≤_}
 use native.Mathlib.Omega.{arith}
-use borrow.Author.Needs.{needs}
 use Rattle.quotes.specs.Runs.{Plain}
 use Rattle.quotes.proofs.Walks.{plain-none, plain-join}
 use Rattle.quotes.proofs.plain_blocks.Statement.{statement}

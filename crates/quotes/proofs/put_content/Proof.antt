@@ -1,13 +1,13 @@
--- Right since what is written and the bytes left make the content, for which there is room: no value is refused for want of it.
+-- Right since what is written and the bytes left make the content, for which there is room.
 -- Assumes nothing.
 use Prim.Native.Nat.{_+_, _-_, _≤_, _<_}
-use mathlib.Core.Path.{_≡_, refl}
+use mathlib.Core.Path.{_≡_}
 use native.Mathlib.Omega.{arith}
 use borrow.Author.Needs.{needs}
 use lib.ListN.{length}
 use Rattle.quotes.specs.declared.Front.the-variants.{Is}
 use Rattle.quotes.proofs.Fronts.{front-told}
-use Rattle.quotes.proofs.Sofar.{front-reach, Putting, putting-start, putting-length, putting-room, plain-room, putting-plain, putting-front, never-full, putting-refused, putting-end}
+use Rattle.quotes.proofs.Sofar.{front-reach, Putting, putting-start, putting-length, putting-room, plain-room, putting-plain, front-room, putting-front, putting-refused, putting-end}
 use Rattle.quotes.proofs.put_content.Statement.{statement}
 use Rattle.quotes.proofs.put_content.Tie as tie
 
@@ -75,54 +75,39 @@ reached c =
     let r = front-reach (a .text .now) (a .quoted) (a .start) (a .end) (c .before .before .before .before .before .before .before .before .before .plain-end .result) (s .0 .0) (s .0 .1 .0) (omega arith) (c .before .before .before .before .before .before .before .before .before .before .before .before .before .before .pre .within .1) (front-told (f .result) (Is (s .0 .0) (s .0 .1 .0)) (f .ensures) (s .1)) in
     (r .0, r .1, r .2)
 
-put-scalar-requires : tie.Need-put-scalar-requires Inv-loop μ-loop
-put-scalar-requires c κs = (reached (c .before) .2, room (c .before .before .before .before .before .before) .0)
-
-enum-known-next : tie.Need-enum-known-next Inv-loop μ-loop
-enum-known-next c = search needs
+put-value-requires : tie.Need-put-value-requires Inv-loop μ-loop
+put-value-requires c κs =
+    let f = c .before .before .before .before .front-at in
+    (reached (c .before) .2, front-room _ _ _ _ _ _ (c .before .before .before .before .before .before .before .before .before .before .before .before .before .before .before .pre) _ _ _ (omega arith) (ran (c .before .before .before .before .before .before)) (f .result) (f .ensures) _ _ (c .before .before .scalar .given .1))
 
 add-i : tie.Need-add-i Inv-loop μ-loop
-add-i c = omega (arith, reached (c .before .before .before .before .before .before .before), c .before .before .before .before .before .before .before .before .before .before .before .before .before .before .before .before .before .before .before .before .before .pre .within .1)
+add-i c = omega (arith, reached (c .before .before .before .before), c .before .before .before .before .before .before .before .before .before .before .before .before .before .before .before .before .before .before .pre .within .1)
 
 loop-less-2 : tie.Need-loop-less-2 Inv-loop μ-loop
-loop-less-2 c = omega (arith, reached (c .before .before .before .before .before .before .before))
+loop-less-2 c = omega (arith, reached (c .before .before .before .before))
 
 loop-again-2 : tie.Need-loop-again-2 Inv-loop μ-loop
 loop-again-2 c =
-    let f = c .before .before .before .before .before .before .before .before .before .before .front-at in
-    (reached (c .before .before .before .before .before .before .before) .1, putting-front _ _ _ _ _ _ (c .before .before .before .before .before .before .before .before .before .before .before .before .before .before .before .before .before .before .before .before .before .pre) _ _ _ (omega arith) (ran (c .before .before .before .before .before .before .before .before .before .before .before .before)) (f .result) (f .ensures) _ _ (c .before .before .before .before .before .before .before .before .scalar .given .1) _ _ (rw (c .before .next .given .1) at (c .before .before .before .before .before .put-scalar .ensures)))
+    let f = c .before .before .before .before .before .before .before .front-at in
+    let v = c .before .before .put-value .ensures in
+    (reached (c .before .before .before .before) .1, putting-front _ _ _ _ _ _ (c .before .before .before .before .before .before .before .before .before .before .before .before .before .before .before .before .before .before .pre) _ _ _ (omega arith) (ran (c .before .before .before .before .before .before .before .before .before)) (f .result) (f .ensures) _ _ (c .before .before .before .before .before .scalar .given .1) _ _ (v .0) (v .1))
 
 enum-told : tie.Need-enum-told Inv-loop μ-loop
 enum-told c = search needs
 
--- a value for which there is no room would not be one of the content's
-never : tie.After-enum-told Inv-loop μ-loop → ⊥
-never c =
-    let f = c .before .before .before .before .before .before .before .before .before .front-at in
-    never-full _ _ _ _ _ _ (c .before .before .before .before .before .before .before .before .before .before .before .before .before .before .before .before .before .before .before .before .pre) _ _ _ (omega arith) (ran (c .before .before .before .before .before .before .before .before .before .before .before)) (f .result) (f .ensures) _ _ (c .before .before .before .before .before .before .before .scalar .given .1) ((rw (c .enum-told .given .1) at (c .before .before .before .before .put-scalar .ensures)) .0)
-
 same-length : tie.Need-same-length Inv-loop μ-loop
-same-length c = absurd (never c)
+same-length c = room (c .before .before .before .before) .1
 
 returns : tie.Need-returns Inv-loop μ-loop
-returns c = absurd (never c)
-
-enum-told-2 : tie.Need-enum-told-2 Inv-loop μ-loop
-enum-told-2 c = search needs
+returns c =
+    let f = c .before .before .front-at in
+    putting-refused _ _ _ _ _ _ (c .before .before .before .before .before .before .before .before .before .before .before .before .before .pre) _ _ _ (omega arith) (ran (c .before .before .before .before)) (f .result) (f .ensures) _ _ (c .enum-told .given .1) _ _
 
 same-length-2 : tie.Need-same-length-2 Inv-loop μ-loop
-same-length-2 c = room (c .before .before .before .before) .1
+same-length-2 c = putting-length _ _ _ _ _ _ (c .before .before .before .before .pre) _ _ _ (c .before .loop .inv .1)
 
 returns-2 : tie.Need-returns-2 Inv-loop μ-loop
-returns-2 c =
-    let f = c .before .before .front-at in
-    putting-refused _ _ _ _ _ _ (c .before .before .before .before .before .before .before .before .before .before .before .before .before .pre) _ _ _ (omega arith) (ran (c .before .before .before .before)) (f .result) (f .ensures) _ _ (c .enum-told2 .given .1) _ _
-
-same-length-3 : tie.Need-same-length-3 Inv-loop μ-loop
-same-length-3 c = putting-length _ _ _ _ _ _ (c .before .before .before .before .pre) _ _ _ (c .before .loop .inv .1)
-
-returns-3 : tie.Need-returns-3 Inv-loop μ-loop
-returns-3 c = putting-end _ _ _ _ _ _ (c .before .before .before .before .pre) _ _ _ (omega arith) (c .before .loop .inv .1)
+returns-2 c = putting-end _ _ _ _ _ _ (c .before .before .before .before .pre) _ _ _ (omega arith) (c .before .loop .inv .1)
 
 pub put-content-spec : {M : Type 1} → statement M
 put-content-spec =
@@ -140,16 +125,12 @@ put-content-spec =
     loop-again
     front-at-requires
     enum-known-scalar
-    put-scalar-requires
-    enum-known-next
+    put-value-requires
     add-i
     loop-less-2
     loop-again-2
     enum-told
     same-length
     returns
-    enum-told-2
     same-length-2
-    returns-2
-    same-length-3
-    returns-3)
+    returns-2)

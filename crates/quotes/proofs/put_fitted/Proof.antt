@@ -1,6 +1,5 @@
 -- Right since the length is measured first, and the content is written only where there is room for it.
 -- Assumes nothing.
-use native.Mathlib.Omega.{arith}
 use borrow.Author.Needs.{needs}
 use Rattle.quotes.proofs.Fitted.{fitted-refused, fitted-full, fitted-put, fitted-ready}
 use Rattle.quotes.proofs.put_fitted.Statement.{statement}

@@ -1,7 +1,7 @@
 -- Right since from each place on the token is what it is as a whole: a run of plain bytes, an escape or a character takes it on.
 -- Assumes nothing.
 use Prim.Native.Nat.{_+_, _-_, _≤_}
-use mathlib.Core.Path.{_≡_, refl}
+use mathlib.Core.Path.{_≡_, refl, _∙_}
 use native.Mathlib.Omega.{arith}
 use borrow.Author.Needs.{needs}
 use lib.ListN.{length, getD}
@@ -51,8 +51,8 @@ loop-again c = (omega arith, omega arith, refl, ran (c .before))
 shared-slice-read-b : tie.Need-shared-slice-read-b Inv-loop μ-loop
 shared-slice-read-b c = omega arith
 
-add-t17 : tie.Need-add-t17 Inv-loop μ-loop
-add-t17 c = omega arith
+add-width-2 : tie.Need-add-width-2 Inv-loop μ-loop
+add-width-2 c = omega arith
 
 returns : tie.Need-returns Inv-loop μ-loop
 returns c = going-closed _ _ _ _ (omega arith) (ran (c .before .before .before)) (c .if2 .taken)
@@ -74,8 +74,8 @@ reached c =
 add-i-2 : tie.Need-add-i-2 Inv-loop μ-loop
 add-i-2 c = omega (arith, reached c)
 
-add-width-2 : tie.Need-add-width-2 Inv-loop μ-loop
-add-width-2 c = omega (arith, reached c)
+add-width-3 : tie.Need-add-width-3 Inv-loop μ-loop
+add-width-3 c = omega (arith, reached c)
 
 loop-less-2 : tie.Need-loop-less-2 Inv-loop μ-loop
 loop-less-2 c = omega (arith, reached c)
@@ -102,18 +102,21 @@ returns-2 c =
 enum-told : tie.Need-enum-told Inv-loop μ-loop
 enum-told c = search needs
 
+left-open-requires : tie.Need-left-open-requires Inv-loop μ-loop
+left-open-requires c κs = search needs
+
 returns-3 : tie.Need-returns-3 Inv-loop μ-loop
 returns-3 c =
-    let e = c .before .before .escape-at in
-    let g = ran (c .before .before .before .before .before .before .before) in
-    going-cut _ _ _ _ (omega arith) g (c .before .before .before .before .if2 .left) (c .before .before .before .if3 .taken) (e .result) (e .ensures) (c .enum-told .given .1)
+    let e = c .before .before .before .escape-at in
+    let g = ran (c .before .before .before .before .before .before .before .before) in
+    c .left-open .ensures ∙ going-cut _ _ _ _ (omega arith) g (c .before .before .before .before .before .if2 .left) (c .before .before .before .before .if3 .taken) (e .result) (e .ensures) (c .before .enum-told .given .1)
 
 beginning-requires : tie.Need-beginning-requires Inv-loop μ-loop
 beginning-requires c κs = search needs
 
 -- a character adds at most 1
-add-width-3 : tie.Need-add-width-3 Inv-loop μ-loop
-add-width-3 c = omega (arith, c .beginning .ensures, begins-le (getD (c .before .before .before .before .before .before .before .before .before .before .args .text .now) (c .before .before .before .before .before .plain-end .result) 0))
+add-width-4 : tie.Need-add-width-4 Inv-loop μ-loop
+add-width-4 c = omega (arith, c .beginning .ensures, begins-le (getD (c .before .before .before .before .before .before .before .before .before .before .args .text .now) (c .before .before .before .before .before .plain-end .result) 0))
 
 add-i-3 : tie.Need-add-i-3 Inv-loop μ-loop
 add-i-3 c = omega arith
@@ -131,8 +134,11 @@ loop-again-3 c =
       rw (c .beginning .ensures) (going-character _ _ _ _ (omega arith) (ran p) (c .before .before .if2 .left) (c .before .if3 .left)),
     )
 
+left-open-requires-2 : tie.Need-left-open-requires-2 Inv-loop μ-loop
+left-open-requires-2 c κs = search needs
+
 returns-4 : tie.Need-returns-4 Inv-loop μ-loop
-returns-4 c = going-open _ _ _ _ (omega arith) (c .before .loop .inv .3)
+returns-4 c = c .left-open2 .ensures ∙ going-open _ _ _ _ (omega arith) (c .before .before .loop .inv .3)
 
 pub quoted-at-spec : {M : Type 1} → statement M
 quoted-at-spec =
@@ -149,21 +155,23 @@ quoted-at-spec =
     loop-less
     loop-again
     shared-slice-read-b
-    add-t17
+    add-width-2
     returns
     escape-at-requires
     enum-known-bytes
     add-i-2
-    add-width-2
+    add-width-3
     loop-less-2
     loop-again-2
     enum-known-number
     returns-2
     enum-told
+    left-open-requires
     returns-3
     beginning-requires
-    add-width-3
+    add-width-4
     add-i-3
     loop-less-3
     loop-again-3
+    left-open-requires-2
     returns-4)

@@ -11,7 +11,37 @@ pub is-ordinary-spec : {M : Type 1} → statement M
 is-ordinary-spec =
     tie.close
     (tie.spec
-    (λ c e. let k = leb-true (c .before .args .b) 122 e in record { low = omega arith; high = omega arith; colon = λ z. omega arith; semicolon = λ z. omega arith; opening = λ z. omega arith; backslash = λ z. omega arith; closing = λ z. omega arith })
-    (λ c e. let k = leb-true (c .before .before .args .b) 90 e in record { low = omega arith; high = omega arith; colon = λ z. omega arith; semicolon = λ z. omega arith; opening = λ z. omega arith; backslash = λ z. omega arith; closing = λ z. omega arith })
+    (λ c e.
+    let k = leb-true (c .before .args .b) 122 e in
+    record {
+      low = omega arith;
+      high = omega arith;
+      colon = λ z. omega arith;
+      semicolon = λ z. omega arith;
+      opening = λ z. omega arith;
+      backslash = λ z. omega arith;
+      closing = λ z. omega arith;
+    })
+    (λ c e.
+    let k = leb-true (c .before .before .args .b) 90 e in
+    record {
+      low = omega arith;
+      high = omega arith;
+      colon = λ z. omega arith;
+      semicolon = λ z. omega arith;
+      opening = λ z. omega arith;
+      backslash = λ z. omega arith;
+      closing = λ z. omega arith;
+    })
     (λ c e. let z : _≡_ {A = ℕ} 0 1 = cc in absurd (omega arith))
-    (λ c e. let k = leb-true 45 (c .before .before .before .args .b) e in record { low = omega arith; high = omega arith; colon = λ z. omega arith; semicolon = λ z. omega arith; opening = λ z. omega arith; backslash = λ z. omega arith; closing = λ z. omega arith }))
+    (λ c e.
+    let k = leb-true 45 (c .before .before .before .args .b) e in
+    record {
+      low = omega arith;
+      high = omega arith;
+      colon = λ z. omega arith;
+      semicolon = λ z. omega arith;
+      opening = λ z. omega arith;
+      backslash = λ z. omega arith;
+      closing = λ z. omega arith;
+    }))

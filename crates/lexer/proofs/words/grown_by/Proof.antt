@@ -16,8 +16,21 @@ grown-by-spec =
     (λ c κs. search needs)
     (λ c κs. search needs)
     (λ c κs. search needs)
-    (λ c. let p = c .before .before .before .before in let a = p .before .args in grown-blank (scanOf (a .st)) (a .b) (a .i) _ _ _ _ (p .in-quotes .ensures) (c .before .before .before .level .ensures) (c .before .before .level2 .ensures) (c .before .is-blank .ensures) (c .if1 .taken))
+    (λ c.
+    let l = c .before .before .before in
+    let p = l .before in
+    let a = p .before .args in
+    grown-blank (scanOf (a .st)) (a .b) (a .i) _ _ _ _ (p .in-quotes .ensures) (l .level .ensures) (c .before .before .level2 .ensures) (c .before .is-blank .ensures) (c .if1 .taken))
     (λ c. search needs)
     (λ c κs. search needs)
-    (λ c. let a = c .before .before .before .before .before .before .before in omega (arith, a .pre .0 .width, c .before .first-byte .ensures, begins-le (a .args .b)))
-    (λ c. let q = c .before .before .before in let p = q .before .before .before in let a = p .before .args in grown-more (scanOf (a .st)) (a .b) (a .i) _ _ _ _ (p .in-quotes .ensures) (q .before .before .level .ensures) (q .before .level2 .ensures) (q .is-blank .ensures) _ (c .before .before .if1 .left) (c .before .first-byte .ensures)))
+    (λ c.
+    let s = c .before .before .before .before .before .before .before in
+    omega (arith, s .pre .0 .width, c .before .first-byte .ensures, begins-le (s .args .b)))
+    (λ c.
+    let k = c .before .before .before in
+    let l = k .before .before in
+    let p = l .before in
+    let a = p .before .args in
+    grown-more (scanOf (a .st)) (a .b) (a .i) _ _ _ _ (p .in-quotes .ensures) (l .level .ensures) (k .before .level2 .ensures) (k .is-blank .ensures) _
+    (c .before .before .if1 .left)
+    (c .before .first-byte .ensures)))

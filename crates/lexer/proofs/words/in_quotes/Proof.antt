@@ -1,6 +1,7 @@
 -- `in_quotes` meets its contract: the definition's disjunction, one test after the other.
 -- Assumes nothing.
-use mathlib.Core.Path.{refl}
+use Rattle.lexer.specs.Answers.{scanOf}
+use Rattle.lexer.proofs.Scans.{in-single, in-double}
 use Rattle.lexer.proofs.words.in_quotes.Statement.{statement}
 use Rattle.lexer.proofs.words.in_quotes.Tie as tie
 
@@ -8,5 +9,5 @@ pub in-quotes-spec : {M : Type 1} → statement M
 in-quotes-spec =
     tie.close
     (tie.spec
-    (λ c. rw (c .if1 .taken) refl)
-    (λ c. rw (c .if1 .left) refl))
+    (λ c. in-single (scanOf (c .before .args .st)) (c .if1 .taken))
+    (λ c. in-double (scanOf (c .before .args .st)) (c .if1 .left)))
