@@ -1,2 +1,3 @@
 -- Lemmas on plain values, for the proofs of this crate.
 mod Words
+pub mod Tokens
