@@ -12,16 +12,19 @@ use Rattle.form.specs.Layout.{layout}
 use Rattle.form.specs.Decoding.{Sequence, is, stuck, scalarOf}
 use Rattle.form.specs.Table.{none, node, flat}
 use Rattle.form.specs.Reading.{One, documentAt}
+use Rattle.form.specs.Writing.{written}
 use Rattle.form.specs.Query.{asked}
 use Rattle.text_form.specs.Marked.{ascii}
 use Rattle.text_form.specs.Numbers.{byte, short, int, long, float, double}
 use Rattle.text_form.specs.Lexing.{Stops, default, later, Token, openCurly, closedCurly, openSquare, closedSquare, comma, colon, semicolon, string, numeral, Lexed, found, ended, lexed, content}
 use Rattle.text_form.specs.Text.{Block, parsed, documentOf}
 
--- What a marked record asks: a document to read, with room for eight records; what some bytes of modified UTF-8 begin with; a document
--- and a query of it; a text's first token, for a stop set; or a text to parse, with room for 15 bytes.
+-- What a marked record asks: a document to read, with room for eight records; the table of a document to write, with room for 64 bytes;
+-- what some bytes of modified UTF-8 begin with; a document and a query of it; a text's first token, for a stop set; or a text to parse,
+-- with room for 15 bytes.
 pub data Asked : Type 0 where
   read : List ℕ → Asked
+  write : List ℕ → Asked
   scalar : List ℕ → Asked
   ask : List ℕ → List ℕ → Asked
   token : text.String → Stops → Asked
@@ -31,6 +34,11 @@ pub data Asked : Type 0 where
 abbrev pub readAnswer : Out One → Out (List ℕ)
 readAnswer (got x) = got (x .next ∷ flat 0 (node (x .head) (x .inner) none))
 readAnswer (no n p) = no n p
+
+-- A write as numbers: the bytes written, of the document as it was read; or the refusal's number and place.
+abbrev pub writeAnswer : List ℕ → Out One → Out (List ℕ)
+writeAnswer doc (got x) = written doc (x .head) (x .inner) 64
+writeAnswer doc (no n p) = no n p
 
 -- A scalar value as numbers: the value, then how many bytes it takes; or refusal 4.
 abbrev pub scalarAnswer : Sequence → Out (List ℕ)
@@ -78,6 +86,7 @@ parseAnswer (no n p) = no n p
 -- What the definitions answer.
 abbrev pub answerTo : Asked → Out (List ℕ)
 answerTo (read doc) = readAnswer (documentAt doc 8)
+answerTo (write doc) = writeAnswer doc (documentAt doc 8)
 answerTo (scalar bs) = scalarAnswer (scalarOf bs)
 answerTo (ask doc q) = askAnswer doc q (documentAt doc 8)
 answerTo (token t set) = tokenAnswer (ascii t) (lexed (ascii t) 0 set)
@@ -103,6 +112,11 @@ records =
     ∷ (
       read (10 ∷ 0 ∷ 0 ∷ 9 ∷ 0 ∷ 1 ∷ 108 ∷ 5 ∷ 0 ∷ 0 ∷ 0 ∷ 0 ∷ 0 ∷ []),
       got (13 ∷ 10 ∷ 3 ∷ 0 ∷ 0 ∷ 0 ∷ 1 ∷ 0 ∷ 2 ∷ 9 ∷ 6 ∷ 1 ∷ 0 ∷ 0 ∷ 0 ∷ 0 ∷ 2 ∷ []),
+    )
+    -- it is written with byte 7 as 00: an empty list is five zero bytes (rule 8)
+    ∷ (
+      write (10 ∷ 0 ∷ 0 ∷ 9 ∷ 0 ∷ 1 ∷ 108 ∷ 5 ∷ 0 ∷ 0 ∷ 0 ∷ 0 ∷ 0 ∷ []),
+      got (10 ∷ 0 ∷ 0 ∷ 9 ∷ 0 ∷ 1 ∷ 108 ∷ 0 ∷ 0 ∷ 0 ∷ 0 ∷ 0 ∷ 0 ∷ []),
     )
     -- the same with 0D at byte 7
     ∷ (read (10 ∷ 0 ∷ 0 ∷ 9 ∷ 0 ∷ 1 ∷ 108 ∷ 13 ∷ 0 ∷ 0 ∷ 0 ∷ 0 ∷ 0 ∷ []), no 3 7)
