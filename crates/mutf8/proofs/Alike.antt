@@ -1,18 +1,21 @@
 -- Laws of blocks: plain bytes, and bytes that fit behind each other, are values that both codings read alike.
 -- Assumes nothing.
 use Prim.Native.Nat.{ℕ, zero, suc, _+_, _-_, _%_, _≤_, _<_}
-use mathlib.Core.Path.{_≡_}
+use mathlib.Core.Path.{_≡_, ap}
 use mathlib.Core.Logic.{⊎-elim}
 use mathlib.Core.Bool.{true, false}
 use mathlib.Core.List.{List, _∷_}
 use native.Mathlib.Omega.{arith}
 use borrow.Author.Tests.{lt-ltb, le-ltb, lt-leb, ne-eqb}
 use lib.ListN.{length, drop, getD}
-use Rattle.form.specs.Decoding.{Sequence, is, six, twoOf, threeOf, unitOf}
+use Rattle.form.specs.Strings.{scalarBytes, utf8Bytes}
+use Rattle.form.specs.Decoding.{Sequence, is, good, six, twoOf, threeOf, unitOf, scalarOf, utf8Of, isGood, wellFormed, Judged}
 use Rattle.form.proofs.Picks.{lt-or}
 use Rattle.form.proofs.Drops.{drop1, drop2, drop3}
+use Rattle.form.proofs.Scalars.{mutf8}
+use Rattle.form.proofs.Utf8.{utf8}
 use Rattle.mutf8.specs.Runs.{Walked, none, more, commonOf, Passed, Plain, Fits, Fitting, Edge}
-use Rattle.mutf8.proofs.Walks.{walked-join}
+use Rattle.mutf8.proofs.Walks.{walked-join, walked-pass, common-scalar, common-utf8, all-walked}
 
 pub false-true : false ≡ true → ⊥
 false-true e = let z : _≡_ {A = ℕ} 0 1 = cc in omega arith
@@ -59,6 +62,16 @@ plain-passed s i j h l p = record {
 
 pub passed-none : (s : List ℕ) (i : ℕ) → i ≤ length s → Passed s i i
 passed-none s i h = record { on = omega arith; within = h; walked = none }
+
+-- a list that is all plain is good in both codings
+pub plain-good : (s : List ℕ) → Plain s 0 (length s) → Judged scalarBytes scalarOf s good
+plain-good s p = all-walked mutf8 (omega arith) (walked-pass common-scalar none (plain-passed s 0 (length s) (omega arith) (omega arith) p))
+
+pub plain-good-utf8 : (s : List ℕ) → Plain s 0 (length s) → Judged utf8Bytes utf8Of s good
+plain-good-utf8 s p = all-walked utf8 (omega arith) (walked-pass common-utf8 none (plain-passed s 0 (length s) (omega arith) (omega arith) p))
+
+pub plain-well : (s : List ℕ) → Plain s 0 (length s) → true ≡ wellFormed s
+plain-well s p = ap isGood (plain-good s p .is)
 
 pub passed-join : (s : List ℕ) (i j k : ℕ) → Passed s i j → Passed s j k → Passed s i k
 passed-join s i j k p q = record { on = omega (arith, p .on, q .on); within = q .within; walked = walked-join (p .walked) (q .walked) }

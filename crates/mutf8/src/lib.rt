@@ -521,8 +521,18 @@ fn steps(s: &[u8], at: usize, stop: usize) -> usize
     i
 }
 
-// Whether the whole of s is modified UTF-8.
-pub fn check(s: &[u8]) -> Checked
+// Whether s is short and all plain, as most names are: nothing more is then to be asked.
+fn is_plain(s: &[u8]) -> bool
+    ensures { λ r. ⌜ (r ≡ true → Plain (now (s .entry)) 0 (length (now (s .entry)))) ⌝ }
+{
+    if s.len() < 64 {
+        return ends_plain(s, 0);
+    }
+    false
+}
+
+// Whether the whole of s is modified UTF-8, by blocks and by values in turn.
+fn judge(s: &[u8]) -> Checked
     ensures { λ r. ⌜ Judged scalarBytes scalarOf (now (s .entry)) (verdictOf r) ⌝ }
 {
     let mut i = 0;
@@ -540,11 +550,24 @@ pub fn check(s: &[u8]) -> Checked
     Checked::Good
 }
 
+// Whether the whole of s is modified UTF-8.
+pub fn check(s: &[u8]) -> Checked
+    ensures { λ r. ⌜ Judged scalarBytes scalarOf (now (s .entry)) (verdictOf r) ⌝ }
+{
+    if is_plain(s) {
+        return Checked::Good;
+    }
+    judge(s)
+}
+
 // Refusal 4's test.
 pub fn is_well_formed(s: &[u8]) -> bool
     ensures { λ r. ⌜ r ≡ wellFormed (now (s .entry)) ⌝ }
 {
-    match check(s) {
+    if is_plain(s) {
+        return true;
+    }
+    match judge(s) {
         Checked::Good => true,
         Checked::Bad(_) => false,
     }
@@ -573,8 +596,8 @@ fn utf8_steps(s: &[u8], at: usize, stop: usize) -> usize
     i
 }
 
-// Whether the whole of s is UTF-8.
-pub fn check_utf8(s: &[u8]) -> Checked
+// Whether the whole of s is UTF-8, by blocks and by values in turn.
+fn judge_utf8(s: &[u8]) -> Checked
     ensures { λ r. ⌜ Judged utf8Bytes utf8Of (now (s .entry)) (verdictOf r) ⌝ }
 {
     let mut i = 0;
@@ -590,6 +613,16 @@ pub fn check_utf8(s: &[u8]) -> Checked
         i = k;
     }
     Checked::Good
+}
+
+// Whether the whole of s is UTF-8.
+pub fn check_utf8(s: &[u8]) -> Checked
+    ensures { λ r. ⌜ Judged utf8Bytes utf8Of (now (s .entry)) (verdictOf r) ⌝ }
+{
+    if is_plain(s) {
+        return Checked::Good;
+    }
+    judge_utf8(s)
 }
 
 // How many bytes a scalar value takes in modified UTF-8.

@@ -162,15 +162,23 @@ fn is_array(kind: usize) -> bool
     kind == 12
 }
 
-// How many bytes kinds 1 to 6 take, and an element of an array, by kind.
-const WIDTHS: [usize; 13] = [0, 1, 2, 4, 8, 4, 8, 1, 0, 0, 0, 4, 8];
-
 // The bytes of kinds 1 to 6, and of an element of an array (rule 4).
 pub fn width_of(kind: usize) -> usize
     requires { ⌜ kind ≤ 12 ⌝ }
     ensures { λ r. ⌜ r ≡ widthOf kind ⌝ }
 {
-    WIDTHS[kind]
+    match kind {
+        1 => 1,
+        2 => 2,
+        3 => 4,
+        4 => 8,
+        5 => 4,
+        6 => 8,
+        7 => 1,
+        11 => 4,
+        12 => 8,
+        _ => 0,
+    }
 }
 
 // Whether a span lies in a document.

@@ -1,0 +1,37 @@
+-- Right since the loop walks from 0 on: to the end, or to a value that can't be read.
+use Prim.Native.Nat.{_-_, _≤_}
+use mathlib.Core.Logic.{⊎-elim}
+use native.Mathlib.Omega.{arith}
+use borrow.Author.Needs.{needs}
+use lib.ListN.{length}
+use Rattle.form.specs.Decoding.{utf8Of}
+use Rattle.form.proofs.Picks.{lt-or}
+use Rattle.form.proofs.Utf8.{utf8}
+use Rattle.mutf8.specs.Runs.{Walked, none}
+use Rattle.mutf8.proofs.Walks.{common-utf8, walked-step, all-walked, halted-at}
+use Rattle.mutf8.proofs.judge_utf8.Statement.{statement}
+use Rattle.mutf8.proofs.judge_utf8.Tie as tie
+
+abbrev Inv-loop : tie.InvT-loop
+Inv-loop s i₀ reach₀ i reach = (i ≤ length s) × Walked utf8Of s 0 i
+
+abbrev μ-loop : tie.MeasureT-loop
+μ-loop s i₀ reach₀ i reach = length s - i
+
+pub judge-utf8-spec : {M : Type 1} → statement M
+judge-utf8-spec =
+    tie.close
+    (tie.spec
+    Inv-loop
+    μ-loop
+    (λ c. (omega arith, none))  -- loop-holds
+    (λ c κs. c .before .loop .inv .0)  -- pass-requires
+    (λ c κs. search needs)  -- reach-after-requires
+    (λ c κs. (c .before .pass .ensures .within, c .reach-after .ensures))  -- ahead-requires
+    (λ c κs. (c .before .before .pass .ensures .within, c .ahead .ensures .1))  -- utf8-steps-requires
+    (λ c. let q = c .before .utf8-steps .ensures in
+    halted-at utf8 (omega (arith, c .before .before .ahead .ensures .1, c .if1 .taken)) (q .halted (c .if1 .taken)) (walked-step common-utf8 (c .before .before .before .before .before .before .loop .inv .1) (c .before .before .before .before .pass .ensures) q))  -- returns
+    (λ c. let p = c .before .before .before .before .pass in let a = c .before .before .ahead .ensures in let q = c .before .utf8-steps .ensures in
+    ⊎-elim (λ h. omega (arith, a .2 h, p .ensures .on, q .within)) (λ h. omega (arith, p .ensures .on, q .on, q .within)) (lt-or (p .result) (length (c .before .before .before .before .before .before .before .before .args .s .now))))  -- loop-less
+    (λ c. let q = c .before .utf8-steps .ensures in (q .within, walked-step common-utf8 (c .before .before .before .before .before .before .loop .inv .1) (c .before .before .before .before .pass .ensures) q))  -- loop-again
+    (λ c. all-walked utf8 (c .loop-test .left) (c .before .loop .inv .1)))  -- returns-2
