@@ -1,6 +1,6 @@
 -- What the contracts of this crate cite: each enum of the code as the definitions' answer, and what a step leaves in the table.
 -- Assumes nothing.
-use Prim.Native.Nat.{ℕ, _+_, _*_, _≤_, _<_, _^_}
+use Prim.Native.Nat.{ℕ, _+_, _-_, _*_, _≤_, _<_, _^_}
 use mathlib.Core.Path.{_≡_}
 use mathlib.Core.List.{List, [], _∷_}
 use lib.ListN.{length, replicate, take}
@@ -9,7 +9,7 @@ use Rattle.form.specs.Answer.{Out, got, no, _>>_, guard}
 use Rattle.siblings.specs.Holding.{Holds}
 use Rattle.siblings.specs.Lists.{Family}
 use Rattle.form.specs.Table.{Head, Forest, none, node, size, width, words, wrote}
-use Rattle.form.specs.Reading.{Span, Entry, end, named, ListHead, One, Inside, Run, Counts}
+use Rattle.form.specs.Reading.{Span, Entry, end, named, ListHead, One, Inside, Run, Counts, stringAt}
 use Rattle.reader.specs.declared.Answer.{Answer}
 use Rattle.reader.specs.declared.Num.{Num}
 use Rattle.reader.specs.declared.Part.{Part}
@@ -40,6 +40,10 @@ abbrev pub itemOut : Item → Out Entry
 itemOut Item.End = got end
 itemOut (Item.Named k s l x) = got (named k (record { start = s; size = l; count = 0; next = x }))
 itemOut (Item.No n p) = no n p
+
+-- a place that is not 0 is that behind the string at `at`
+abbrev pub Ends : List ℕ → ℕ → ℕ → Type 0
+Ends doc at r = 0 < r → (stringAt doc at ≡ got (record { start = at + 2; size = r - (at + 2); count = 0; next = r })) × (at + 2 ≤ r)
 
 -- what the functions below the public one require
 pub record Ready (doc table : List ℕ) (cap at n : ℕ) : Type 0 where

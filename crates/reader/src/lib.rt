@@ -2,12 +2,12 @@
 // it meets; io.rs of the crate reads in the same order.
 ghost use mathlib.Core.Path.{_≡_};
 ghost use Prim.Native.Nat.{ℕ, suc, _+_, _*_, _≤_, _<_, _^_};
-ghost use lib.ListN.{length, replicate};
+ghost use lib.ListN.{length, replicate, getD};
 ghost use Rattle.form.specs.Table.{none, holds, widthOf};
 ghost use Rattle.form.specs.Spans.{over, same, part};
 ghost use Rattle.siblings.specs.Holding.{among, Holds};
 ghost use Rattle.form.specs.Reading.{ReadIs, numberAt, bytesAt, stringAt, arrayAt, leafAt, leafOne, listHeadAt, entryAt, payloadBy, insideAt, containerAt, listAt, compoundAt, documentAt, roomOf, elements as elementsOf, entries as entriesOf};
-ghost use Rattle.reader.specs.Steps.{readOut, numOut, partOut, startOut, itemOut, Ready, Named, Stepped, Held, Went, Known, Settled, Finished, Spoiled};
+ghost use Rattle.reader.specs.Steps.{readOut, numOut, partOut, startOut, itemOut, Ends, Ready, Named, Stepped, Held, Went, Known, Settled, Finished, Spoiled};
 ghost use Rattle.siblings.specs.Names.{firstRepeat};
 ghost use Rattle.siblings.specs.Forests.{refusalOf};
 use siblings::Found;
@@ -149,6 +149,26 @@ fn string_at(doc: &[u8], at: usize) -> Part
     }
 }
 
+// The place behind a string that is accepted, as nearly all are; else 0, and `string_at` says why not.
+fn string_end(doc: &[u8], at: usize) -> usize
+    requires { ⌜ at ≤ length (now doc) ⌝ }
+    ensures { λ r. ⌜ Ends (now (doc .entry)) at r ⌝ }
+{
+    if doc.len() - at < 2 {
+        return 0;
+    }
+    let start = at + 2;
+    let n = raw::number_at(doc, at, 2) as usize;
+    if doc.len() - start < n {
+        return 0;
+    }
+    let end = start + n;
+    if mutf8::is_well_formed(&doc[start..end]) {
+        return end;
+    }
+    0
+}
+
 // An array: its count (1, 5), then its elements as one field (1).
 fn array_at(doc: &[u8], w: usize, at: usize) -> Part
     requires { ⌜ (w ≤ 8) × (at ≤ length (now doc)) ⌝ }
@@ -242,21 +262,11 @@ fn list_head(doc: &[u8], at: usize) -> Start
     }
 }
 
-// An entry's kind and name, or a compound's end.
-fn entry_at(doc: &[u8], at: usize) -> Item
-    requires { ⌜ at ≤ length (now doc) ⌝ }
+// An entry of some kind, whose name is judged step by step.
+fn named(doc: &[u8], kind: u8, at: usize) -> Item
+    requires { ⌜ (at < length (now doc)) × (kind ≡ getD (now doc) at 0) × (kind ≡ 0 → ⊥) ⌝ }
     ensures { λ r. ⌜ itemOut r ≡ entryAt (now (doc .entry)) at ⌝ }
 {
-    if doc.len() <= at {
-        return Item::No {
-            number: form::DATA_ENDS,
-            place: at,
-        };
-    }
-    let kind = doc[at];
-    if kind == 0 {
-        return Item::End;
-    }
     match string_at(doc, at + 1) {
         Part::No { number, place } => Item::No { number, place },
         Part::Is {
@@ -281,11 +291,76 @@ fn entry_at(doc: &[u8], at: usize) -> Item
     }
 }
 
+// An entry's kind and name, or a compound's end.
+fn entry_at(doc: &[u8], at: usize) -> Item
+    requires { ⌜ at ≤ length (now doc) ⌝ }
+    ensures { λ r. ⌜ itemOut r ≡ entryAt (now (doc .entry)) at ⌝ }
+{
+    if doc.len() <= at {
+        return Item::No {
+            number: form::DATA_ENDS,
+            place: at,
+        };
+    }
+    let kind = doc[at];
+    if kind == 0 {
+        return Item::End;
+    }
+    let next = string_end(doc, at + 1);
+    if next == 0 {
+        return named(doc, kind, at);
+    }
+    if 12 < kind {
+        return Item::No {
+            number: form::TAG_ID,
+            place: at,
+        };
+    }
+    Item::Named {
+        kind,
+        start: at + 3,
+        len: next - (at + 3),
+        next,
+    }
+}
+
 // Whether a kind holds records.
 fn is_container(kind: u8) -> bool
     ensures { λ r. ⌜ r ≡ holds kind ⌝ }
 {
     table::is_container(wide(kind))
+}
+
+// A payload of kinds 1 to 6, read and written as record ix.
+fn fixed(
+    doc: &[u8],
+    kind: u8,
+    name: usize,
+    name_len: usize,
+    at: usize,
+    table: &mut [u32],
+    cap: usize,
+    ix: usize,
+) -> Step
+    requires { ⌜ (Named (now doc) (now table) cap at ix kind name «name_len») × (ix < cap) × (kind < 7) ⌝ }
+    ensures { λ r. ⌜ Stepped (now (doc .entry)) cap (leafOne (now (doc .entry)) kind name «name_len» at) at ix (now (table .entry)) (now (table .exit)) r ⌝ }
+{
+    let width = width_of(kind);
+    if doc.len() - at < width {
+        return Step::No {
+            number: form::DATA_ENDS,
+            place: at,
+        };
+    }
+    table::put(
+        table,
+        ix,
+        table::leaf(wide(kind), name, name_len, at, width, 0, ix + 1),
+    );
+    Step::Next {
+        at: at + width,
+        ix: ix + 1,
+    }
 }
 
 // A payload that holds no records, read and written as record ix.
@@ -344,6 +419,27 @@ fn node(
             place: at,
         };
     }
+    if kind < 7 {
+        return fixed(doc, kind, name, name_len, at, table, cap, ix);
+    }
+    larger(doc, kind, name, name_len, at, depth, table, cap, ix)
+}
+
+// The same where there is room, of any kind: a call for those that are not small.
+fn larger(
+    doc: &[u8],
+    kind: u8,
+    name: usize,
+    name_len: usize,
+    at: usize,
+    depth: usize,
+    table: &mut [u32],
+    cap: usize,
+    ix: usize,
+) -> Step
+    requires { ⌜ (Named (now doc) (now table) cap at ix kind name «name_len») × (ix < cap) ⌝ }
+    ensures { λ r. ⌜ Stepped (now (doc .entry)) cap (payloadBy (now (doc .entry)) cap (insideAt (now (doc .entry)) cap depth) kind name «name_len» at ix) at ix (now (table .entry)) (now (table .exit)) r ⌝ }
+{
     if !is_container(kind) {
         return leaf(doc, kind, name, name_len, at, table, cap, ix);
     }
@@ -563,6 +659,21 @@ fn room(n: usize) -> usize
     }
 }
 
+// The root's payload at `at`, as record 0: room, then what it holds.
+fn root(doc: &[u8], name: usize, name_len: usize, at: usize, table: &mut [u32]) -> Step
+    requires { ⌜ Named (now doc) (now table) (roomOf (length (now table))) at 0 10 name «name_len» ⌝ }
+    ensures { λ r. ⌜ Stepped (now (doc .entry)) (roomOf (length (now (table .entry)))) (payloadBy (now (doc .entry)) (roomOf (length (now (table .entry)))) (insideAt (now (doc .entry)) (roomOf (length (now (table .entry)))) 512) 10 name «name_len» at 0) at 0 (now (table .entry)) (now (table .exit)) r ⌝ }
+{
+    let cap = room(table.len());
+    if cap == 0 {
+        return Step::No {
+            number: form::TABLE_FULL,
+            place: at,
+        };
+    }
+    larger(doc, 10, name, name_len, at, form::DEPTH, table, cap, 0)
+}
+
 // A whole document, from record 0 on.
 fn document(doc: &[u8], table: &mut [u32]) -> Step
     ensures { λ r. ⌜ Stepped (now (doc .entry)) (roomOf (length (now (table .entry)))) (documentAt (now (doc .entry)) (roomOf (length (now (table .entry))))) 0 0 (now (table .entry)) (now (table .exit)) r ⌝ }
@@ -588,10 +699,7 @@ fn document(doc: &[u8], table: &mut [u32]) -> Step
                 len,
                 count: _,
                 next,
-            } => {
-                let cap = room(table.len());
-                node(doc, 10, start, len, next, form::DEPTH, table, cap, 0)
-            }
+            } => root(doc, start, len, next, table),
         }
     } else {
         Step::No {

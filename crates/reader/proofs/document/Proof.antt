@@ -15,8 +15,7 @@ use Rattle.reader.proofs.document.Statement.{statement}
 use Rattle.reader.proofs.document.Tie as tie
 use Rattle.reader.proofs.document.Reads as reads
 use Rattle.reader.proofs.document.Lts as lts
-use Rattle.reader.proofs.node.Reads as node-reads
-use Rattle.reader.proofs.room.Reads as room-reads
+use Rattle.reader.proofs.root.Reads as root-reads
 use Rattle.reader.proofs.string_at.Reads as string-at-reads
 
 -- the root's name
@@ -32,15 +31,15 @@ returns c = (document-long _ _ (c .if1 .taken), refl)
 returns-2 : tie.Need-returns-2
 returns-2 c = (document-none _ _ (c .before .if1 .left) (c .if2 .taken), refl)
 
-node-requires : tie.Need-node-requires
-node-requires c κs =
-    let k = c .before .before .before .before .before .before in
-    let w = string-within _ _ (is (c .before .before)) in
-    let r = c .before .room .ensures in
-    let n = length (c .before .before .before .before .before .before .before .before .before .before .before .before .args .table .now) in
-    let l : length (c .before .before .before .before .before .before .before .before .before .before .before .before .args .doc .now) ≤ 16777216 = k .before .before .before .if1 .left in
+root-requires : tie.Need-root-requires
+root-requires c κs =
+    let k = c .before .before .before .before .before in
+    let w = string-within _ _ (is (c .before)) in
+    let o = k .before .before .before .before .before .before in
+    let n = length (o .args .table .now) in
+    let l : length (o .args .doc .now) ≤ 16777216 = k .before .before .before .if1 .left in
     record {
-      ready = record { doc-le = l; at-le = w .to; cap-le = omega (arith, r, room-le n); fits = omega (arith, r, room-fits n); n-le = omega arith };
+      ready = record { doc-le = l; at-le = w .to; cap-le = room-le n; fits = room-fits n; n-le = omega arith };
       kind-le = omega arith;
       name-lt = omega (arith, w);
       len-lt = omega (arith, w);
@@ -54,9 +53,9 @@ returns-3 c =
 returns-4 : tie.Need-returns-4
 returns-4 c =
     let n = c .before .before in
-    let k = n .before .before .before .before .before .before .before in
-    rw (document-got _ _ (k .before .before .before .if1 .left) (omega arith) (k .if3 .taken) (is (n .before .before .before)))
-    (stepped-from (n .node .result) _ _ _ _ _ _ _ (rw (n .before .before .room .ensures) at (n .node .ensures)))
+    let k = n .before .before .before .before .before .before in
+    rw (document-got _ _ (k .before .before .before .if1 .left) (omega arith) (k .if3 .taken) (is (n .before .before)))
+    (stepped-from (n .root .result) _ _ _ _ _ _ _ (n .root .ensures))
 
 returns-5 : tie.Need-returns-5
 returns-5 c = (document-kind _ _ (c .before .before .before .if1 .left) (omega arith) (c .if3 .left), refl)
@@ -71,8 +70,7 @@ document-spec =
     (λ c κs. search needs)
     (λ c. search needs)
     (λ c. search needs)
-    (λ c κs. search needs)
-    node-requires
+    root-requires
     returns-3
     (λ c. search needs)
     returns-4

@@ -4,16 +4,13 @@ use borrow.Author.Needs.{needs}
 use borrow.Author.Tests.{not-true, not-false}
 use native.Mathlib.Omega.{arith}
 use Prim.Native.Nat.{ℕ, _+_, _-_, _≤_}
-use mathlib.Core.Bool.{Bool}
-use mathlib.Core.List.{List}
 use lib.ListN.{length}
 use mathlib.Core.Path.{_≡_, sym, ap, _∙_}
 use Rattle.form.specs.Answer.{Out, got, no}
-use Rattle.form.specs.Spans.{part}
-use Rattle.form.specs.Decoding.{wellFormed}
 use Rattle.form.specs.Reading.{numberAt}
 use Rattle.form.proofs.Fields.{number-within, string-no, string-cut, string-bad, string-got}
 use Rattle.reader.specs.Steps.{numOut}
+use Rattle.reader.proofs.Steps.{judged-part}
 use Rattle.reader.proofs.string_at.Statement.{statement}
 use Rattle.reader.proofs.string_at.Tie as tie
 use Rattle.reader.proofs.string_at.Reads as reads
@@ -33,21 +30,17 @@ begins c = number-within _ 2 _ (is c)
 whole : (c : tie.Else1) → c .before .before .before .before .before .before .args .at + 2 + c .before .before .n .given .0 .0 ≤ length (c .before .before .before .before .before .before .args .doc .now)
 whole c = omega (arith, begins (c .before), c .if1 .left)
 
--- the part that is judged is the content
-judged : (doc : List ℕ) (a n : ℕ) {b : Bool} → wellFormed (part doc a (a + n - a)) ≡ b → wellFormed (part doc a n) ≡ b
-judged doc a n e = let k : n ≡ a + n - a = omega arith in rw k e
-
 returns-2 : tie.Need-returns-2
 returns-2 c =
     let e = c .before .before .before in
     let a = e .before .before .before .before .before .before .args in
-    sym (string-bad _ _ _ (is (e .before)) (whole e) (judged (a .doc .now) (a .at + 2) (e .before .before .n .given .0 .0) (sym (c .before .is-well-formed .ensures) ∙ not-true _ (c .if2 .taken))))
+    sym (string-bad _ _ _ (is (e .before)) (whole e) (judged-part (a .doc .now) (a .at + 2) (e .before .before .n .given .0 .0) (sym (c .before .is-well-formed .ensures) ∙ not-true _ (c .if2 .taken))))
 
 returns-4 : tie.Need-returns-4
 returns-4 c =
     let e = c .before .before .before in
     let a = e .before .before .before .before .before .before .args in
-    sym (string-got _ _ _ (is (e .before)) (whole e) (judged (a .doc .now) (a .at + 2) (e .before .before .n .given .0 .0) (sym (c .before .is-well-formed .ensures) ∙ not-false _ (c .if2 .left))))
+    sym (string-got _ _ _ (is (e .before)) (whole e) (judged-part (a .doc .now) (a .at + 2) (e .before .before .n .given .0 .0) (sym (c .before .is-well-formed .ensures) ∙ not-false _ (c .if2 .left))))
 
 pub string-at-spec : {M : Type 1} → statement M
 string-at-spec =

@@ -28,8 +28,8 @@ use Rattle.reader.proofs.settle.Reads as settle
 use Rattle.reader.proofs.finish.Reads as finish
 use Rattle.reader.proofs.spoiled.Reads as spoiled
 use Rattle.reader.proofs.node.Reads as node
-use Rattle.reader.proofs.+elements+entries+inside+list+node.Lts-entries as lts
-use Rattle.reader.proofs.+elements+entries+inside+list+node.Proof.Common.{node-below, entries-at}
+use Rattle.reader.proofs.+elements+entries+inside+larger+list+node.Lts-entries as lts
+use Rattle.reader.proofs.+elements+entries+inside+larger+list+node.Proof.Common.{node-below, entries-at}
 
 abbrev readOf : List ℕ → ℕ → ℕ → Reader
 readOf doc cap depth = payloadBy doc cap (insideAt doc cap depth)

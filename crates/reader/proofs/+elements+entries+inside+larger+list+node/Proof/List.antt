@@ -14,8 +14,8 @@ use Rattle.reader.proofs.list.Reads as list
 use Rattle.reader.proofs.list.Kinds as kinds
 use Rattle.reader.proofs.list_head.Reads as list-head
 use Rattle.reader.proofs.elements.Reads as elements
-use Rattle.reader.proofs.+elements+entries+inside+list+node.Lts-list as lts
-use Rattle.reader.proofs.+elements+entries+inside+list+node.Proof.Common.{elements-below, list-at}
+use Rattle.reader.proofs.+elements+entries+inside+larger+list+node.Lts-list as lts
+use Rattle.reader.proofs.+elements+entries+inside+larger+list+node.Proof.Common.{elements-below, list-at}
 
 abbrev On : ℕ → (lts.Claims → In 2 kinds.ps → Out 2 kinds.ps kinds.r → Type 0) → Type 0
 On t F = F (list-head.Asked, list-head.Learnt, elements-below t, elements.Post) (list-at t) list.Post

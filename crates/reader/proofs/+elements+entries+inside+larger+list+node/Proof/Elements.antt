@@ -14,8 +14,8 @@ use Rattle.form.proofs.Runs.{Sofar, sofar-start, sofar-no, sofar-end, sofar-nex
 use Rattle.reader.proofs.elements.Reads as elements
 use Rattle.reader.proofs.elements.Kinds as kinds
 use Rattle.reader.proofs.node.Reads as node
-use Rattle.reader.proofs.+elements+entries+inside+list+node.Lts-elements as lts
-use Rattle.reader.proofs.+elements+entries+inside+list+node.Proof.Common.{node-below, elements-at}
+use Rattle.reader.proofs.+elements+entries+inside+larger+list+node.Lts-elements as lts
+use Rattle.reader.proofs.+elements+entries+inside+larger+list+node.Proof.Common.{node-below, elements-at}
 
 abbrev pub readOf : List ℕ → ℕ → ℕ → Reader
 readOf doc cap depth = payloadBy doc cap (insideAt doc cap depth)

@@ -11,8 +11,8 @@ use Rattle.reader.proofs.inside.Reads as inside
 use Rattle.reader.proofs.inside.Kinds as kinds
 use Rattle.reader.proofs.list.Reads as list
 use Rattle.reader.proofs.entries.Reads as entries
-use Rattle.reader.proofs.+elements+entries+inside+list+node.Lts-inside as lts
-use Rattle.reader.proofs.+elements+entries+inside+list+node.Proof.Common.{list-below, entries-below, inside-at}
+use Rattle.reader.proofs.+elements+entries+inside+larger+list+node.Lts-inside as lts
+use Rattle.reader.proofs.+elements+entries+inside+larger+list+node.Proof.Common.{list-below, entries-below, inside-at}
 
 abbrev On : ℕ → (lts.Claims → In 2 kinds.ps → Out 2 kinds.ps kinds.r → Type 0) → Type 0
 On t F = F (list-below t, list.Post, entries-below t, entries.Post) (inside-at t) inside.Post
