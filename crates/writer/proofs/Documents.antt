@@ -7,21 +7,19 @@ use mathlib.Core.Path.{_≡_, refl, sym, ap, _∙_}
 use native.Mathlib.Omega.{arith}
 use borrow.Author.Tests.{le-leb, lt-leb}
 use lib.ListN.{length, getD}
-use Rattle.form.specs.Answer.{got, no, _>>_, overLimit, noTable, outputFull, depthLimit}
+use Rattle.form.specs.Answer.{got, no, overLimit, noTable, outputFull, depthLimit}
 use Rattle.form.specs.Spans.{over}
 use Rattle.form.specs.Table.{none, node, size, word, valueOf}
 use Rattle.form.specs.Tables.{IsTable, Within}
 use Rattle.form.specs.Layout.{layout}
-use Rattle.form.specs.Reading.{hasName}
 use Rattle.form.specs.Writing.{judged, written, Gives}
 use Rattle.form.proofs.Tables.{table-sits, table-length, sits-first}
 use Rattle.table.specs.declared.Verdict.{Verdict}
 use Rattle.table.specs.Check.{VerdictIs}
 use Rattle.writer.specs.declared.Answer.{Answer}
 use Rattle.writer.specs.declared.Size.{Size}
-use Rattle.writer.specs.Pieces.{oneJudged, laid}
-use Rattle.writer.specs.Steps.{answerOut, Rows, One, OneRoom, Sized, Puts, Formed, WrittenIs, WroteIs}
-use Rattle.writer.proofs.Pieces.{judged-none, judged-node}
+use Rattle.writer.specs.Pieces.{laid}
+use Rattle.writer.specs.Steps.{answerOut, Rows, Some, SomeRoom, Sized, Puts, Formed, WrittenIs, WroteIs}
 use Rattle.writer.proofs.Laid.{document-laid}
 
 module _ (doc t : List ℕ) (small : Within (length doc) t) (i : IsTable (length doc) t) where
@@ -43,35 +41,28 @@ module _ (doc t : List ℕ) (small : Within (length doc) t) (i : IsTable (length
   pub root-room : 8 ≤ length t
   root-room = omega (arith, table-length (length doc) t i)
 
-  -- The root's record, with those in it.
-  abbrev pub root : {e : ℕ} → e ≡ word t 0 7 → One doc t false 0 e
-  root q = record { small = small; head = i .head; inner = i .inner; rows = root-rows q }
-
-  -- The judgement of a table is that of its root.
-  root-judged : judged doc depthLimit false 0 none 0 (node (i .head) (i .inner) none) ≡ (oneJudged doc depthLimit false 0 false 0 (i .head) (i .inner) >> got tt)
-  unfolding hasName
-  root-judged =
-      judged-node doc depthLimit false 0 none 0 (i .head) (i .inner) none false refl
-      ∙ ap (λ o. oneJudged doc depthLimit false 0 false 0 (i .head) (i .inner) >> o) (judged-none doc depthLimit false 0 _ _)
+  -- The root's record and those in it, as records side by side: there is one.
+  abbrev pub root : {e : ℕ} → e ≡ word t 0 7 → Some doc t false 0 e
+  root q = record { small = small; forest = node (i .head) (i .inner) none; rows = root-rows q }
 
   module _ (o : List ℕ) {e : ℕ} (q : e ≡ word t 0 7) (r : Size)
-      (told : (p : One doc t false 0 e) → Sized (oneJudged doc depthLimit false 0 false 0 (p .head) (p .inner)) (laid doc false (node (p .head) (p .inner) none)) r) where
+      (told : (p : Some doc t false 0 e) → Sized (judged doc depthLimit false 0 none 0 (p .forest)) (laid doc false (p .forest)) r) where
     -- A record is refused.
     pub table-no : {m p : ℕ} → r ≡ Size.No m p → Gives (written doc (i .head) (i .inner) (length o)) o (no m p) o
     unfolding written
     table-no {m} {p} g =
-        let z : oneJudged doc depthLimit false 0 false 0 (i .head) (i .inner) ≡ no m p = rw g at (told (root q)) in
-        let w : written doc (i .head) (i .inner) (length o) ≡ no m p = rw (root-judged, z) refl in
+        let z : judged doc depthLimit false 0 none 0 (node (i .head) (i .inner) none) ≡ no m p = rw g at (told (root q)) in
+        let w : written doc (i .head) (i .inner) (length o) ≡ no m p = rw z refl in
         rw w (record { answer-is = refl; output-is = refl })
 
     module _ {s : ℕ} (g : r ≡ Size.Is s) where
       -- What is known of a root that passes.
-      passes : (oneJudged doc depthLimit false 0 false 0 (i .head) (i .inner) ≡ got tt) × (s ≡ length (laid doc false (node (i .head) (i .inner) none)))
+      passes : (judged doc depthLimit false 0 none 0 (node (i .head) (i .inner) none) ≡ got tt) × (s ≡ length (laid doc false (node (i .head) (i .inner) none)))
       passes = rw g at (told (root q))
 
       -- There is room for the root's bytes.
-      pub table-room : s ≤ length o → OneRoom doc t false 0 e o 0
-      table-room l = record { one = root q; room = omega (arith, passes .1, l) }
+      pub table-room : s ≤ length o → SomeRoom doc t false 0 e o 0
+      table-room l = record { some = root q; room = omega (arith, passes .1, l) }
 
       module _ (bytes : (k : ℕ) → getD doc k 0 < 256) where
         -- Its bytes are the layout of its document.
@@ -87,16 +78,16 @@ module _ (doc t : List ℕ) (small : Within (length doc) t) (i : IsTable (length
         unfolding written
         table-full l =
             let w : written doc (i .head) (i .inner) (length o) ≡ no outputFull 0 =
-            rw (root-judged, passes .0, lt-leb (length (layout (valueOf doc (i .head) (i .inner)))) (length o) (omega (arith, long))) refl in
+            rw (passes .0, lt-leb (length (layout (valueOf doc (i .head) (i .inner)))) (length o) (omega (arith, long))) refl in
             rw w (record { answer-is = refl; output-is = refl })
 
         -- It is written.
-        pub table-done : (l : s ≤ length o) {o′ : List ℕ} {x : ℕ} → ((p : OneRoom doc t false 0 e o 0) → Puts (laid doc false (node (p .one .head) (p .one .inner) none)) o 0 o′ x)
+        pub table-done : (l : s ≤ length o) {o′ : List ℕ} {x : ℕ} → ((p : SomeRoom doc t false 0 e o 0) → Puts (laid doc false (p .some .forest)) o 0 o′ x)
             → Gives (written doc (i .head) (i .inner) (length o)) o (got s) o′
         unfolding written table-room
         table-done l put =
             let w : written doc (i .head) (i .inner) (length o) ≡ got (layout (valueOf doc (i .head) (i .inner))) =
-            rw (root-judged, passes .0, le-leb (length (layout (valueOf doc (i .head) (i .inner)))) (length o) (omega (arith, long))) refl in
+            rw (passes .0, le-leb (length (layout (valueOf doc (i .head) (i .inner)))) (length o) (omega (arith, long))) refl in
             rw w (record { answer-is = ap got (sym long); output-is = put (table-room l) .is ∙ ap (over o 0) laid-is })
 
 -- ---- the answers of a write

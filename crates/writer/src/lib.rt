@@ -362,13 +362,14 @@ fn put_all(
     here
 }
 
-// A table: its records are judged, then there is room (13), then they are written.
+// A table: its records are judged, then there is room (13), then they are written. The root is taken as records side by side, of which
+// there is one, so that each walk has one loop in which small records are done with no call.
 fn written(doc: &[u8], table: &mut [u32], out: &mut [u8]) -> Answer
     requires { ⌜ Formed (now doc) (now table) ⌝ }
     ensures { λ r. ⌜ (WrittenIs (now (doc .entry)) (now (table .entry)) (now (out .entry)) r (now (out .exit))) × (now (table .exit) ≡ now (table .entry)) ⌝ }
 {
     let end = table::word(table, 0, table::END);
-    match one_judged(doc, table, 0, end, form::DEPTH, false, 0, false) {
+    match judged(doc, table, 0, end, form::DEPTH, false, 0) {
         Size::No { number, place } => Answer::Refused { number, place },
         Size::Is(length) => {
             if out.len() < length {
@@ -377,7 +378,7 @@ fn written(doc: &[u8], table: &mut [u32], out: &mut [u8]) -> Answer
                     place: 0,
                 };
             }
-            put_one(doc, table, 0, end, false, out, 0);
+            put_all(doc, table, 0, end, false, out, 0);
             Answer::Written { length }
         }
     }
