@@ -269,6 +269,62 @@ def by_hand(cases):
         cases.put(b"ab", flat(rows + [[1, 0, 0, 0, 1, 0, 0, 513], [last, 0, 0, 0, width, 0, 0, 514]]))
 
 
+def well(r, deep):
+    """Containers so many deep, of both sorts, a few small records beside them; in places a list's element is of another kind."""
+    rows = []
+
+    def small(kind):
+        name = (0, 0) if kind == 9 else (r.randrange(26), 2)
+        rows.append([1, *name, 0, 1, 0, 0, len(rows) + 1])
+
+    def box(kind, element, left):
+        row = [kind, 0, 0 if element else 1, 0, 0, 0, 0, 0]
+        rows.append(row)
+        if left:
+            inner = r.choice([9, 10])
+            if kind == 10 and r.randrange(12) == 0:
+                small(10)
+                row[COUNT] += 1
+            if kind == 9 and r.randrange(12) == 0:  # an empty container of the same kind
+                rows.append([inner, 0, 0, 0, 0, 0, 0, len(rows) + 1])
+                row[COUNT] += 1
+            box(inner, kind == 9, left - 1)
+            row[COUNT] += 1
+            if r.randrange(200) == 0:  # in a list a mixed one, after what is too deep
+                small(kind)
+                row[COUNT] += 1
+            row[LIST_KIND] = inner if kind == 9 else 0
+        row[END] = len(rows)
+
+    box(10, False, deep - 1)
+    return rows
+
+
+def until(cases, number, many, make):
+    """Cases from `make` that are refused with that number, until there are so many."""
+    for _ in range(5000):
+        if cases.seen.get(f"refused {number}", 0) >= many:
+            return
+        doc, rows, more = make()
+        try:
+            written(doc + b"a" * more, flat(rows))
+        except Refused as e:
+            if e.args[0] == number:
+                cases.put(doc, flat(rows), None, more)
+    raise AssertionError(number)
+
+
+def long_strings(r):
+    """A made-up table one of whose strings, a name or a payload, is longer than 65,535 bytes."""
+    doc = bytes(range(32, 127))
+    rows = made_up(r, doc, True)
+    over = r.choice([65536, 65536, 65537, 66000, 69000])
+    spots = [(i, NAME) for i, row in enumerate(rows) if row[NAME_LENGTH]] + [(i, START) for i, row in enumerate(rows) if row[KIND] == 8]
+    i, word = r.choice(spots)
+    rows[i][word:word + 2] = [r.choice([0, 90, len(doc)]), over]
+    return doc, rows, 69900
+
+
 def main(folder):
     sys.setrecursionlimit(20000)
     r = random.Random(20261116)
@@ -287,8 +343,11 @@ def main(folder):
         rows = made_up(r, doc, True)
         if len(rows) <= 60:
             cases.put(doc, flat(rows))
+    until(cases, 11, 120, lambda: (bytes(range(32, 127)), made_up(r, bytes(range(32, 127)), True), 0))
+    until(cases, 12, 60, lambda: long_strings(r))
+    until(cases, 7, 50, lambda: (b"abcdefghijklmnopqrstuvwxyzabc", well(r, r.choice([513, 513, 514, 530])), 0))
     for key in ["table", "none", "written"] + [f"refused {n}" for n in (4, 6, 7, 10, 11, 12, 13)]:
-        assert cases.seen.get(key), key
+        assert cases.seen.get(key, 0) >= 50, key
     assert len(cases.lines) >= 3000
     open(folder + "/stdin", "w", newline="").write("\n".join(cases.lines) + "\n")
     open(folder + "/stdout", "w", newline="").write("\n".join(cases.answers) + "\n")
