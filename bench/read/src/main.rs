@@ -1,9 +1,12 @@
 //! Reads the same documents with tikfazrul_read and with quartz_nbt's read_nbt, in one run, and prints the time of each and the ratio. A time is
 //! the least of several runs. Ours lends a table that is reused; theirs builds and drops its tree.
+#[path = "../../documents.rs"]
+mod documents;
+
+use documents::{arrays, least, strings, tiles, Doc};
 use quartz_nbt::io::{read_nbt, Flavor};
 use std::hint::black_box;
 use std::io::Cursor;
-use std::time::Instant;
 
 extern "C" {
     fn tikfazrul_read(doc: *const u8, doc_len: usize, table: *mut u32, table_len: usize, answer: *mut u64);
@@ -15,80 +18,11 @@ fn ours(doc: &[u8], table: &mut [u32]) -> [u64; 8] {
     answer
 }
 
-fn least(runs: usize, mut f: impl FnMut()) -> f64 {
-    (0..runs)
-        .map(|_| {
-            let start = Instant::now();
-            f();
-            start.elapsed().as_secs_f64()
-        })
-        .fold(f64::INFINITY, f64::min)
-}
-
-struct Doc {
-    bytes: Vec<u8>,
-    tags: usize,
-}
-
-impl Doc {
-    fn new() -> Doc {
-        Doc { bytes: vec![10, 0, 0], tags: 1 }
-    }
-    fn head(&mut self, kind: u8, name: &[u8]) {
-        self.bytes.push(kind);
-        self.bytes.extend((name.len() as u16).to_be_bytes());
-        self.bytes.extend(name);
-        self.tags += 1;
-    }
-    fn string(&mut self, s: &[u8]) {
-        self.bytes.extend((s.len() as u16).to_be_bytes());
-        self.bytes.extend(s);
-    }
-    fn end(mut self) -> Doc {
-        self.bytes.push(0);
-        self
-    }
-}
-
 fn next(seed: &mut u64) -> u64 {
     *seed ^= *seed << 13;
     *seed ^= *seed >> 7;
     *seed ^= *seed << 17;
     *seed
-}
-
-/// Tiles: compounds of a dozen small tags with ordinary names.
-fn tiles(n: usize) -> Doc {
-    let mut d = Doc::new();
-    d.head(9, b"Tiles");
-    d.bytes.push(10);
-    d.bytes.extend((n as u32).to_be_bytes());
-    for i in 0..n {
-        d.tags += 1;
-        d.head(8, b"SceneId");
-        d.string(format!("S2B_{i:07}").as_bytes());
-        for name in ["OriginLon", "OriginLat", "Width", "Height"] {
-            d.head(3, name.as_bytes());
-            d.bytes.extend((i as u32).to_be_bytes());
-        }
-        d.head(1, b"Level");
-        d.bytes.push(7);
-        d.head(2, b"Epsg");
-        d.bytes.extend([0x10, 0xE6]);
-        d.head(6, b"CloudCover");
-        d.bytes.extend(0.25f64.to_be_bytes());
-        d.head(11, b"Footprint");
-        d.bytes.extend([0, 0, 0, 8]);
-        d.bytes.extend([1u8; 32]);
-        d.head(10, b"Sensor");
-        d.head(8, b"Name");
-        d.string(b"MSI");
-        d.head(4, b"Taken");
-        d.bytes.extend([0; 8]);
-        d.bytes.push(0);
-        d.bytes.push(0);
-    }
-    d.end()
 }
 
 fn bytes_in_a_list(n: usize) -> Doc {
@@ -98,26 +32,6 @@ fn bytes_in_a_list(n: usize) -> Doc {
     d.bytes.extend((n as u32).to_be_bytes());
     d.bytes.extend(vec![5u8; n]);
     d.tags += n;
-    d.end()
-}
-
-fn arrays(n: usize, elements: usize) -> Doc {
-    let mut d = Doc::new();
-    for i in 0..n {
-        d.head(12, format!("a{i}").as_bytes());
-        d.bytes.extend((elements as u32).to_be_bytes());
-        d.bytes.extend(vec![3u8; 8 * elements]);
-    }
-    d.end()
-}
-
-fn strings(n: usize, length: usize, each: &str) -> Doc {
-    let mut d = Doc::new();
-    let text: Vec<u8> = each.bytes().cycle().take(length / each.len() * each.len()).collect();
-    for i in 0..n {
-        d.head(8, format!("s{i}").as_bytes());
-        d.string(&text);
-    }
     d.end()
 }
 
