@@ -10,7 +10,6 @@ pub mod Sound
 pub mod Documents
 pub mod Canonical
 pub mod Judged
-pub mod Fairly
 pub mod Tabled
 pub mod Near
 pub mod Meant

@@ -23,7 +23,7 @@ use Rattle.demands.specs.Reading.{Complete}
 use Rattle.demands.specs.Writing.{tableValue, IsWrittenLawful, IsLawfulWritten, IsReadBack, IsRewritten, IsDomain}
 use Rattle.demands.proofs.Judged.{then-got, root-lawful, lawful-root, counted}
 use Rattle.demands.proofs.Answers.{of-got}
-use Rattle.demands.proofs.Fairly.{document-fair}
+use Rattle.demands.proofs.Tabled.{root-is}
 use Rattle.demands.proofs.Near.{near}
 use Rattle.demands.proofs.Reading.{canonical, sound, complete}
 
@@ -65,19 +65,19 @@ again : (doc : List ℕ) (room : ℕ) (x : One) → documentAt doc room ≡ got 
     → written doc (x .head) (x .inner) to ≡ got (layout (valueOf doc (x .head) (x .inner)))
 unfolding written
 again doc room x e lawful to fits =
-    let f = of-got e (document-fair doc room) in
-    rw (lawful-root doc (x .head) (x .inner) (f .0) (f .1) lawful, le-leb (length (layout (valueOf doc (x .head) (x .inner)))) to fits) refl
+    let f = of-got e (root-is doc room) in
+    rw (lawful-root doc (x .head) (x .inner) (f .compound) (f .fair) lawful, le-leb (length (layout (valueOf doc (x .head) (x .inner)))) to fits) refl
 
 -- The table that reading leaves is written as the bytes consumed, but at the ids of empty lists.
 pub rewritten : IsRewritten
 rewritten doc bytes room few x e =
     let s = sound doc bytes room x e in
-    let f = of-got e (document-fair doc room) in
+    let f = of-got e (root-is doc room) in
     let d = valueOf doc (x .head) (x .inner) in
     let n = near d (take (x .next) doc) (s .laid) in
     let long : length (layout d) ≡ x .next = sym (n .long) ∙ length-take-le (x .next) doc (s .within) in
     record {
-      table = record { head = x .head; inner = x .inner; compound = f .0; fair = f .1; these = refl };
+      table = record { head = x .head; inner = x .inner; compound = f .compound; fair = f .fair; these = refl };
       head-is = refl;
       inner-is = refl;
       small = record { bytes = s .small; words = omega (arith, flat-length 0 (node (x .head) (x .inner) none), size-one (x .head) (x .inner), s .fits, s .records) };
