@@ -23,3 +23,4 @@ pub mod Values
 pub mod Writing
 pub mod Paths
 pub mod Depths
+pub mod Outcomes
