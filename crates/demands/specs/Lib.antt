@@ -2,4 +2,5 @@ pub mod Reading
 pub mod Writing
 pub mod Texts
 pub mod Queries
+pub mod Outcomes
 pub mod Marked

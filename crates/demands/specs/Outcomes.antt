@@ -1,0 +1,19 @@
+-- What is claimed of the promises that go by cases: a write and a query have one outcome each. Over a limit, no table, a table: the cases
+-- exclude each other, and each says all of the outcome. The proofs are in proofs/Outcomes.antt, under the names given here.
+-- Assumes nothing.
+use Prim.Native.Nat.{ℕ}
+use mathlib.Core.Path.{_≡_}
+use mathlib.Core.List.{List}
+use Rattle.form.specs.Answer.{Out}
+use Rattle.form.specs.Writing.{WriteIs}
+use Rattle.form.specs.Query.{Count, QueryIs}
+
+-- `one-write`: two outcomes that the promise of a write allows are one, the answer and the output.
+abbrev pub IsOneWrite : Type 0
+IsOneWrite =
+    (doc t o : List ℕ) (a₁ a₂ : Out ℕ) (o₁ o₂ : List ℕ) → WriteIs doc t o a₁ o₁ → WriteIs doc t o a₂ o₂ → (a₁ ≡ a₂) × (o₁ ≡ o₂)
+
+-- `one-query`: two outcomes that the promise of a query allows are one, the answer and the list.
+abbrev pub IsOneQuery : Type 0
+IsOneQuery =
+    (doc t q l : List ℕ) (a₁ a₂ : Count) (l₁ l₂ : List ℕ) → QueryIs doc t q l a₁ l₁ → QueryIs doc t q l a₂ l₂ → (a₁ ≡ a₂) × (l₁ ≡ l₂)
