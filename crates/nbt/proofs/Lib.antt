@@ -1,3 +1,3 @@
--- Lemmas on plain values, for the proofs of this crate.
-mod Words
+pub mod Words
 pub mod Tokens
+pub mod Outcomes
