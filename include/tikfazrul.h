@@ -20,13 +20,21 @@
  *    6  a name twice            the id byte of the later entry (tikfazrul_write: the later record)
  *    7  over 512 deep           the first payload byte (tikfazrul_write, tikfazrul_query: the record)
  *    8  the table is full       the first payload byte
- *    9  over a limit            0: a document over 16,777,216 bytes, or a table to check, to write or to ask over 8,388,608 words
+ *    9  over a limit            0: a document over 16,777,216 bytes, a table to check, to write or to ask over 8,388,608 words, or a text over
+ *                               1,048,576 bytes
  *   10  no table                0: the words form no table (tikfazrul_write, tikfazrul_query)
  *   11  a mixed list            the record of another kind than its list's first
  *   12  over 65,535 bytes       the record whose name or string it is
  *   13  the output is full      0
  *   14  a malformed query       the first byte of the step, as an offset in the query
- *   15  not UTF-8               tikfazrul_check_utf8: the first sequence that can't be read
+ *   15  not UTF-8               tikfazrul_check_utf8: the first sequence that can't be read; elsewhere 0, also for a start off a character
+ *                               or past the text
+ *   16  a quote left open       the token
+ *   17  no such escape          its backslash; surrogates are none
+ *   18  no number               the token
+ *   19  unexpected              the character in an escape that is no hexadecimal digit
+ *   20  the text ends           the text's length: within an escape's digits
+ *   23  a decimal beyond reach  the token: more digits or a larger power of ten than one rounding can do
  *   24  more matches than room  0, with the true number of matches in [2]
  */
 #ifndef TIKFAZRUL_H
@@ -80,6 +88,47 @@ void tikfazrul_write(const uint8_t *doc, size_t doc_len, uint32_t *table, size_t
  * matches, so that a call with no room asks how much is needed. */
 void tikfazrul_query(const uint8_t *doc, size_t doc_len, const uint32_t *table, size_t table_len, const uint8_t *query, size_t query_len,
                      uint32_t *list, size_t list_len, uint64_t answer[8]);
+
+/* The sets of characters that stop an unquoted token of a text. Any other number is the default. */
+enum {
+    TIKFAZRUL_STOPS_DEFAULT = 0, /* {}[],; */
+    TIKFAZRUL_STOPS_KEY = 1,     /* : */
+    TIKFAZRUL_STOPS_VALUE = 2,   /* ,} */
+    TIKFAZRUL_STOPS_FIRST = 3,   /* ,]; a list's first element */
+    TIKFAZRUL_STOPS_LATER = 4    /* ,] later elements */
+};
+
+/* What a token is. */
+enum {
+    TIKFAZRUL_TOKEN_END = 0,
+    TIKFAZRUL_TOKEN_OPEN_CURLY = 1,
+    TIKFAZRUL_TOKEN_CLOSED_CURLY = 2,
+    TIKFAZRUL_TOKEN_OPEN_SQUARE = 3,
+    TIKFAZRUL_TOKEN_CLOSED_SQUARE = 4,
+    TIKFAZRUL_TOKEN_COMMA = 5,
+    TIKFAZRUL_TOKEN_COLON = 6,
+    TIKFAZRUL_TOKEN_SEMICOLON = 7,
+    TIKFAZRUL_TOKEN_STRING = 8, /* unquoted */
+    TIKFAZRUL_TOKEN_QUOTED = 9,
+    TIKFAZRUL_TOKEN_BYTE = 10,
+    TIKFAZRUL_TOKEN_SHORT = 11,
+    TIKFAZRUL_TOKEN_INT = 12,
+    TIKFAZRUL_TOKEN_LONG = 13,
+    TIKFAZRUL_TOKEN_FLOAT = 14,
+    TIKFAZRUL_TOKEN_DOUBLE = 15
+};
+
+/* The next token of a text (SNBT, UTF-8) from the byte `start` on. Accepted: [2] is what it is, [3] its index in bytes, [4] its width in
+ * characters, [5] the next place; [6] the 64 bits of a whole number (two's complement) or of the double that a float or a double token
+ * carries, or where a string's content begins, and [7] where that ends (of a quoted string between the quotes, with its escapes). Where only
+ * blanks are left, [2] is 0 and [5] the text's length. Refused: 9, 15, then 16, 17, 18, 19, 20, 23. */
+void tikfazrul_token(const uint8_t *text, size_t text_len, size_t start, uint32_t stops, uint64_t answer[8]);
+
+/* The content of a string token from `start` up to `end`, in modified UTF-8; its escapes are resolved where `quoted` is not 0. Accepted: [2]
+ * is the number of bytes, from out[0] on; no other byte changes. Refused (9; 15, also for a start or an end off a character, past the text
+ * or in the wrong order; 17, 19, 20; 13): the output is as it was. A content has at most twice as many bytes as it takes in the text. */
+void tikfazrul_content(const uint8_t *text, size_t text_len, size_t start, size_t end, uint8_t quoted, uint8_t *out, size_t out_len,
+                       uint64_t answer[8]);
 
 /* Whether bytes are modified UTF-8 (java.io.DataInput) of Unicode scalar values. Refused: 4, at the offset where the first sequence that
  * can't be read begins. */

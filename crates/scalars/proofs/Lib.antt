@@ -1,0 +1,6 @@
+pub mod Bounds
+pub mod Gathers
+pub mod Placing
+pub mod Rooms
+pub mod Spanning
+pub mod Turning

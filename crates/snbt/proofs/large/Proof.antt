@@ -1,0 +1,31 @@
+use borrow.Author.Needs.{needs}
+use Rattle.snbt.proofs.large.Statement.{statement}
+use Rattle.snbt.proofs.large.Tie as tie
+use Rattle.snbt.proofs.large.Reads as reads
+use Rattle.snbt.proofs.large.Lts as lts
+use Rattle.snbt.proofs.root.Reads as root-reads
+
+-- src/lib.rt:785:21
+slice-aggregate-root : tie.Need-slice-aggregate-root
+slice-aggregate-root c = search needs
+
+-- src/lib.rt:785:32
+slice-aggregate-root-2 : tie.Need-slice-aggregate-root-2
+slice-aggregate-root-2 c = search needs
+
+-- src/lib.rt:785:5
+root-requires : tie.Need-root-requires
+root-requires c κs = ?
+
+-- src/lib.rt:779:1
+same-length : tie.Need-same-length
+same-length c = search needs
+
+-- src/lib.rt:779:1
+returns : tie.Need-returns
+returns c = search needs
+
+pub large-spec : {M : Type 1} → statement M
+large-spec =
+    tie.close
+    (tie.spec slice-aggregate-root slice-aggregate-root-2 root-requires same-length returns)

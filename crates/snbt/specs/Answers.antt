@@ -1,0 +1,11 @@
+-- The answer of a parse as that of the definitions (rules 14 and 15).
+-- Assumes nothing.
+use Rattle.form.specs.Answer.{Out, got, no}
+use Rattle.text_form.specs.Text.{Lengths}
+use Rattle.snbt.specs.declared.Parsed.{Parsed}
+use Rattle.snbt.specs.declared.Parsed.the-variants.{Document, Refused}
+
+-- The bytes consumed and the length of the output, or the number and the place of the refusal.
+abbrev pub parsedOut : Parsed → Out Lengths
+parsedOut (Document c l) = got (record { consumed = c; length = l })
+parsedOut (Refused n p) = no n p
