@@ -1,0 +1,63 @@
+//! NBT read, written and asked by a proved library.
+//!
+//! Every answer comes from `libnbt.a`, whose functions are proved to answer as its rules say on every input, to touch no memory that they
+//! weren't lent, and to return. This crate wraps its C calls: the one module with `unsafe` is `ffi`, and nothing here crashes on any
+//! input.
+//!
+//! ```
+//! use tikfazrul::{read, Kind, Query};
+//!
+//! let doc = b"\x0A\0\x04tile\x08\0\x07SceneId\0\x03S2B\x03\0\x09OriginLon\x02\xEA\xF2\xC0\0";
+//! let table = read(doc)?;
+//! let root = table.root(doc)?;
+//! assert_eq!(root.get("SceneId").unwrap().as_str().unwrap(), "S2B");
+//! assert_eq!(root.get("OriginLon").unwrap().as_i32(), Some(48_952_000));
+//!
+//! let query: Query = "root/**/OriginLon".parse()?;
+//! for node in table.find(doc, &query)? {
+//!     assert_eq!((node.kind(), node.path().as_str()), (Kind::Int, "root/OriginLon"));
+//! }
+//! # Ok::<(), Box<dyn std::error::Error>>(())
+//! ```
+//!
+//! A refusal says what and where, and can show the bytes:
+//!
+//! ```
+//! let doc = b"\x0A\0\0\x01\0\x01b\x01\x01\0\x01b\x02\0";
+//! let refusal = tikfazrul::read(doc).unwrap_err();
+//! assert_eq!(refusal.to_string(), "a name stands twice in one compound, at byte 8, the later entry (refusal 6)");
+//! assert_eq!(refusal.window(doc).unwrap(), "\
+//! 00000000  0A 00 00 01 00 01 62 01  01 00 01 62 02 00        |......b....b..|
+//!                                    ^^");
+//! ```
+//!
+//! # Coming from quartz_nbt
+//!
+//! | there | here |
+//! |---|---|
+//! | `io::read_nbt` | [`read`]; the root's name is [`Node::name`] of [`Table::root`] |
+//! | `io::write_nbt` | [`write`] |
+//! | `NbtTag` | [`Node`], a view of a record; [`Kind`] names its variants |
+//! | `NbtTag::Int(n)`, `i32::try_from(tag)` | [`Node::as_i32`] and its like |
+//! | `NbtCompound::get`, `contains_key`, `len`, `inner().iter()` | [`Node::get`], [`Node::contains_key`], [`Node::len`], [`Node::children`] |
+//! | `NbtList::get` | [`Node::element`] |
+//! | `NbtIoError`, `ParserErrorType` | [`Refusal`]: `MissingRootTag`, `InvalidTagId`, `NonHomogenousList`, `UnmatchedQuote`, … mean the same |
+#![cfg_attr(feature = "text", doc = "| `snbt::parse_and_size` | [`parse`] |")]
+#![deny(unsafe_code, missing_docs)]
+
+mod ffi;
+pub mod hex;
+pub mod mutf8;
+mod node;
+mod path;
+mod refusal;
+mod table;
+#[cfg(feature = "text")]
+mod text;
+
+pub use node::{Children, Kind, Link, Node, Walk};
+pub use path::{quoted, Fault, PathError, Query, MAX_NAME, MAX_STEPS};
+pub use refusal::{Place, Refusal};
+pub use table::{query, query_into, read, read_into, write, write_into, Read, Table, MAX_DOCUMENT, MAX_RECORDS, WORDS};
+#[cfg(feature = "text")]
+pub use text::{content, parse, token, Parsed, Stops, Token, TokenData, MAX_TEXT};

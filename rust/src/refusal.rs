@@ -1,0 +1,204 @@
+//! Why something is refused, and where.
+use crate::ffi::Answer;
+use crate::hex;
+use std::fmt;
+
+/// What a place counts.
+#[derive(Clone, Copy, Debug, PartialEq, Eq, Hash)]
+pub enum Place {
+    /// A byte of the document, from 0.
+    Byte(usize),
+    /// A record of the table, from 0.
+    Record(usize),
+    /// A byte of the query, from 0.
+    Query(usize),
+    /// A byte of the text, from 0.
+    Text(usize),
+    /// The whole input: no one place is at fault.
+    Whole,
+}
+
+impl Place {
+    /// The place as a bare number, 0 for the whole.
+    pub fn number(self) -> usize {
+        match self {
+            Place::Byte(n) | Place::Record(n) | Place::Query(n) | Place::Text(n) => n,
+            Place::Whole => 0,
+        }
+    }
+}
+
+impl fmt::Display for Place {
+    fn fmt(&self, f: &mut fmt::Formatter) -> fmt::Result {
+        match self {
+            Place::Byte(n) => write!(f, "at byte {n}"),
+            Place::Record(n) => write!(f, "at record {n}"),
+            Place::Query(n) => write!(f, "at byte {n} of the query"),
+            Place::Text(n) => write!(f, "at byte {n} of the text"),
+            Place::Whole => write!(f, "as a whole"),
+        }
+    }
+}
+
+/// Writes the enum, its numbers and its words from one table, so that they can't part.
+macro_rules! refusals {
+    ($($number:literal $case:ident $what:literal, $byte:literal;)*) => {
+        /// Why a call is refused: a case for each number of the library, with the place.
+        #[derive(Clone, Copy, Debug, PartialEq, Eq, Hash)]
+        #[non_exhaustive]
+        pub enum Refusal {
+            $(#[doc = concat!($number, ": ", $what, ".")] $case(Place),)*
+            /// 24: there are more matches than the list has room for. The true number of them.
+            MoreMatches(usize),
+            /// A number that the library does not give.
+            Unknown(u64, Place),
+        }
+
+        impl Refusal {
+            /// The library's number of this refusal.
+            pub fn number(&self) -> u64 {
+                match self {
+                    $(Refusal::$case(_) => $number,)*
+                    Refusal::MoreMatches(_) => 24,
+                    Refusal::Unknown(number, _) => *number,
+                }
+            }
+
+            /// Where it is.
+            pub fn place(&self) -> Place {
+                match self {
+                    $(Refusal::$case(place) => *place,)*
+                    Refusal::MoreMatches(_) => Place::Whole,
+                    Refusal::Unknown(_, place) => *place,
+                }
+            }
+
+            /// What is wrong, in plain words and without the place.
+            pub fn what(&self) -> &'static str {
+                match self {
+                    $(Refusal::$case(_) => $what,)*
+                    Refusal::MoreMatches(_) => "there are more matches than the list has room for",
+                    Refusal::Unknown(..) => "the library gave a number that this wrapper does not know",
+                }
+            }
+
+            /// What stands at the place, where that is a byte of a document; empty where nothing is to be added.
+            fn at_byte(&self) -> &'static str {
+                match self {
+                    $(Refusal::$case(_) => $byte,)*
+                    _ => "",
+                }
+            }
+
+            fn of(number: u64, place: Place) -> Refusal {
+                match number {
+                    $($number => Refusal::$case(place),)*
+                    _ => Refusal::Unknown(number, place),
+                }
+            }
+        }
+    };
+}
+
+refusals! {
+    1 DataEnds "the data ends before the document does", "where the field that is not whole begins";
+    2 MissingRootTag "the root is no compound: a document begins with 0A", "";
+    3 InvalidTagId "no tag has this id: ids are 1 to 12", "the id";
+    4 InvalidString "a string is not modified UTF-8", "where its content begins";
+    5 NegativeCount "a count is below 0", "where the count begins";
+    6 RepeatedName "a name stands twice in one compound", "the later entry";
+    7 TooDeep "lists and compounds are more than 512 deep", "where the payload of the innermost begins";
+    8 TableFull "the table has no room for another record", "where that record's payload begins";
+    9 OverLimit "the input is over a limit: a document has at most 16,777,216 bytes, a text 1,048,576, a table 1,048,576 records", "";
+    10 NoTable "the words form no table over this document", "";
+    11 NonHomogenousList "a list holds tags of more than one kind", "";
+    12 StringTooLong "a name or string has more than 65,535 bytes", "";
+    13 OutputFull "the output has no room for the document", "";
+    14 MalformedQuery "the query has a step that can't be read, or more than sixteen", "";
+    15 NotUtf8 "the text is not UTF-8, or the start is within a character or past its end", "";
+    16 UnmatchedQuote "a quote is opened and not closed", "";
+    17 UnknownEscapeSequence "there is no such escape", "";
+    18 InvalidNumber "a number can't be read", "";
+    19 UnexpectedToken "something else is expected here", "";
+    20 UnexpectedEos "the text ends where more is due", "";
+    21 TrailingComma "nothing follows a comma", "";
+    22 UnmatchedBrace "a brace or bracket is opened and not closed", "";
+    23 UnheldDecimal "a decimal has more digits, or a larger exponent, than is read exactly", "";
+}
+
+impl Refusal {
+    /// The refusal that an answer holds, if it holds one. `place` says what the call's places count.
+    pub(crate) fn check(answer: &Answer, place: fn(usize) -> Place) -> Result<(), Refusal> {
+        match answer[0] {
+            0 => Ok(()),
+            24 => Err(Refusal::MoreMatches(answer[2] as usize)),
+            9 | 10 => Err(Refusal::of(answer[0], Place::Whole)),
+            number => Err(Refusal::of(number, place(answer[1] as usize))),
+        }
+    }
+
+    /// The bytes around the place, in hexadecimal with a mark below the place, where the place is a byte of `bytes`: of the document, the
+    /// query or the text that was refused. `None` where the place is a record or the whole.
+    ///
+    /// ```
+    /// let refusal = tikfazrul::read(b"\x0A\0\0\x0D\0\0").unwrap_err();
+    /// assert_eq!(refusal.window(b"\x0A\0\0\x0D\0\0").unwrap(), "\
+    /// 00000000  0A 00 00 0D 00 00                                 |......|
+    ///                    ^^");
+    /// ```
+    pub fn window(&self, bytes: &[u8]) -> Option<String> {
+        match self.place() {
+            Place::Byte(at) | Place::Query(at) | Place::Text(at) => Some(hex::window(bytes, at)),
+            Place::Record(_) | Place::Whole => None,
+        }
+    }
+}
+
+impl fmt::Display for Refusal {
+    fn fmt(&self, f: &mut fmt::Formatter) -> fmt::Result {
+        write!(f, "{}", self.what())?;
+        if let Refusal::MoreMatches(matches) = self {
+            write!(f, ": {matches} in all")?;
+        }
+        if self.place() != Place::Whole {
+            write!(f, ", {}", self.place())?;
+        }
+        if matches!(self.place(), Place::Byte(_)) && !self.at_byte().is_empty() {
+            write!(f, ", {}", self.at_byte())?;
+        }
+        write!(f, " (refusal {})", self.number())
+    }
+}
+
+impl std::error::Error for Refusal {}
+
+#[cfg(test)]
+mod tests {
+    use super::*;
+
+    #[test]
+    fn each_number_has_its_case() {
+        for number in 1..=23 {
+            let refusal = Refusal::of(number, Place::Byte(7));
+            assert_eq!((refusal.number(), refusal.place()), (number, Place::Byte(7)));
+            assert!(!matches!(refusal, Refusal::Unknown(..)), "{number}");
+        }
+        assert_eq!(Refusal::of(25, Place::Whole), Refusal::Unknown(25, Place::Whole));
+    }
+
+    #[test]
+    fn the_words_say_what_and_where() {
+        let twice = Refusal::RepeatedName(Place::Byte(23));
+        assert_eq!(twice.to_string(), "a name stands twice in one compound, at byte 23, the later entry (refusal 6)");
+        let record = Refusal::RepeatedName(Place::Record(2));
+        assert_eq!(record.to_string(), "a name stands twice in one compound, at record 2 (refusal 6)");
+        assert_eq!(Refusal::NoTable(Place::Whole).to_string(), "the words form no table over this document (refusal 10)");
+        assert!(Refusal::MoreMatches(3).to_string().contains("3 in all"));
+    }
+
+    #[test]
+    fn a_record_and_the_whole_have_no_window() {
+        assert_eq!(Refusal::RepeatedName(Place::Record(0)).window(b"abc"), None);
+        assert_eq!(Refusal::NoTable(Place::Whole).window(b"abc"), None);
+    }
+}

@@ -1,0 +1,259 @@
+//! Tables of records: read from a document, written as one, asked.
+use crate::ffi::{self, Answer};
+use crate::node::Node;
+use crate::path::Query;
+use crate::refusal::{Place, Refusal};
+
+/// The words of a record.
+pub const WORDS: usize = 8;
+/// The most records that a table has.
+pub const MAX_RECORDS: usize = 1_048_576;
+/// The most bytes that a document has.
+pub const MAX_DOCUMENT: usize = 16_777_216;
+
+/// A record's words, by what they hold.
+pub(crate) mod word {
+    pub const KIND: usize = 0;
+    pub const NAME: usize = 1;
+    pub const NAME_LENGTH: usize = 2;
+    pub const START: usize = 3;
+    pub const LENGTH: usize = 4;
+    pub const COUNT: usize = 5;
+    pub const LIST_KIND: usize = 6;
+    pub const END: usize = 7;
+}
+
+/// A table that owns its words, eight for each record, in file order.
+///
+/// It holds spans of the document that it was read from, not the bytes: whoever walks or writes it hands the document in again.
+#[derive(Clone, Debug, Default, PartialEq, Eq)]
+pub struct Table {
+    words: Vec<u32>,
+    consumed: usize,
+    /// The length of a document over which the words are known to form a table; rule 7 asks for nothing else of it.
+    over: Option<usize>,
+}
+
+impl Table {
+    /// A table of no records, to be read into.
+    pub fn new() -> Table {
+        Table::default()
+    }
+
+    /// A table of words from elsewhere. They may form none: then [`write`], [`query`] and [`Table::root`] refuse them with 10.
+    pub fn from_words(words: Vec<u32>) -> Table {
+        Table { words, consumed: 0, over: None }
+    }
+
+    /// Reads a document, and uses the memory of what was read before. After a refusal the table is empty. The table grows by itself: a read
+    /// that finds it full (8) is tried again with more room, up to [`MAX_RECORDS`].
+    pub fn read(&mut self, doc: &[u8]) -> Result<(), Refusal> {
+        self.consumed = 0;
+        self.over = None;
+        let mut room = (self.words.capacity() / WORDS).max(doc.len() / 16).clamp(16, MAX_RECORDS);
+        loop {
+            self.words.clear();
+            self.words.resize(room * WORDS, 0);
+            match read_into(doc, &mut self.words) {
+                Ok(read) => {
+                    self.words.truncate(read.records * WORDS);
+                    self.consumed = read.consumed;
+                    self.over = Some(doc.len());
+                    return Ok(());
+                }
+                Err(Refusal::TableFull(_)) if room < MAX_RECORDS => room = (room * 4).min(MAX_RECORDS),
+                Err(refusal) => {
+                    self.words.clear();
+                    return Err(refusal);
+                }
+            }
+        }
+    }
+
+    /// The words, eight for each record.
+    pub fn words(&self) -> &[u32] {
+        &self.words
+    }
+
+    /// The words, for good.
+    pub fn into_words(self) -> Vec<u32> {
+        self.words
+    }
+
+    /// The number of whole records.
+    pub fn len(&self) -> usize {
+        self.words.len() / WORDS
+    }
+
+    /// Whether there is no whole record.
+    pub fn is_empty(&self) -> bool {
+        self.len() == 0
+    }
+
+    /// How many bytes of the document the root took, where the table was read from one; else 0.
+    pub fn consumed(&self) -> usize {
+        self.consumed
+    }
+
+    /// Whether the words form a table over a document of so many bytes, by rule 7. What a read fills in always does. Refused with 9 where
+    /// there are more than eight words for each of [`MAX_RECORDS`], or the document is over [`MAX_DOCUMENT`].
+    pub fn is_table(&self, doc_len: usize) -> Result<bool, Refusal> {
+        let answer = ffi::is_table(doc_len, &self.words);
+        Refusal::check(&answer, Place::Byte)?;
+        Ok(answer[2] == 1)
+    }
+
+    /// The root tag, from which every other can be walked to. Refused with 10 where the words form no table over `doc`.
+    ///
+    /// ```
+    /// let doc = b"\x0A\0\x01a\x01\0\x01b\xFF\0";
+    /// let table = tikfazrul::read(doc)?;
+    /// let root = table.root(doc)?;
+    /// assert_eq!(root.name().unwrap(), "a");
+    /// assert_eq!(root.get("b").unwrap().as_i8(), Some(-1));
+    /// # Ok::<(), tikfazrul::Refusal>(())
+    /// ```
+    pub fn root<'a>(&'a self, doc: &'a [u8]) -> Result<Node<'a>, Refusal> {
+        if self.over != Some(doc.len()) && !self.is_table(doc.len())? {
+            return Err(Refusal::NoTable(Place::Whole));
+        }
+        Ok(Node::root(doc, &self.words))
+    }
+
+    /// The tags that match a query, in file order.
+    ///
+    /// ```
+    /// use tikfazrul::Query;
+    /// let doc = b"\x0A\0\x01a\x01\0\x01b\xFF\0";
+    /// let table = tikfazrul::read(doc)?;
+    /// let found = table.find(doc, &"root/b".parse::<Query>()?)?;
+    /// assert_eq!(found[0].path(), "root/b");
+    /// # Ok::<(), Box<dyn std::error::Error>>(())
+    /// ```
+    pub fn find<'a>(&'a self, doc: &'a [u8], query: &Query) -> Result<Vec<Node<'a>>, Refusal> {
+        let records = self::query(doc, self, query.as_bytes())?;
+        let mut wanted = records.iter().peekable();
+        let mut found = Vec::with_capacity(records.len());
+        for (_, node) in self.root(doc)?.walk() {
+            if wanted.next_if(|&&record| record as usize == node.record()).is_some() {
+                found.push(node);
+            }
+            if wanted.peek().is_none() {
+                break;
+            }
+        }
+        Ok(found)
+    }
+}
+
+/// What an accepted read says.
+#[derive(Clone, Copy, Debug, PartialEq, Eq)]
+pub struct Read {
+    /// The bytes that the root took.
+    pub consumed: usize,
+    /// The records filled in.
+    pub records: usize,
+}
+
+/// Reads a document into a table of its own.
+///
+/// ```
+/// use tikfazrul::{read, Place, Refusal};
+/// let table = read(b"\x0A\0\0\0")?;
+/// assert_eq!((table.len(), table.consumed()), (1, 4));
+/// assert_eq!(read(b"\x0A\0\0"), Err(Refusal::DataEnds(Place::Byte(3))));
+/// # Ok::<(), Refusal>(())
+/// ```
+pub fn read(doc: &[u8]) -> Result<Table, Refusal> {
+    let mut table = Table::new();
+    table.read(doc)?;
+    Ok(table)
+}
+
+/// Reads a document into words that the caller lends, with room for one record for each eight. Accepted: no other word changes. Refused:
+/// every word is 0.
+///
+/// ```
+/// let mut words = [9; 24];
+/// let read = tikfazrul::read_into(b"\x0A\0\0\0", &mut words)?;
+/// assert_eq!((read.consumed, read.records), (4, 1));
+/// assert_eq!(words[..9], [10, 3, 0, 0, 0, 0, 0, 1, 9]);
+/// # Ok::<(), tikfazrul::Refusal>(())
+/// ```
+pub fn read_into(doc: &[u8], words: &mut [u32]) -> Result<Read, Refusal> {
+    let answer = ffi::read(doc, words);
+    Refusal::check(&answer, Place::Byte)?;
+    Ok(Read { consumed: answer[2] as usize, records: answer[3] as usize })
+}
+
+/// Writes the document that a table stands for, whose names and payloads lie in `doc`. A document that would be over [`MAX_DOCUMENT`], and so
+/// could not be read again, is refused with 13; [`write_into`] writes longer ones. The table is used while the call lasts and comes back as
+/// it was.
+///
+/// ```
+/// let doc = b"\x0A\0\0\x09\0\x01l\x05\0\0\0\0\0";
+/// let mut table = tikfazrul::read(doc)?;
+/// // an empty list forgets its id
+/// assert_eq!(tikfazrul::write(doc, &mut table)?, b"\x0A\0\0\x09\0\x01l\0\0\0\0\0\0");
+/// # Ok::<(), tikfazrul::Refusal>(())
+/// ```
+pub fn write(doc: &[u8], table: &mut Table) -> Result<Vec<u8>, Refusal> {
+    let mut out = vec![0; bound(&table.words).min(MAX_DOCUMENT)];
+    let length = write_into(doc, table, &mut out)?;
+    out.truncate(length);
+    Ok(out)
+}
+
+/// Writes into bytes that the caller lends, and says how many. Refused: the output is as it was.
+pub fn write_into(doc: &[u8], table: &mut Table, out: &mut [u8]) -> Result<usize, Refusal> {
+    let answer = ffi::write(doc, &mut table.words, out);
+    Refusal::check(&answer, record_or_whole(&answer))?;
+    Ok(answer[2] as usize)
+}
+
+/// 13 is the whole's; every other refusal of the writer is a record's.
+fn record_or_whole(answer: &Answer) -> fn(usize) -> Place {
+    match answer[0] {
+        13 => |_| Place::Whole,
+        _ => Place::Record,
+    }
+}
+
+/// At least as many bytes as the table takes when written: each record's id, name, list head or count or length, content and end byte.
+fn bound(words: &[u32]) -> usize {
+    let most = |record: &[u32]| 9 + record[word::NAME_LENGTH] as usize + record[word::LENGTH] as usize;
+    words.chunks_exact(WORDS).map(most).fold(0, usize::saturating_add)
+}
+
+/// The records that match a query, by number, in file order and none twice. The query is given as the library's bytes: [`Query`] makes them
+/// from a readable path.
+///
+/// ```
+/// let doc = b"\x0A\0\x01a\x01\0\x01b\xFF\0";
+/// let table = tikfazrul::read(doc)?;
+/// assert_eq!(tikfazrul::query(doc, &table, &[4])?, [0, 1]);
+/// assert_eq!(tikfazrul::query(doc, &table, &[3])?, [1]);
+/// # Ok::<(), tikfazrul::Refusal>(())
+/// ```
+pub fn query(doc: &[u8], table: &Table, query: &[u8]) -> Result<Vec<u32>, Refusal> {
+    let mut list = vec![0; 64];
+    loop {
+        match query_into(doc, table, query, &mut list) {
+            Ok(count) => {
+                list.truncate(count);
+                return Ok(list);
+            }
+            // the true number is at most the table's records
+            Err(Refusal::MoreMatches(matches)) if matches > list.len() => list.resize(matches, 0),
+            Err(refusal) => return Err(refusal),
+        }
+    }
+}
+
+/// Asks into a list that the caller lends, and says how many match. Refused: the list is as it was, and 24 says how many there are.
+pub fn query_into(doc: &[u8], table: &Table, query: &[u8], list: &mut [u32]) -> Result<usize, Refusal> {
+    let answer = ffi::query(doc, &table.words, query, list);
+    let place = if answer[0] == 14 { Place::Query } else { Place::Record };
+    Refusal::check(&answer, place)?;
+    Ok(answer[2] as usize)
+}
