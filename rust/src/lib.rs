@@ -55,7 +55,7 @@ mod table;
 #[cfg(feature = "text")]
 mod text;
 
-pub use node::{Children, Kind, Link, Node, Walk};
+pub use node::{Children, Kind, Link, Node, Trail, Walk};
 pub use path::{quoted, Fault, PathError, Query, MAX_NAME, MAX_STEPS};
 pub use refusal::{Place, Refusal};
 pub use table::{query, query_into, read, read_into, write, write_into, Read, Table, MAX_DOCUMENT, MAX_RECORDS, WORDS};

@@ -322,7 +322,7 @@ impl<'a> Node<'a> {
     }
 
     /// Adds the step from the tag above to this one.
-    pub fn push_step(&self, path: &mut String) {
+    fn push_step(&self, path: &mut String) {
         match self.link {
             Link::Root => path.push_str("root"),
             Link::Element(index) => path.push_str(&format!("[{index}]")),
@@ -387,5 +387,40 @@ impl<'a> Iterator for Walk<'a> {
             self.open.pop();
         }
         Some((depth, node))
+    }
+}
+
+/// The path of each tag of a walk, kept from one to the next: cheaper than [`Node::path`] for many tags.
+///
+/// ```
+/// use tikfazrul::Trail;
+/// let doc = b"\x0A\0\x01a\x01\0\x01b\xFF\0";
+/// let table = tikfazrul::read(doc)?;
+/// let mut trail = Trail::new();
+/// for (depth, node) in table.root(doc)?.walk() {
+///     assert_eq!(trail.step(depth, &node), node.path());
+/// }
+/// # Ok::<(), tikfazrul::Refusal>(())
+/// ```
+#[derive(Clone, Debug, Default)]
+pub struct Trail {
+    path: String,
+    /// How long the path is at each level above.
+    ends: Vec<usize>,
+}
+
+impl Trail {
+    /// The trail of a walk from the root.
+    pub fn new() -> Trail {
+        Trail::default()
+    }
+
+    /// The path of the walk's next tag.
+    pub fn step(&mut self, depth: usize, node: &Node) -> &str {
+        self.ends.truncate(depth);
+        self.path.truncate(self.ends.last().copied().unwrap_or(0));
+        node.push_step(&mut self.path);
+        self.ends.push(self.path.len());
+        &self.path
     }
 }

@@ -191,6 +191,11 @@ fn odd(c: char) -> bool {
     c.is_whitespace() || c.is_control() || matches!(c, '/' | '[' | ']' | '*' | '"' | '\'' | '\\')
 }
 
+/// Whether a character is better written as an escape: one that can't be seen, or that turns the text around it.
+fn hidden(c: char) -> bool {
+    c <= '\u{FFFF}' && !matches!(c, '"' | '\'' | '\\') && c.escape_debug().len() > 1
+}
+
 /// A name as a path has it: in quotes where it wants them.
 ///
 /// ```
@@ -198,7 +203,7 @@ fn odd(c: char) -> bool {
 /// assert_eq!(tikfazrul::quoted("reef\0[1]"), r#""reef\u0000[1]""#);
 /// ```
 pub fn quoted(name: &str) -> Cow<'_, str> {
-    if !name.is_empty() && !name.chars().any(odd) {
+    if !name.is_empty() && !name.chars().any(|c| odd(c) || hidden(c)) {
         return Cow::Borrowed(name);
     }
     let mut text = String::from("\"");
@@ -208,7 +213,7 @@ pub fn quoted(name: &str) -> Cow<'_, str> {
             '\n' => text.push_str("\\n"),
             '\r' => text.push_str("\\r"),
             '\t' => text.push_str("\\t"),
-            c if c.is_control() => text.push_str(&format!("\\u{:04X}", c as u32)),
+            c if hidden(c) => text.push_str(&format!("\\u{:04X}", c as u32)),
             c => text.push(c),
         }
     }

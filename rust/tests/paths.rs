@@ -33,10 +33,17 @@ fn odd_names_stand_in_quotes() {
     assert_eq!(bytes("\"\""), b"\x01\0\0");
     assert_eq!(bytes("'a/b'[1]"), b"\x01\0\x03a/b\x02\0\0\0\x01");
     assert_eq!(bytes(r#""it's \"x\" \\ \n\r\t\u0000""#), b"\x01\0\x10it's \"x\" \\ \n\r\t\xC0\x80");
-    for name in ["", "root", "a b", "a/b", "[0]", "*", "**", "\"", "'", "\\", "\0", "\n\r\t", "\u{85}", "\u{1F600}", "\\u0041"] {
+    for name in ["", "root", "a b", "a/b", "[0]", "*", "**", "\"", "'", "\\", "\0", "\n\r\t", "\u{85}", "\u{1F600}", "\\u0041", "\u{202E}x", "e\u{301}"] {
         let path = format!("root/{}", quoted(name));
         assert_eq!(path.parse(), Query::new().name(name), "{path}");
     }
+}
+
+#[test]
+fn what_would_hide_is_shown_as_an_escape() {
+    assert_eq!(quoted("a\u{202E}b"), "\"a\\u202Eb\"");
+    assert_eq!(quoted("a'b"), "\"a'b\"");
+    assert_eq!(quoted("Länge€"), "Länge€");
 }
 
 #[test]

@@ -1,1 +1,225 @@
-fn main(){}
+//! tile: looks into NBT documents. `tile --help` teaches it.
+mod args;
+mod input;
+mod json;
+mod progress;
+mod show;
+
+use args::{Args, Command, Instead};
+use input::{Input, Trouble};
+use std::ffi::OsStr;
+use std::io::{self, BufWriter, Write};
+use std::process::ExitCode;
+use tikfazrul::{hex, read, Node, Refusal, Table, Trail};
+
+fn main() -> ExitCode {
+    let args = match args::parse(std::env::args_os().skip(1)) {
+        Ok(args) => args,
+        Err(Instead::Say(words)) => {
+            let _ = write!(io::stdout(), "{words}");
+            return ExitCode::SUCCESS;
+        }
+        Err(Instead::Fault(words)) => {
+            eprintln!("tile: {}", words.trim_end());
+            return ExitCode::from(2);
+        }
+    };
+    let mut out = BufWriter::new(io::stdout().lock());
+    let done = each(&args, &mut out).and_then(|status| out.flush().map(|()| status));
+    match done {
+        Ok(status) => ExitCode::from(status),
+        // whoever read us wants no more: tile list … | head
+        Err(error) if error.kind() == io::ErrorKind::BrokenPipe => ExitCode::SUCCESS,
+        Err(error) => {
+            eprintln!("tile: can't write: {error}");
+            ExitCode::from(2)
+        }
+    }
+}
+
+/// Does what is asked to each file. The exit status: 0, 1 where something is refused, 2 where a file can't be read.
+fn each(args: &Args, out: &mut dyn Write) -> io::Result<u8> {
+    let mut progress = progress::Progress::new(args.files.len());
+    let mut refused = 0;
+    let mut status = 0;
+    for (done, file) in args.files.iter().enumerate() {
+        progress.step(done);
+        let mut said = Vec::new();
+        if let Err(trouble) = one(args, file, &mut said) {
+            refused += usize::from(!matches!(trouble, Trouble::Io(_)));
+            status = status.max(if matches!(trouble, Trouble::Io(_)) { 2 } else { 1 });
+            complain(args, file, &trouble, &mut said, &mut progress)?;
+        }
+        if !said.is_empty() {
+            progress.clear();
+            out.write_all(&said)?;
+        }
+    }
+    progress.clear();
+    if args.command == Command::Check && args.files.len() > 1 && !args.json {
+        out.flush()?;
+        eprintln!("{} files, {refused} refused", args.files.len());
+    }
+    Ok(status)
+}
+
+fn name(file: &OsStr) -> String {
+    if file == "-" {
+        return "standard input".to_owned();
+    }
+    // a name with a line feed must not look like two files
+    file.to_string_lossy().chars().map(|c| if c.is_control() { '\u{FFFD}' } else { c }).collect()
+}
+
+/// Says why a file is of no use: where the answers go if that is the answer, else on standard error.
+fn complain(args: &Args, file: &OsStr, trouble: &Trouble, said: &mut Vec<u8>, progress: &mut progress::Progress) -> io::Result<()> {
+    if args.json {
+        return writeln!(said, "{}", json::file(&file.to_string_lossy(), false, &json::trouble(trouble)));
+    }
+    let words = format!("{}: {}", name(file), show::trouble(trouble)).replace('\n', "\n  ");
+    if args.command == Command::Check && !matches!(trouble, Trouble::Io(_)) {
+        return writeln!(said, "{words}");
+    }
+    progress.clear();
+    eprintln!("tile: {words}");
+    Ok(())
+}
+
+/// Does what is asked to one file.
+fn one(args: &Args, file: &OsStr, said: &mut Vec<u8>) -> Result<(), Trouble> {
+    match args.command {
+        Command::Hex => dump(args, &input::shown(file)?, said),
+        Command::Text => save(args, &parsed(input::raw(file)?)?)?,
+        Command::Write => {
+            let (input, table) = load(file)?;
+            save(args, &again(input, table)?)?;
+        }
+        Command::List | Command::Check | Command::Query => {
+            let (input, table) = load(file)?;
+            answer(args, file, &input, &table, said)?;
+        }
+    }
+    Ok(())
+}
+
+/// The document in a file, and its table. A name that ends in .snbt is a text's.
+fn load(file: &OsStr) -> Result<(Input, Table), Trouble> {
+    let text = file.to_string_lossy().to_lowercase().ends_with(".snbt");
+    let input = match text {
+        true => Input { bytes: input::raw(file).and_then(parsed)?, inflated: false },
+        false => input::document(file)?,
+    };
+    match read(&input.bytes) {
+        Ok(table) => Ok((input, table)),
+        Err(refusal) => Err(Trouble::Refused(refusal, input.bytes)),
+    }
+}
+
+#[cfg(feature = "text")]
+fn parsed(text: Vec<u8>) -> Result<Vec<u8>, Trouble> {
+    match tikfazrul::parse(&text) {
+        Ok(parsed) => Ok(parsed.document),
+        Err(refusal) => Err(Trouble::Refused(refusal, text)),
+    }
+}
+
+#[cfg(not(feature = "text"))]
+fn parsed(_: Vec<u8>) -> Result<Vec<u8>, Trouble> {
+    Err(Trouble::Packed("this is a text, and tile was built without the text parser: build it with `--features text`".to_owned()))
+}
+
+fn again(input: Input, mut table: Table) -> Result<Vec<u8>, Trouble> {
+    tikfazrul::write(&input.bytes, &mut table).map_err(|refusal| Trouble::Refused(refusal, input.bytes))
+}
+
+fn save(args: &Args, document: &[u8]) -> Result<(), Trouble> {
+    let saved = match args.out.as_deref() {
+        Some(file) if file != "-" => std::fs::write(file, document),
+        _ => io::stdout().write_all(document),
+    };
+    saved.map_err(Trouble::Io)
+}
+
+fn dump(args: &Args, input: &Input, said: &mut Vec<u8>) {
+    if args.line {
+        said.extend(input.bytes.iter().flat_map(|byte| format!("{byte:02X}").into_bytes()));
+        said.push(b'\n');
+        return;
+    }
+    for line in hex::dump(&input.bytes) {
+        said.extend(line.into_bytes());
+        said.push(b'\n');
+    }
+}
+
+/// A document that is accepted, and what was found in it.
+struct Accepted<'a> {
+    input: &'a Input,
+    table: &'a Table,
+    root: Node<'a>,
+    found: Vec<(String, Node<'a>)>,
+}
+
+/// Says what is asked of a document that is accepted.
+fn answer(args: &Args, file: &OsStr, input: &Input, table: &Table, said: &mut Vec<u8>) -> Result<(), Trouble> {
+    let accepted = accepted(args, input, table).map_err(|refusal| Trouble::Refused(refusal, input.bytes.clone()))?;
+    let written = match args.json {
+        true => writeln!(said, "{}", json::file(&file.to_string_lossy(), true, &object(args, &accepted))),
+        false => words(args, file, &accepted, said),
+    };
+    written.map_err(Trouble::Io)
+}
+
+/// The root, and for a query the tags that match, with their paths.
+fn accepted<'a>(args: &Args, input: &'a Input, table: &'a Table) -> Result<Accepted<'a>, Refusal> {
+    let root = table.root(&input.bytes)?;
+    let mut found = Vec::new();
+    if args.command == Command::Query {
+        let records = tikfazrul::query(&input.bytes, table, args.query.as_bytes())?;
+        let mut wanted = records.into_iter().peekable();
+        let mut trail = Trail::new();
+        for (depth, node) in root.walk() {
+            let path = trail.step(depth, &node);
+            if wanted.next_if_eq(&(node.record() as u32)).is_some() {
+                found.push((path.to_owned(), node));
+            }
+        }
+    }
+    Ok(Accepted { input, table, root, found })
+}
+
+fn object(args: &Args, a: &Accepted) -> String {
+    let size = format!("\"bytes\":{},\"count\":{},\"inflated\":{}", a.table.consumed(), a.table.len(), a.input.inflated);
+    match args.command {
+        Command::List => format!("{size},{}", json::records(a.root)),
+        Command::Query => {
+            let matches: Vec<String> = a.found.iter().map(|(path, node)| json::node(node, path)).collect();
+            format!("\"matches\":[{}]", matches.join(","))
+        }
+        _ => size,
+    }
+}
+
+fn words(args: &Args, file: &OsStr, a: &Accepted, said: &mut Vec<u8>) -> io::Result<()> {
+    let mut size = show::size(a.table.consumed(), a.table.len());
+    if a.input.inflated {
+        size += ", inflated from gzip";
+    }
+    let more = a.input.bytes.len() - a.table.consumed();
+    if more > 0 {
+        size += &format!("; {more} more after the root's end");
+    }
+    match args.command {
+        Command::Check => writeln!(said, "{}: accepted: {size}", name(file)),
+        Command::Query => {
+            if args.files.len() > 1 || a.found.is_empty() {
+                writeln!(said, "{}: {} found", name(file), a.found.len())?;
+            }
+            show::matches(said, &a.found, args.full)
+        }
+        _ => {
+            writeln!(said, "{}: {size}", name(file))?;
+            show::tree(said, a.root, args.full)
+        }
+    }
+}

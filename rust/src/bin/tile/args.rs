@@ -1,0 +1,237 @@
+//! What the command line asks for.
+use std::ffi::OsString;
+use tikfazrul::Query;
+
+#[derive(Clone, Copy, PartialEq, Eq)]
+pub enum Command {
+    List,
+    Check,
+    Query,
+    Text,
+    Write,
+    Hex,
+}
+
+pub struct Args {
+    pub command: Command,
+    pub query: Query,
+    pub files: Vec<OsString>,
+    pub out: Option<OsString>,
+    pub json: bool,
+    pub full: bool,
+    pub line: bool,
+}
+
+/// What to do instead of a command.
+pub enum Instead {
+    Say(String),
+    Fault(String),
+}
+
+pub const HELP: &str = "\
+tile: looks into NBT documents, with every answer from a proved library.
+
+  tile list FILE…             every tag: record, kind, name, value
+  tile check FILE…            accepted, or refused: what, where, and the bytes there
+  tile query PATH FILE…       the tags that a path leads to
+  tile text FILE -o FILE      a text (SNBT) made a document
+  tile write FILE -o FILE     a document read and written again
+  tile hex FILE…              the bytes
+
+  -o FILE    where to write; - is standard output
+  --json     one JSON object for each file, on a line of its own (list, check, query)
+  --full     strings and arrays whole, however long (list, query)
+  --line     the bytes as one line of digits (hex)
+  --help     this; tile COMMAND --help tells more
+
+FILE is a document, a gzip'd document (the system's gzip inflates it), or a text if its name ends in .snbt; - is a document on standard
+input. Exit status: 0 all is well, 1 something was refused, 2 a file could not be read or the command line is wrong.
+
+Try, on the samples:
+
+  tile list samples/reef.nbt
+  tile check samples/*.nbt
+  tile query 'root/Tiles[3]/**/SceneId' samples/mosaic.nbt
+";
+
+const ABOUT_LIST: &str = "\
+tile list [--json] [--full] FILE…
+
+Lists every tag in file order: its record in the table, its kind, its name (indented by level; [n] for a list's elements) and its value.
+Names with blanks or other odd characters stand in quotes, as a path wants them. Long strings and arrays are cut unless --full is given.
+
+  tile list samples/kinds.nbt
+  tile list --json world/*.dat | jq '.records[] | select(.kind == \"Int\")'
+";
+
+const ABOUT_CHECK: &str = "\
+tile check [--json] FILE…
+
+Says of each file whether it is a lawful document. A refusal has a number, words, a place, and the bytes around the place with a mark below
+it. Places in gzip'd files count inflated bytes. Exit status 1 if any file is refused.
+
+  tile check samples/second-origin.nbt
+  find world -name '*.dat' -print0 | xargs -0 tile check >report.txt
+";
+
+const ABOUT_QUERY: &str = "\
+tile query [--json] [--full] PATH FILE…
+
+Shows the tags that a path leads to, in file order. A path begins at the root; its steps are parted by /:
+
+  SceneId       the entry of a compound so named; an odd name stands in \"quotes\" or 'quotes',
+                with the escapes \\\\ \\\" \\' \\n \\r \\t \\uXXXX
+  [3]           that element of a list, from 0
+  *             any one child
+  **            zero or more levels, whatever they are
+
+The first step may be root, the root tag itself, whatever its name. Sixteen steps at the most. Array elements are not tags.
+
+  tile query 'Tiles[3]/Scene' samples/mosaic.nbt
+  tile query 'root/**/SceneId' samples/*.nbt
+";
+
+const ABOUT_TEXT: &str = "\
+tile text FILE -o FILE
+
+Makes a document of a text (SNBT), with an empty root name. Nothing is written if the text is refused.
+
+  tile text samples/reef.snbt -o reef.nbt
+  echo '{clouds: 7b}' | tile text - -o - | tile list -
+";
+
+const ABOUT_WRITE: &str = "\
+tile write FILE -o FILE
+
+Reads a document and writes it again: inflated, without bytes that follow the root, with the id of empty lists 0. Nothing is written if the
+document is refused.
+
+  tile write samples/reef.nbt.gz -o reef.nbt
+";
+
+const ABOUT_HEX: &str = "\
+tile hex [--line] FILE…
+
+Shows the bytes, sixteen on a line, at the places that refusals speak of: gzip'd files are inflated first. With --line, all of them as one
+line of digits, as ./run reads.
+
+  tile hex samples/rare-name.nbt
+";
+
+impl Command {
+    fn named(name: &str) -> Option<Command> {
+        match name {
+            "list" => Some(Command::List),
+            "check" => Some(Command::Check),
+            "query" => Some(Command::Query),
+            "text" => Some(Command::Text),
+            "write" => Some(Command::Write),
+            "hex" => Some(Command::Hex),
+            _ => None,
+        }
+    }
+
+    fn about(self) -> &'static str {
+        match self {
+            Command::List => ABOUT_LIST,
+            Command::Check => ABOUT_CHECK,
+            Command::Query => ABOUT_QUERY,
+            Command::Text => ABOUT_TEXT,
+            Command::Write => ABOUT_WRITE,
+            Command::Hex => ABOUT_HEX,
+        }
+    }
+
+    /// Whether it writes one file from one.
+    pub fn writes(self) -> bool {
+        matches!(self, Command::Text | Command::Write)
+    }
+}
+
+fn fault<T>(words: String) -> Result<T, Instead> {
+    Err(Instead::Fault(format!("{words}\ntile --help tells what there is")))
+}
+
+/// What the words after the program's name ask for.
+pub fn parse(words: impl Iterator<Item = OsString>) -> Result<Args, Instead> {
+    let mut words = words;
+    let first = words.next().ok_or_else(|| Instead::Fault(HELP.to_owned()))?;
+    let command = match first.to_str() {
+        Some("--help" | "-h" | "help") => return Err(Instead::Say(HELP.to_owned())),
+        Some("--version" | "-V") => return Err(Instead::Say(format!("tile {}\n", env!("CARGO_PKG_VERSION")))),
+        Some(name) => Command::named(name),
+        None => None,
+    };
+    let Some(command) = command else {
+        return fault(format!("there is no command {}", first.to_string_lossy()));
+    };
+    let mut args = Args { command, query: Query::new(), files: Vec::new(), out: None, json: false, full: false, line: false };
+    options(&mut args, words)?;
+    path(&mut args)?;
+    complete(args)
+}
+
+/// Sorts the words into options and files.
+fn options(args: &mut Args, mut words: impl Iterator<Item = OsString>) -> Result<(), Instead> {
+    while let Some(word) = words.next() {
+        match word.to_str() {
+            Some("--") => args.files.extend(words.by_ref()),
+            Some("--help" | "-h") => return Err(Instead::Say(args.command.about().to_owned())),
+            Some("--json") => args.json = true,
+            Some("--full") => args.full = true,
+            Some("--line") => args.line = true,
+            Some("-o" | "--output") => match words.next() {
+                Some(file) => args.out = Some(file),
+                None => return fault("-o wants a file".to_owned()),
+            },
+            Some(option) if option.starts_with('-') && option != "-" => return fault(format!("there is no option {option}")),
+            _ => args.files.push(word),
+        }
+    }
+    Ok(())
+}
+
+/// Takes a query's path from the front of the files.
+fn path(args: &mut Args) -> Result<(), Instead> {
+    if args.command != Command::Query {
+        return Ok(());
+    }
+    if args.files.is_empty() {
+        return fault("tile query wants a path and files".to_owned());
+    }
+    let path = args.files.remove(0);
+    let Some(path) = path.to_str() else {
+        return fault("the path is not UTF-8".to_owned());
+    };
+    match path.parse() {
+        Ok(query) => args.query = query,
+        Err(error) => return Err(Instead::Fault(format!("the path can't be read: {error}"))),
+    }
+    Ok(())
+}
+
+fn complete(args: Args) -> Result<Args, Instead> {
+    let writes = args.command.writes();
+    if args.files.is_empty() {
+        return fault("no file is given; - is standard input".to_owned());
+    }
+    if writes && args.files.len() > 1 {
+        return fault("one file at a time is written".to_owned());
+    }
+    if writes && args.out.is_none() {
+        return fault("-o FILE says where to write; -o - is standard output".to_owned());
+    }
+    if !writes && args.out.is_some() {
+        return fault("-o goes with text and write alone".to_owned());
+    }
+    if args.json && (writes || args.command == Command::Hex) {
+        return fault("--json goes with list, check and query".to_owned());
+    }
+    if args.full && !matches!(args.command, Command::List | Command::Query) {
+        return fault("--full goes with list and query".to_owned());
+    }
+    if args.line && args.command != Command::Hex {
+        return fault("--line goes with hex".to_owned());
+    }
+    Ok(args)
+}

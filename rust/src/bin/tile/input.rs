@@ -1,0 +1,105 @@
+//! Files and standard input, inflated where they are gzip'd.
+use std::ffi::OsStr;
+use std::fs::File;
+use std::io::{self, Read, Write};
+use std::process::{Child, Command, Stdio};
+use tikfazrul::{Refusal, MAX_DOCUMENT};
+
+/// Why there is no document to be had from a file.
+pub enum Trouble {
+    /// It can't be read at all.
+    Io(io::Error),
+    /// It is compressed, and can't be inflated here: the words that say what to do.
+    Packed(String),
+    /// The library refuses it; with the bytes that the place counts.
+    Refused(Refusal, Vec<u8>),
+}
+
+/// What stands in a file.
+pub struct Input {
+    pub bytes: Vec<u8>,
+    pub inflated: bool,
+}
+
+/// A little over what any document has, so that a longer one is refused for its length without being held whole.
+const ENOUGH: u64 = MAX_DOCUMENT as u64 + 65_536;
+
+fn whole(file: &OsStr, most: u64) -> io::Result<Vec<u8>> {
+    let mut bytes = Vec::new();
+    if file == "-" {
+        io::stdin().lock().take(most).read_to_end(&mut bytes)?;
+    } else {
+        File::open(file)?.take(most).read_to_end(&mut bytes)?;
+    }
+    Ok(bytes)
+}
+
+/// The bytes as they stand in the file.
+pub fn raw(file: &OsStr) -> Result<Vec<u8>, Trouble> {
+    whole(file, ENOUGH).map_err(Trouble::Io)
+}
+
+/// All the bytes, inflated if that can be done.
+pub fn shown(file: &OsStr) -> Result<Input, Trouble> {
+    let bytes = whole(file, u64::MAX).map_err(Trouble::Io)?;
+    match unpack(bytes.clone()) {
+        Ok(input) => Ok(input),
+        Err(_) => Ok(Input { bytes, inflated: false }),
+    }
+}
+
+/// The document that stands in a file.
+pub fn document(file: &OsStr) -> Result<Input, Trouble> {
+    unpack(raw(file)?)
+}
+
+fn unpack(bytes: Vec<u8>) -> Result<Input, Trouble> {
+    match bytes[..] {
+        [0x1F, 0x8B, ..] => inflate(bytes),
+        // no document begins with 78, so none is lost; the pair is a multiple of 31 in every zlib head
+        [0x78, second, ..] if (0x7800 + u32::from(second)) % 31 == 0 => Err(Trouble::Packed(format!(
+            "this is zlib data (78 {second:02X}), as region files hold it, and no document; inflate it first, for instance with \
+             `pigz -dz` or `zlib-flate -uncompress`"
+        ))),
+        _ => Ok(Input { bytes, inflated: false }),
+    }
+}
+
+/// What the system's gzip makes of the bytes. It runs beside us, and so is fed by a thread of its own.
+fn inflate(bytes: Vec<u8>) -> Result<Input, Trouble> {
+    let gzip = Command::new("gzip").arg("-dc").stdin(Stdio::piped()).stdout(Stdio::piped()).stderr(Stdio::piped()).spawn();
+    let mut gzip = gzip.map_err(|error| {
+        Trouble::Packed(format!(
+            "this is a gzip'd file (1F 8B), and the command gzip that would inflate it can't be run ({error}); install gzip, or \
+             inflate the file by other means"
+        ))
+    })?;
+    let mut feed = gzip.stdin.take().expect("it is piped");
+    // gzip may stop reading before all is fed: it says why itself
+    let feeder = std::thread::spawn(move || drop(feed.write_all(&bytes)));
+    let result = collect(&mut gzip);
+    // a second end does nothing
+    let _ = gzip.kill();
+    let _ = gzip.wait();
+    let _ = feeder.join();
+    result
+}
+
+fn collect(gzip: &mut Child) -> Result<Input, Trouble> {
+    let mut bytes = Vec::new();
+    let out = gzip.stdout.take().expect("it is piped");
+    out.take(ENOUGH).read_to_end(&mut bytes).map_err(Trouble::Io)?;
+    if bytes.len() as u64 == ENOUGH {
+        // too long for any document: there is no need for the rest
+        return Ok(Input { bytes, inflated: true });
+    }
+    let mut said = String::new();
+    let _ = gzip.stderr.take().expect("it is piped").take(4096).read_to_string(&mut said);
+    let status = gzip.wait().map_err(Trouble::Io)?;
+    // 2 is a warning: bytes that follow the gzip'd ones
+    if !matches!(status.code(), Some(0 | 2)) {
+        let why = said.lines().map(str::trim).find(|line| !line.is_empty()).unwrap_or("no reason given").to_owned();
+        return Err(Trouble::Packed(format!("this is a gzip'd file (1F 8B) that can't be inflated whole: {why}")));
+    }
+    Ok(Input { bytes, inflated: true })
+}

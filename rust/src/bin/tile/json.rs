@@ -1,0 +1,94 @@
+//! The same for machines: one JSON object for each file.
+use crate::input::Trouble;
+use std::fmt::Write;
+use tikfazrul::{Kind, Node, Place, Trail};
+
+pub fn string(text: &str) -> String {
+    let mut json = String::from("\"");
+    for c in text.chars() {
+        match c {
+            '"' | '\\' => json.extend(['\\', c]),
+            c if c.is_control() => write!(json, "\\u{:04X}", c as u32).expect("a String takes all"),
+            c => json.push(c),
+        }
+    }
+    json.push('"');
+    json
+}
+
+/// JSON has no NaN and no infinities: they are strings.
+fn float(finite: bool, shown: String) -> String {
+    if finite {
+        shown
+    } else {
+        string(&shown)
+    }
+}
+
+fn value(node: &Node) -> Option<String> {
+    match node.kind() {
+        Kind::Compound | Kind::List => None,
+        Kind::String => node.as_str().map(|text| string(&text)),
+        Kind::Float => node.as_f32().map(|n| float(n.is_finite(), format!("{n:?}"))),
+        Kind::Double => node.as_f64().map(|n| float(n.is_finite(), format!("{n:?}"))),
+        Kind::ByteArray | Kind::IntArray | Kind::LongArray => {
+            let elements: Vec<String> = node.wholes()?.map(|n| n.to_string()).collect();
+            Some(format!("[{}]", elements.join(",")))
+        }
+        _ => node.as_whole().map(|n| n.to_string()),
+    }
+}
+
+/// A tag: where it is, and its value, or how many tags a list or compound has.
+pub fn node(node: &Node, path: &str) -> String {
+    let mut json = format!("{{\"record\":{},\"path\":{},\"kind\":{}", node.record(), string(path), string(node.kind().tag_name()));
+    if let Some(name) = node.name() {
+        json += &format!(",\"name\":{}", string(&name));
+    }
+    match value(node) {
+        Some(value) => json += &format!(",\"value\":{value}"),
+        None => json += &format!(",\"count\":{}", node.len()),
+    }
+    if let Some(kind) = node.list_kind() {
+        json += &format!(",\"of\":{}", string(kind.tag_name()));
+    }
+    json + "}"
+}
+
+/// Every tag below the root.
+pub fn records(root: Node) -> String {
+    let mut trail = Trail::new();
+    let records: Vec<String> = root.walk().map(|(depth, found)| node(&found, trail.step(depth, &found))).collect();
+    format!("\"records\":[{}]", records.join(","))
+}
+
+/// An object for a file: its name, whether it is accepted, and what else there is.
+pub fn file(name: &str, ok: bool, more: &str) -> String {
+    let comma = if more.is_empty() { "" } else { "," };
+    format!("{{\"file\":{},\"ok\":{ok}{comma}{more}}}", string(name))
+}
+
+pub fn trouble(trouble: &Trouble) -> String {
+    match trouble {
+        Trouble::Io(error) => format!("\"error\":{}", string(&error.to_string())),
+        Trouble::Packed(words) => format!("\"message\":{}", string(words)),
+        Trouble::Refused(refusal, _) => format!(
+            "\"refusal\":{},\"place\":{},\"of\":{},\"message\":{}",
+            refusal.number(),
+            refusal.place().number(),
+            string(sort(refusal.place())),
+            string(&refusal.to_string())
+        ),
+    }
+}
+
+/// What a place counts.
+fn sort(place: Place) -> &'static str {
+    match place {
+        Place::Byte(_) => "byte",
+        Place::Record(_) => "record",
+        Place::Query(_) => "query",
+        Place::Text(_) => "text",
+        Place::Whole => "whole",
+    }
+}

@@ -1,0 +1,96 @@
+//! Tags and refusals in words for people.
+use crate::input::Trouble;
+use std::io::{self, Write};
+use tikfazrul::{quoted, Kind, Link, Node};
+
+/// How many characters of a string, and elements of an array, are shown unless all are asked for.
+const CHARACTERS: usize = 60;
+const ELEMENTS: usize = 8;
+/// The widest that a column is made for the sake of alignment.
+const WIDEST: usize = 48;
+/// The deepest that names are indented.
+const INDENTED: usize = 16;
+
+fn plural(count: usize, one: &str, many: &str) -> String {
+    format!("{count} {}", if count == 1 { one } else { many })
+}
+
+pub fn size(bytes: usize, records: usize) -> String {
+    format!("{}, {}", plural(bytes, "byte", "bytes"), plural(records, "record", "records"))
+}
+
+/// A tag's value on one line.
+pub fn value(node: &Node, full: bool) -> String {
+    match node.kind() {
+        Kind::Compound => plural(node.len(), "entry", "entries"),
+        Kind::List => match node.list_kind() {
+            Some(kind) => format!("{} of {kind}", plural(node.len(), "element", "elements")),
+            None => "0 elements".to_owned(),
+        },
+        Kind::String => string(&node.as_str().unwrap_or_default(), full),
+        Kind::Float => format!("{:?}", node.as_f32().unwrap_or_default()),
+        Kind::Double => format!("{:?}", node.as_f64().unwrap_or_default()),
+        Kind::ByteArray | Kind::IntArray | Kind::LongArray => array(node, full),
+        _ => node.as_whole().unwrap_or_default().to_string(),
+    }
+}
+
+fn string(text: &str, full: bool) -> String {
+    match text.char_indices().nth(CHARACTERS) {
+        Some((at, _)) if !full => format!("{:?}… {} characters", &text[..at], text.chars().count()),
+        _ => format!("{text:?}"),
+    }
+}
+
+fn array(node: &Node, full: bool) -> String {
+    let most = if full { usize::MAX } else { ELEMENTS };
+    let shown: Vec<String> = node.wholes().into_iter().flatten().take(most).map(|n| n.to_string()).collect();
+    if shown.len() < node.len() {
+        return format!("[{}, …] {} elements", shown.join(", "), node.len());
+    }
+    format!("[{}]", shown.join(", "))
+}
+
+/// A tag's name as a list shows it, indented by its depth.
+fn label(depth: usize, node: &Node) -> String {
+    let indent = "  ".repeat(depth.min(INDENTED));
+    let deep = if depth > INDENTED { format!("({depth}) ") } else { String::new() };
+    match node.link() {
+        Link::Element(index) => format!("{indent}{deep}[{index}]"),
+        _ => format!("{indent}{deep}{}", quoted(&node.name().unwrap_or_default())),
+    }
+}
+
+/// Every tag below the root, aligned.
+pub fn tree(out: &mut dyn Write, root: Node, full: bool) -> io::Result<()> {
+    let name = root.walk().map(|(depth, node)| label(depth, &node).chars().count().min(WIDEST)).max().unwrap_or(0).max(4);
+    let number = root.end().saturating_sub(1).to_string().len().max(6);
+    let kind = root.walk().map(|(_, node)| node.kind().tag_name().len()).max().unwrap_or(0).max(4);
+    writeln!(out, "{:>number$}  {:kind$}  {:name$}  value", "record", "kind", "name")?;
+    for (depth, node) in root.walk() {
+        writeln!(out, "{:>number$}  {:kind$}  {:name$}  {}", node.record(), node.kind(), label(depth, &node), value(&node, full))?;
+    }
+    Ok(())
+}
+
+/// The tags that a query found, with their paths, aligned.
+pub fn matches(out: &mut dyn Write, found: &[(String, Node)], full: bool) -> io::Result<()> {
+    let path = found.iter().map(|(path, _)| path.chars().count().min(WIDEST)).max().unwrap_or(0);
+    let kind = found.iter().map(|(_, node)| node.kind().tag_name().len()).max().unwrap_or(0);
+    for (text, node) in found {
+        writeln!(out, "{text:path$}  {:kind$}  {}", node.kind(), value(node, full))?;
+    }
+    Ok(())
+}
+
+/// Why there is no document, and the bytes where the trouble is.
+pub fn trouble(trouble: &Trouble) -> String {
+    match trouble {
+        Trouble::Io(error) => format!("can't be read: {error}"),
+        Trouble::Packed(words) => format!("refused: {words}"),
+        Trouble::Refused(refusal, bytes) => match refusal.window(bytes) {
+            Some(window) => format!("refused: {refusal}\n{window}"),
+            None => format!("refused: {refusal}"),
+        },
+    }
+}

@@ -1,0 +1,46 @@
+//! The answers that samples/README.md tells are the library's.
+use std::path::PathBuf;
+
+fn samples() -> PathBuf {
+    PathBuf::from(env!("CARGO_MANIFEST_DIR")).join("../samples")
+}
+
+/// The rows of the table: file and answer.
+fn rows() -> Vec<(String, String)> {
+    let text = std::fs::read_to_string(samples().join("README.md")).expect("samples/README.md");
+    let row = |line: &str| {
+        let cells: Vec<&str> = line.split(" | ").collect();
+        let file = cells[0].trim_start_matches("| ").trim_matches('`').to_owned();
+        (file, cells[cells.len() - 1].trim_end_matches(" |").to_owned())
+    };
+    text.lines().filter(|line| line.starts_with("| `")).map(row).collect()
+}
+
+fn answer(file: &str) -> String {
+    let bytes = std::fs::read(samples().join(file)).expect(file);
+    match tikfazrul::read(&bytes) {
+        Ok(table) => format!("accepted: {} bytes, {} records", table.consumed(), table.len()),
+        Err(refusal) => format!("refused with {} at {}", refusal.number(), refusal.place().number()),
+    }
+}
+
+#[test]
+fn every_document_is_answered_as_told() {
+    let rows: Vec<_> = rows().into_iter().filter(|(file, _)| file.contains(".nbt")).collect();
+    assert_eq!(rows.len(), 12);
+    for (file, told) in rows {
+        let told = told.replace("1 record", "1 records").replace(',', "");
+        let answer = answer(&file).replace(',', "");
+        assert!(told.starts_with(&answer), "{file}: told {told}, answered {answer}");
+    }
+}
+
+#[test]
+fn every_file_is_told_of() {
+    let mut told: Vec<String> = rows().into_iter().map(|(file, _)| file).collect();
+    let names = std::fs::read_dir(samples()).expect("samples").map(|entry| entry.expect("an entry").file_name().into_string().expect("UTF-8"));
+    let mut there: Vec<String> = names.filter(|name| name != "README.md" && name != "make").collect();
+    told.sort();
+    there.sort();
+    assert_eq!(told, there);
+}

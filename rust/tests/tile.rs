@@ -1,0 +1,208 @@
+//! The command `tile`, run on the samples.
+use std::io::Write;
+use std::path::PathBuf;
+use std::process::{Command, Output, Stdio};
+
+fn samples() -> PathBuf {
+    PathBuf::from(env!("CARGO_MANIFEST_DIR")).join("../samples")
+}
+
+fn scratch(name: &str) -> PathBuf {
+    PathBuf::from(env!("CARGO_TARGET_TMPDIR")).join(name)
+}
+
+/// Runs in the samples folder, with these bytes on standard input.
+fn fed(args: &[&str], input: &[u8]) -> Output {
+    let mut tile = Command::new(env!("CARGO_BIN_EXE_tile"));
+    let tile = tile.args(args).current_dir(samples()).stdin(Stdio::piped()).stdout(Stdio::piped()).stderr(Stdio::piped());
+    let mut child = tile.spawn().expect("tile runs");
+    child.stdin.take().expect("piped").write_all(input).expect("tile reads its input");
+    child.wait_with_output().expect("tile ends")
+}
+
+/// Standard output, standard error and status.
+fn tile(args: &[&str]) -> (String, String, i32) {
+    let output = Command::new(env!("CARGO_BIN_EXE_tile")).args(args).current_dir(samples()).stdin(Stdio::null()).output().expect("tile runs");
+    let text = |bytes| String::from_utf8(bytes).expect("UTF-8");
+    (text(output.stdout), text(output.stderr), output.status.code().expect("a status"))
+}
+
+#[test]
+fn list_is_aligned() {
+    let wanted = "\
+reef.nbt: 110 bytes, 5 records
+record  kind      name         value
+     0  Compound  tile         4 entries
+     1  String      SceneId    \"S2B_31UFU_20261103\"
+     2  Int         OriginLon  48952000
+     3  Int         OriginLat  523702000
+     4  IntArray    Footprint  [48952000, 523702000, 49152000, 523702000, 49152000, 523902000]
+";
+    assert_eq!(tile(&["list", "reef.nbt"]), (wanted.to_owned(), String::new(), 0));
+}
+
+#[test]
+fn check_says_what_and_where() {
+    let wanted = "\
+second-origin.nbt: refused: a name stands twice in one compound, at byte 23, the later entry (refusal 6)
+  00000000  0A 00 04 74 69 6C 65 03  00 09 4F 72 69 67 69 6E  |...tile...Origin|
+  00000010  4C 6F 6E 00 00 00 01 03  00 09 4F 72 69 67 69 6E  |Lon.......Origin|
+                                 ^^
+  00000020  4C 6F 6E 00 00 00 02 00                           |Lon.....|
+reef.nbt: accepted: 110 bytes, 5 records
+";
+    let (out, err, status) = tile(&["check", "second-origin.nbt", "reef.nbt"]);
+    assert_eq!((out.as_str(), err.as_str(), status), (wanted, "2 files, 1 refused\n", 1));
+    assert_eq!(tile(&["check", "reef.nbt", "rare-name.nbt"]).2, 0);
+}
+
+#[test]
+fn a_file_that_is_missing_is_no_refusal() {
+    let (out, err, status) = tile(&["check", "nowhere.nbt", "reef.nbt"]);
+    assert_eq!((out.as_str(), status), ("reef.nbt: accepted: 110 bytes, 5 records\n", 2));
+    assert!(err.starts_with("tile: nowhere.nbt: can't be read: "), "{err}");
+    assert_eq!(tile(&["list", "."]).2, 2);
+}
+
+#[test]
+fn query_follows_a_path() {
+    let (out, _, status) = tile(&["query", "root/Tiles[3]/**/SceneId", "mosaic.nbt"]);
+    assert_eq!((out.as_str(), status), ("root/Tiles[3]/Scene/SceneId  String  \"S2B_03\"\n", 0));
+    let (out, _, status) = tile(&["query", "**/SceneId", "mosaic.nbt", "smallest.nbt"]);
+    assert_eq!((out.lines().count(), status), (8, 0));
+    assert!(out.ends_with("smallest.nbt: 0 found\n"), "{out}");
+    let (out, _, _) = tile(&["query", "\"Origin/Lon [°]\"", "rare-name.nbt"]);
+    assert_eq!(out, "root/\"Origin/Lon [°]\"  Int  48952000\n");
+}
+
+#[test]
+fn a_wrong_path_is_pointed_at() {
+    let (out, err, status) = tile(&["query", "Tiles[x]", "mosaic.nbt"]);
+    assert_eq!((out.as_str(), status), ("", 2));
+    assert!(err.ends_with("  Tiles[x]\n        ^\n"), "{err}");
+}
+
+#[test]
+fn gzip_is_inflated_and_zlib_refused_with_words() {
+    let (out, _, status) = tile(&["check", "reef.nbt.gz"]);
+    assert_eq!((out.as_str(), status), ("reef.nbt.gz: accepted: 110 bytes, 5 records, inflated from gzip\n", 0));
+    let (out, _, status) = tile(&["check", "reef.nbt.zlib"]);
+    assert!(out.contains("zlib data (78 01)") && out.contains("inflate it first"), "{out}");
+    assert_eq!(status, 1);
+}
+
+#[test]
+fn a_cut_gzip_file_and_a_missing_gzip_are_refused_with_words() {
+    let whole = std::fs::read(samples().join("reef.nbt.gz")).unwrap();
+    let cut = fed(&["check", "-"], &whole[..60]);
+    let words = String::from_utf8(cut.stdout).unwrap();
+    assert!(words.contains("can't be inflated whole: gzip:"), "{words}");
+    assert_eq!(cut.status.code(), Some(1));
+    let lone = Command::new(env!("CARGO_BIN_EXE_tile")).args(["check", "reef.nbt.gz"]).current_dir(samples()).env("PATH", "").output().unwrap();
+    let words = String::from_utf8(lone.stdout).unwrap();
+    assert!(words.contains("install gzip"), "{words}");
+    assert_eq!(lone.status.code(), Some(1));
+}
+
+#[test]
+fn a_gzip_file_that_inflates_beyond_the_limit_is_refused() {
+    let zeros = scratch("zeros");
+    std::fs::write(&zeros, vec![0; 64 << 20]).unwrap();
+    let packed = Command::new("gzip").arg("-1c").arg(&zeros).output().unwrap().stdout;
+    std::fs::remove_file(&zeros).unwrap();
+    let answer = fed(&["check", "--json", "-"], &packed);
+    let words = String::from_utf8(answer.stdout).unwrap();
+    assert!(words.starts_with("{\"file\":\"-\",\"ok\":false,\"refusal\":9,"), "{words}");
+}
+
+#[test]
+fn standard_input_is_a_file() {
+    let answer = fed(&["list", "-"], b"\x0A\0\x01a\x01\0\x01b\xFF\0rest");
+    let text = String::from_utf8(answer.stdout).unwrap();
+    assert!(text.starts_with("standard input: 10 bytes, 2 records; 4 more after the root's end\n"), "{text}");
+    assert!(text.ends_with("     1  Byte        b   -1\n"), "{text}");
+}
+
+#[test]
+fn json_is_a_line_for_each_file() {
+    let (out, err, status) = tile(&["list", "--json", "rare-name.nbt", "second-origin.nbt", "nowhere"]);
+    let lines: Vec<&str> = out.lines().collect();
+    assert_eq!((lines.len(), err.as_str(), status), (3, "", 2));
+    assert!(lines[0].starts_with(r#"{"file":"rare-name.nbt","ok":true,"bytes":66,"count":4,"inflated":false,"records":[{"record":0,"path":"root","#), "{out}");
+    assert!(lines[0].contains(r#""name":"reef\u0000😀","count":3}"#), "{out}");
+    assert!(lines[1].starts_with(r#"{"file":"second-origin.nbt","ok":false,"refusal":6,"place":23,"of":"byte","message":""#), "{out}");
+    assert!(lines[2].starts_with(r#"{"file":"nowhere","ok":false,"error":""#), "{out}");
+    let (out, _, _) = tile(&["query", "--json", "doubles/*", "kinds.nbt"]);
+    assert!(out.contains(r#""value":"NaN"}"#) && out.contains(r#""value":"-inf"}"#) && out.contains(r#""value":-0.0}"#), "{out}");
+}
+
+#[test]
+fn write_gives_the_document_back() {
+    let file = scratch("again.nbt");
+    let (out, err, status) = tile(&["write", "reef.nbt.gz", "-o", file.to_str().unwrap()]);
+    assert_eq!((out.as_str(), err.as_str(), status), ("", "", 0));
+    assert_eq!(std::fs::read(&file).unwrap(), std::fs::read(samples().join("reef.nbt")).unwrap());
+    std::fs::remove_file(&file).unwrap();
+    assert_eq!(tile(&["write", "second-origin.nbt", "-o", file.to_str().unwrap()]).2, 1);
+    assert!(!file.exists(), "nothing is written of what is refused");
+    assert_eq!(fed(&["write", "-", "-o", "-"], b"\x0A\0\0\0more").stdout, b"\x0A\0\0\0");
+}
+
+#[test]
+fn hex_shows_the_bytes() {
+    let (out, _, _) = tile(&["hex", "smallest.nbt"]);
+    assert_eq!(out, "00000000  0A 00 00 00                                       |....|\n");
+    let (line, _, _) = tile(&["hex", "--line", "reef.nbt", "second-origin.nbt", "plain-emoji.nbt"]);
+    assert_eq!(line, std::fs::read_to_string(samples().join("tile.hex")).unwrap());
+    assert_eq!(tile(&["hex", "reef.nbt.gz"]).0, tile(&["hex", "reef.nbt"]).0);
+    assert!(tile(&["hex", "reef.nbt.zlib"]).0.starts_with("00000000  78 01"));
+}
+
+#[test]
+fn wrong_command_lines_say_so() {
+    for args in [
+        &[][..],
+        &["lsit"],
+        &["list"],
+        &["list", "--jsno", "reef.nbt"],
+        &["query"],
+        &["query", "a"],
+        &["write", "reef.nbt"],
+        &["write", "reef.nbt", "kinds.nbt", "-o", "-"],
+        &["write", "reef.nbt", "-o"],
+        &["list", "reef.nbt", "-o", "x"],
+        &["hex", "--json", "reef.nbt"],
+        &["check", "--full", "reef.nbt"],
+        &["list", "--line", "reef.nbt"],
+    ] {
+        let (out, err, status) = tile(args);
+        assert_eq!((out.as_str(), status), ("", 2), "{args:?}");
+        assert!(err.contains("tile"), "{args:?}: {err}");
+    }
+}
+
+#[test]
+fn help_teaches() {
+    let (help, err, status) = tile(&["--help"]);
+    assert_eq!((err.as_str(), status), ("", 0));
+    for command in ["list", "check", "query", "text", "write", "hex"] {
+        assert!(help.contains(&format!("tile {command} ")), "{command}");
+        let (about, _, status) = tile(&[command, "--help"]);
+        assert_eq!(status, 0);
+        assert!(about.starts_with(&format!("tile {command} ")), "{about}");
+    }
+}
+
+#[test]
+fn long_values_are_cut_unless_all_is_asked_for() {
+    let mut doc = b"\x0A\0\0\x08\0\x01s\0\xC8".to_vec();
+    doc.extend([b'x'; 200]);
+    doc.extend(b"\x07\0\x01b\0\0\0\x64");
+    doc.extend([5; 100]);
+    doc.push(0);
+    let show = |args: &[&str]| String::from_utf8(fed(args, &doc).stdout).unwrap();
+    let cut = show(&["list", "-"]);
+    assert!(cut.contains("… 200 characters\n") && cut.contains("[5, 5, 5, 5, 5, 5, 5, 5, …] 100 elements\n"), "{cut}");
+    let full = show(&["list", "--full", "-"]);
+    assert!(full.contains(&"x".repeat(200)) && full.contains(&["5"; 100].join(", ")), "{full}");
+}
