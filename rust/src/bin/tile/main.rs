@@ -20,7 +20,7 @@ fn main() -> ExitCode {
             return ExitCode::SUCCESS;
         }
         Err(Instead::Fault(words)) => {
-            eprintln!("tile: {}", words.trim_end());
+            grumble(&format!("tile: {}", words.trim_end()));
             return ExitCode::from(2);
         }
     };
@@ -31,10 +31,15 @@ fn main() -> ExitCode {
         // whoever read us wants no more: tile list … | head
         Err(error) if error.kind() == io::ErrorKind::BrokenPipe => ExitCode::SUCCESS,
         Err(error) => {
-            eprintln!("tile: can't write: {error}");
+            grumble(&format!("tile: can't write: {error}"));
             ExitCode::from(2)
         }
     }
+}
+
+/// A line on standard error. If no one reads that, there is no one to tell.
+fn grumble(words: &str) {
+    let _ = writeln!(io::stderr(), "{words}");
 }
 
 /// Does what is asked to each file. The exit status: 0, 1 where something is refused, 2 where a file can't be read.
@@ -46,19 +51,22 @@ fn each(args: &Args, out: &mut dyn Write) -> io::Result<u8> {
         progress.step(done);
         let mut said = Vec::new();
         if let Err(trouble) = one(args, file, &mut said) {
-            refused += usize::from(!matches!(trouble, Trouble::Io(_)));
-            status = status.max(if matches!(trouble, Trouble::Io(_)) { 2 } else { 1 });
-            complain(args, file, &trouble, &mut said, &mut progress)?;
+            let unread = matches!(trouble, Trouble::Io(_));
+            refused += usize::from(!unread);
+            status = status.max(if unread { 2 } else { 1 });
+            if let Some(words) = complaint(args, file, &trouble, &mut said)? {
+                // what was said before stands before
+                out.flush()?;
+                progress.clear();
+                grumble(&format!("tile: {words}"));
+            }
         }
-        if !said.is_empty() {
-            progress.clear();
-            out.write_all(&said)?;
-        }
+        progress.say(out, &said)?;
     }
     progress.clear();
     if args.command == Command::Check && args.files.len() > 1 && !args.json {
         out.flush()?;
-        eprintln!("{} files, {refused} refused", args.files.len());
+        grumble(&format!("{} files, {refused} refused", args.files.len()));
     }
     Ok(status)
 }
@@ -71,18 +79,18 @@ fn name(file: &OsStr) -> String {
     file.to_string_lossy().chars().map(|c| if c.is_control() { '\u{FFFD}' } else { c }).collect()
 }
 
-/// Says why a file is of no use: where the answers go if that is the answer, else on standard error.
-fn complain(args: &Args, file: &OsStr, trouble: &Trouble, said: &mut Vec<u8>, progress: &mut progress::Progress) -> io::Result<()> {
+/// Why a file is of no use: said where the answers go if that is the answer, else handed back for standard error.
+fn complaint(args: &Args, file: &OsStr, trouble: &Trouble, said: &mut Vec<u8>) -> io::Result<Option<String>> {
     if args.json {
-        return writeln!(said, "{}", json::file(&file.to_string_lossy(), false, &json::trouble(trouble)));
+        writeln!(said, "{}", json::file(&file.to_string_lossy(), false, &json::trouble(trouble)))?;
+        return Ok(None);
     }
     let words = format!("{}: {}", name(file), show::trouble(trouble)).replace('\n', "\n  ");
     if args.command == Command::Check && !matches!(trouble, Trouble::Io(_)) {
-        return writeln!(said, "{words}");
+        writeln!(said, "{words}")?;
+        return Ok(None);
     }
-    progress.clear();
-    eprintln!("tile: {words}");
-    Ok(())
+    Ok(Some(words))
 }
 
 /// Does what is asked to one file.

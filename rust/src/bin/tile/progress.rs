@@ -2,33 +2,50 @@
 use std::io::{self, IsTerminal, Write};
 use std::time::{Duration, Instant};
 
+/// No line is shown in the first second, and then ten in each.
+const PATIENCE: Duration = Duration::from_secs(1);
+const PAUSE: Duration = Duration::from_millis(100);
+
 pub struct Progress {
     files: usize,
-    start: Instant,
-    last: Option<Instant>,
-    seen: bool,
+    next: Instant,
+    shown: bool,
+    /// Whether standard error is a terminal; the line is for no one else.
+    watched: bool,
+    /// Whether the answers go to a terminal too, and so across the line.
+    shared: bool,
 }
 
 impl Progress {
-    /// Silent where standard error is no terminal.
     pub fn new(files: usize) -> Progress {
-        Progress { files, start: Instant::now(), last: None, seen: io::stderr().is_terminal() }
+        let (watched, shared) = (io::stderr().is_terminal(), io::stdout().is_terminal());
+        Progress { files, next: Instant::now() + PATIENCE, shown: false, watched, shared }
     }
 
-    /// Before file number `done`, from 0. Nothing is shown in the first second, and then ten times in each.
+    /// Before file number `done`, from 0.
     pub fn step(&mut self, done: usize) {
-        let recent = self.last.is_some_and(|last| last.elapsed() < Duration::from_millis(100));
-        if self.seen && !recent && self.start.elapsed() > Duration::from_secs(1) {
-            eprint!("\r\x1B[K{done} of {} files", self.files);
-            let _ = io::stderr().flush();
-            self.last = Some(Instant::now());
+        if self.watched && Instant::now() >= self.next {
+            let _ = write!(io::stderr(), "\r\x1B[K{done} of {} files", self.files);
+            self.shown = true;
+            self.next = Instant::now() + PAUSE;
         }
     }
 
-    /// Takes the line away, so that something else can be said.
+    /// Takes the line away before something is said on standard error.
     pub fn clear(&mut self) {
-        if self.last.take().is_some() {
-            eprint!("\r\x1B[K");
+        if self.shown {
+            let _ = write!(io::stderr(), "\r\x1B[K");
+            self.shown = false;
         }
+    }
+
+    /// Says something on standard output, at once where someone watches it.
+    pub fn say(&mut self, out: &mut dyn Write, said: &[u8]) -> io::Result<()> {
+        if self.shared && !said.is_empty() {
+            self.clear();
+            out.write_all(said)?;
+            return out.flush();
+        }
+        out.write_all(said)
     }
 }
