@@ -66,7 +66,11 @@ fn every_word_changed() {
             match table.root(TILE) {
                 Err(refusal) => assert_eq!(refusal, Refusal::NoTable(Place::Whole)),
                 Ok(root) => {
-                    walked += root.walk().map(|(_, node)| format!("{node:?} {:?} {:?}", node.name(), node.payload()).len().min(1)).sum::<usize>();
+                    for (_, node) in root.walk() {
+                        assert!(node.path().starts_with("root"));
+                        assert!(node.payload().len() + node.name_bytes().map_or(0, <[u8]>::len) <= 2 * TILE.len());
+                        walked += 1;
+                    }
                 }
             }
             assert_eq!(table.is_table(TILE.len()).unwrap(), !matches!(write(TILE, &mut table), Err(Refusal::NoTable(_))));

@@ -38,7 +38,8 @@ fn every_document_is_answered_as_told() {
 #[test]
 fn every_file_is_told_of() {
     let mut told: Vec<String> = rows().into_iter().map(|(file, _)| file).collect();
-    let names = std::fs::read_dir(samples()).expect("samples").map(|entry| entry.expect("an entry").file_name().into_string().expect("UTF-8"));
+    let names =
+        std::fs::read_dir(samples()).expect("samples").map(|entry| entry.expect("an entry").file_name().into_string().expect("UTF-8"));
     let mut there: Vec<String> = names.filter(|name| name != "README.md" && name != "make").collect();
     told.sort();
     there.sort();

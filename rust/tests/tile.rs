@@ -22,7 +22,8 @@ fn fed(args: &[&str], input: &[u8]) -> Output {
 
 /// Standard output, standard error and status.
 fn tile(args: &[&str]) -> (String, String, i32) {
-    let output = Command::new(env!("CARGO_BIN_EXE_tile")).args(args).current_dir(samples()).stdin(Stdio::null()).output().expect("tile runs");
+    let output =
+        Command::new(env!("CARGO_BIN_EXE_tile")).args(args).current_dir(samples()).stdin(Stdio::null()).output().expect("tile runs");
     let text = |bytes| String::from_utf8(bytes).expect("UTF-8");
     (text(output.stdout), text(output.stderr), output.status.code().expect("a status"))
 }
@@ -98,7 +99,8 @@ fn a_cut_gzip_file_and_a_missing_gzip_are_refused_with_words() {
     let words = String::from_utf8(cut.stdout).unwrap();
     assert!(words.contains("can't be inflated whole: gzip:"), "{words}");
     assert_eq!(cut.status.code(), Some(1));
-    let lone = Command::new(env!("CARGO_BIN_EXE_tile")).args(["check", "reef.nbt.gz"]).current_dir(samples()).env("PATH", "").output().unwrap();
+    let lone =
+        Command::new(env!("CARGO_BIN_EXE_tile")).args(["check", "reef.nbt.gz"]).current_dir(samples()).env("PATH", "").output().unwrap();
     let words = String::from_utf8(lone.stdout).unwrap();
     assert!(words.contains("install gzip"), "{words}");
     assert_eq!(lone.status.code(), Some(1));
@@ -128,7 +130,12 @@ fn json_is_a_line_for_each_file() {
     let (out, err, status) = tile(&["list", "--json", "rare-name.nbt", "second-origin.nbt", "nowhere"]);
     let lines: Vec<&str> = out.lines().collect();
     assert_eq!((lines.len(), err.as_str(), status), (3, "", 2));
-    assert!(lines[0].starts_with(r#"{"file":"rare-name.nbt","ok":true,"bytes":66,"count":4,"inflated":false,"records":[{"record":0,"path":"root","#), "{out}");
+    assert!(
+        lines[0].starts_with(
+            r#"{"file":"rare-name.nbt","ok":true,"bytes":66,"count":4,"inflated":false,"records":[{"record":0,"path":"root","#
+        ),
+        "{out}"
+    );
     assert!(lines[0].contains(r#""name":"reef\u0000😀","count":3}"#), "{out}");
     assert!(lines[1].starts_with(r#"{"file":"second-origin.nbt","ok":false,"refusal":6,"place":23,"of":"byte","message":""#), "{out}");
     assert!(lines[2].starts_with(r#"{"file":"nowhere","ok":false,"error":""#), "{out}");
