@@ -297,8 +297,8 @@ impl<'a> Node<'a> {
             if last.record == self.record {
                 break;
             }
-            let holds = |child: &Node| child.record <= self.record && self.record < child.end();
-            match last.children().find(holds) {
+            // the children tile their parent, so the first that ends behind this tag holds it
+            match last.children().find(|child| self.record < child.end()) {
                 Some(child) => line.push(child),
                 None => break,
             }

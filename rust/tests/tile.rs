@@ -63,6 +63,9 @@ fn a_file_that_is_missing_is_no_refusal() {
     assert_eq!((out.as_str(), status), ("reef.nbt: accepted: 110 bytes, 5 records\n", 2));
     assert!(err.starts_with("tile: nowhere.nbt: can't be read: "), "{err}");
     assert_eq!(tile(&["list", "."]).2, 2);
+    // the worst of all stands, whatever comes after it
+    assert_eq!(tile(&["check", "nowhere.nbt", "second-origin.nbt"]).2, 2);
+    assert_eq!(tile(&["check", "second-origin.nbt", "nowhere.nbt"]).2, 2);
 }
 
 #[test]
