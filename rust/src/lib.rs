@@ -36,7 +36,7 @@
 //! | there | here |
 //! |---|---|
 //! | `io::read_nbt` | [`read`]; the root's name is [`Node::name`] of [`Table::root`] |
-//! | `io::write_nbt` | [`write`] |
+//! | `io::write_nbt` | [`write()`] |
 //! | `NbtTag` | [`Node`], a view of a record; [`Kind`] names its variants |
 //! | `NbtTag::Int(n)`, `i32::try_from(tag)` | [`Node::as_i32`] and its like |
 //! | `NbtCompound::get`, `contains_key`, `len`, `inner().iter()` | [`Node::get`], [`Node::contains_key`], [`Node::len`], [`Node::children`] |

@@ -40,7 +40,7 @@ impl Table {
         Table::default()
     }
 
-    /// A table of words from elsewhere. They may form none: then [`write`], [`query`] and [`Table::root`] refuse them with 10.
+    /// A table of words from elsewhere. They may form none: then [`write()`], [`query`] and [`Table::root`] refuse them with 10.
     pub fn from_words(words: Vec<u32>) -> Table {
         Table { words, consumed: 0, over: None }
     }

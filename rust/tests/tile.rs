@@ -155,6 +155,9 @@ fn write_gives_the_document_back() {
     std::fs::remove_file(&file).unwrap();
     assert_eq!(tile(&["write", "second-origin.nbt", "-o", file.to_str().unwrap()]).2, 1);
     assert!(!file.exists(), "nothing is written of what is refused");
+    let (_, err, status) = tile(&["write", "reef.nbt", "-o", "nowhere/reef.nbt"]);
+    assert!(err.starts_with("tile: reef.nbt: can't be written: "), "{err}");
+    assert_eq!(status, 2);
     assert_eq!(fed(&["write", "-", "-o", "-"], b"\x0A\0\0\0more").stdout, b"\x0A\0\0\0");
 }
 

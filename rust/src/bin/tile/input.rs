@@ -7,12 +7,22 @@ use tikfazrul::{Refusal, MAX_DOCUMENT};
 
 /// Why there is no document to be had from a file.
 pub enum Trouble {
-    /// It can't be read at all.
-    Io(io::Error),
+    /// It can't be read, or what it makes can't be written: the words that say so.
+    Io(String),
     /// It is compressed, and can't be inflated here: the words that say what to do.
     Packed(String),
     /// The library refuses it; with the bytes that the place counts.
     Refused(Refusal, Vec<u8>),
+}
+
+impl Trouble {
+    fn unread(error: io::Error) -> Trouble {
+        Trouble::Io(format!("can't be read: {error}"))
+    }
+
+    pub fn unwritten(error: io::Error) -> Trouble {
+        Trouble::Io(format!("can't be written: {error}"))
+    }
 }
 
 /// What stands in a file.
@@ -36,12 +46,12 @@ fn whole(file: &OsStr, most: u64) -> io::Result<Vec<u8>> {
 
 /// The bytes as they stand in the file.
 pub fn raw(file: &OsStr) -> Result<Vec<u8>, Trouble> {
-    whole(file, ENOUGH).map_err(Trouble::Io)
+    whole(file, ENOUGH).map_err(Trouble::unread)
 }
 
 /// All the bytes, inflated if that can be done.
 pub fn shown(file: &OsStr) -> Result<Input, Trouble> {
-    let bytes = whole(file, u64::MAX).map_err(Trouble::Io)?;
+    let bytes = whole(file, u64::MAX).map_err(Trouble::unread)?;
     match unpack(bytes.clone()) {
         Ok(input) => Ok(input),
         Err(_) => Ok(Input { bytes, inflated: false }),
@@ -88,14 +98,14 @@ fn inflate(bytes: Vec<u8>) -> Result<Input, Trouble> {
 fn collect(gzip: &mut Child) -> Result<Input, Trouble> {
     let mut bytes = Vec::new();
     let out = gzip.stdout.take().expect("it is piped");
-    out.take(ENOUGH).read_to_end(&mut bytes).map_err(Trouble::Io)?;
+    out.take(ENOUGH).read_to_end(&mut bytes).map_err(Trouble::unread)?;
     if bytes.len() as u64 == ENOUGH {
         // too long for any document: there is no need for the rest
         return Ok(Input { bytes, inflated: true });
     }
     let mut said = String::new();
     let _ = gzip.stderr.take().expect("it is piped").take(4096).read_to_string(&mut said);
-    let status = gzip.wait().map_err(Trouble::Io)?;
+    let status = gzip.wait().map_err(Trouble::unread)?;
     // 2 is a warning: bytes that follow the gzip'd ones
     if !matches!(status.code(), Some(0 | 2)) {
         let why = said.lines().map(str::trim).find(|line| !line.is_empty()).unwrap_or("no reason given").to_owned();

@@ -70,7 +70,7 @@ pub fn file(name: &str, ok: bool, more: &str) -> String {
 
 pub fn trouble(trouble: &Trouble) -> String {
     match trouble {
-        Trouble::Io(error) => format!("\"error\":{}", string(&error.to_string())),
+        Trouble::Io(words) => format!("\"error\":{}", string(words)),
         Trouble::Packed(words) => format!("\"message\":{}", string(words)),
         Trouble::Refused(refusal, _) => format!(
             "\"refusal\":{},\"place\":{},\"of\":{},\"message\":{}",

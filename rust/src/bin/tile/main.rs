@@ -145,7 +145,7 @@ fn save(args: &Args, document: &[u8]) -> Result<(), Trouble> {
         Some(file) if file != "-" => std::fs::write(file, document),
         _ => io::stdout().write_all(document),
     };
-    saved.map_err(Trouble::Io)
+    saved.map_err(Trouble::unwritten)
 }
 
 fn dump(args: &Args, input: &Input, said: &mut Vec<u8>) {
@@ -175,7 +175,7 @@ fn answer(args: &Args, file: &OsStr, input: &Input, table: &Table, said: &mut Ve
         true => writeln!(said, "{}", json::file(&file.to_string_lossy(), true, &object(args, &accepted))),
         false => words(args, file, &accepted, said),
     };
-    written.map_err(Trouble::Io)
+    written.map_err(Trouble::unwritten)
 }
 
 /// The root, and for a query the tags that match, with their paths.

@@ -86,7 +86,7 @@ pub fn matches(out: &mut dyn Write, found: &[(String, Node)], full: bool) -> io:
 /// Why there is no document, and the bytes where the trouble is.
 pub fn trouble(trouble: &Trouble) -> String {
     match trouble {
-        Trouble::Io(error) => format!("can't be read: {error}"),
+        Trouble::Io(words) => words.clone(),
         Trouble::Packed(words) => format!("refused: {words}"),
         Trouble::Refused(refusal, bytes) => match refusal.window(bytes) {
             Some(window) => format!("refused: {refusal}\n{window}"),
