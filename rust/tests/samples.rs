@@ -1,5 +1,6 @@
 //! The answers that samples/README.md tells are the library's.
 use std::path::PathBuf;
+use tikfazrul::{read, Refusal};
 
 fn samples() -> PathBuf {
     PathBuf::from(env!("CARGO_MANIFEST_DIR")).join("../samples")
@@ -16,23 +17,34 @@ fn rows() -> Vec<(String, String)> {
     text.lines().filter(|line| line.starts_with("| `")).map(row).collect()
 }
 
-fn answer(file: &str) -> String {
+fn answer(file: &str, document: impl Fn(Vec<u8>) -> Result<Vec<u8>, Refusal>) -> String {
     let bytes = std::fs::read(samples().join(file)).expect(file);
-    match tikfazrul::read(&bytes) {
+    match document(bytes).and_then(|bytes| read(&bytes)) {
         Ok(table) => format!("accepted: {} bytes, {} records", table.consumed(), table.len()),
         Err(refusal) => format!("refused with {} at {}", refusal.number(), refusal.place().number()),
     }
 }
 
-#[test]
-fn every_document_is_answered_as_told() {
-    let rows: Vec<_> = rows().into_iter().filter(|(file, _)| file.contains(".nbt")).collect();
-    assert_eq!(rows.len(), 12);
+/// Whether every file whose name has this ending is answered as told, and there are so many.
+fn as_told(ending: &str, count: usize, document: impl Fn(Vec<u8>) -> Result<Vec<u8>, Refusal>) {
+    let rows: Vec<_> = rows().into_iter().filter(|(file, _)| file.contains(ending)).collect();
+    assert_eq!(rows.len(), count);
     for (file, told) in rows {
         let told = told.replace("1 record", "1 records").replace(',', "");
-        let answer = answer(&file).replace(',', "");
+        let answer = answer(&file, &document).replace(',', "");
         assert!(told.starts_with(&answer), "{file}: told {told}, answered {answer}");
     }
+}
+
+#[test]
+fn every_document_is_answered_as_told() {
+    as_told(".nbt", 12, Ok);
+}
+
+#[cfg(feature = "text")]
+#[test]
+fn every_text_is_answered_as_told() {
+    as_told(".snbt", 5, |text| tikfazrul::parse(&text).map(|parsed| parsed.document));
 }
 
 #[test]

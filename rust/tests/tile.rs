@@ -219,3 +219,31 @@ fn long_values_are_cut_unless_all_is_asked_for() {
     let full = show(&["list", "--full", "-"]);
     assert!(full.contains(&"x".repeat(200)) && full.contains(&["5"; 100].join(", ")), "{full}");
 }
+
+#[cfg(feature = "text")]
+#[test]
+fn a_text_is_made_a_document() {
+    let file = scratch("text.nbt");
+    assert_eq!(tile(&["text", "reef.snbt", "-o", file.to_str().unwrap()]), (String::new(), String::new(), 0));
+    let made = std::fs::read(&file).unwrap();
+    std::fs::remove_file(&file).unwrap();
+    let tile_of = std::fs::read(samples().join("reef.nbt")).unwrap();
+    assert_eq!((&made[..3], &made[3..]), (&b"\x0A\0\0"[..], &tile_of[7..]), "all but the root's name");
+    assert_eq!(fed(&["text", "-", "-o", "-"], b"{clouds: 7b}").stdout, b"\x0A\0\0\x01\0\x06clouds\x07\0");
+}
+
+#[cfg(feature = "text")]
+#[test]
+fn a_refused_text_shows_its_place() {
+    let wanted = "\
+trailing-comma.snbt: refused: nothing follows a comma, at byte 42 of the text (refusal 21), line 1, column 43
+  00000010  32 30 30 30 2C 20 4F 72  69 67 69 6E 4C 61 74 3A  |2000, OriginLat:|
+  00000020  20 35 32 33 37 30 32 30  30 30 2C 7D 0A           | 523702000,}.|
+                                           ^^
+";
+    assert_eq!(tile(&["check", "trailing-comma.snbt"]), (wanted.to_owned(), String::new(), 1));
+    let late = fed(&["text", "-", "-o", "-"], "{é:\n é€ é,}".as_bytes());
+    assert!(String::from_utf8(late.stderr).unwrap().contains("(refusal 21), line 2, column 6\n"));
+    assert_eq!(tile(&["query", "deep/clouds", "rare-name.snbt"]).0, "root/deep/clouds  Byte  7\n");
+    assert_eq!(tile(&["text", "second-origin.snbt", "-o", "-"]).2, 1);
+}

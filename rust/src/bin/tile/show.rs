@@ -1,7 +1,7 @@
 //! Tags and refusals in words for people.
 use crate::input::Trouble;
 use std::io::{self, Write};
-use tikfazrul::{quoted, Kind, Link, Node};
+use tikfazrul::{quoted, Kind, Link, Node, Place};
 
 /// How many characters of a string, and elements of an array, are shown unless all are asked for.
 const CHARACTERS: usize = 60;
@@ -88,9 +88,34 @@ pub fn trouble(trouble: &Trouble) -> String {
     match trouble {
         Trouble::Io(words) => words.clone(),
         Trouble::Packed(words) => format!("refused: {words}"),
-        Trouble::Refused(refusal, bytes) => match refusal.window(bytes) {
-            Some(window) => format!("refused: {refusal}\n{window}"),
-            None => format!("refused: {refusal}"),
-        },
+        Trouble::Refused(refusal, bytes) => {
+            let position = match refusal.place() {
+                Place::Text(at) => position(bytes, at),
+                _ => String::new(),
+            };
+            let window = refusal.window(bytes).map_or(String::new(), |window| format!("\n{window}"));
+            format!("refused: {refusal}{position}{window}")
+        }
+    }
+}
+
+/// A place of a text as an editor counts: lines and characters from 1.
+fn position(text: &[u8], at: usize) -> String {
+    let before = String::from_utf8_lossy(&text[..at.min(text.len())]);
+    let column = before.rsplit('\n').next().map_or(0, |line| line.chars().count());
+    format!(", line {}, column {}", before.matches('\n').count() + 1, column + 1)
+}
+
+#[cfg(test)]
+mod tests {
+    use super::position;
+
+    #[test]
+    fn lines_and_columns_count_from_1() {
+        let text = "{é:\n €x\n".as_bytes();
+        assert_eq!(position(text, 0), ", line 1, column 1");
+        assert_eq!(position(text, 3), ", line 1, column 3");
+        assert_eq!(position(text, 9), ", line 2, column 3");
+        assert_eq!(position(text, text.len()), ", line 3, column 1");
     }
 }
