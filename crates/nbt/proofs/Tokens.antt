@@ -1,4 +1,4 @@
--- The words of a token and of a content, case by case, from what the function below says of its answer.
+-- The words of a token, of a content and of a parse, case by case, from what the function below says of its answer.
 -- Assumes nothing.
 use Prim.Native.Nat.{ℕ}
 use mathlib.Core.Path.{_≡_, refl, ap}
@@ -18,7 +18,10 @@ use Rattle.tokens.specs.declared.TokenData.{TokenData}
 use Rattle.tokens.specs.declared.Lexed.{Lexed}
 use Rattle.quotes.specs.declared.Contents.{Contents}
 use Rattle.quotes.specs.Answers.{contentOut}
-use Rattle.nbt.specs.Answers.{tokenKind, carriedFirst, carriedSecond, tokenWords, stopsOf, ContentCalled}
+use Rattle.text_form.specs.Text.{ParseIs}
+use Rattle.snbt.specs.declared.Parsed.{Parsed}
+use Rattle.snbt.specs.Answers.{parsedOut}
+use Rattle.nbt.specs.Answers.{tokenKind, carriedFirst, carriedSecond, tokenWords, stopsOf, ContentCalled, ParseCalled}
 
 -- What the machine reads back of a whole number has its bits.
 pub bits-kept : (z : ℤ) → SFits w64 z → bitsOf 8 (toZ w64 (ofZ w64 z)) ≡ bitsOf 8 z
@@ -42,3 +45,10 @@ module _ (t : List ℕ) (a e x : ℕ) (o o′ : List ℕ) {r : Contents} (h : Gi
 
   pub content-refused : {n i : ℕ} → r ≡ Contents.Refused n i → ContentCalled t a e x o o′ (n ∷ i ∷ 0 ∷ 0 ∷ 0 ∷ 0 ∷ 0 ∷ 0 ∷ [])
   content-refused k = record { answer-is = rw (← h .answer-is, k) refl; output-is = h .output-is }
+
+module _ (t o o′ : List ℕ) {r : Parsed} (h : ParseIs t o (parsedOut r) o′) where
+  pub parse-is : {c n : ℕ} → r ≡ Parsed.Document c n → ParseCalled t o o′ (0 ∷ 0 ∷ c ∷ n ∷ 0 ∷ 0 ∷ 0 ∷ 0 ∷ [])
+  parse-is k = record { answer-is = rw (← h .answer-is, k) refl; output-is = h .output-is }
+
+  pub parse-refused : {n p : ℕ} → r ≡ Parsed.Refused n p → ParseCalled t o o′ (n ∷ p ∷ 0 ∷ 0 ∷ 0 ∷ 0 ∷ 0 ∷ 0 ∷ [])
+  parse-refused k = record { answer-is = rw (← h .answer-is, k) refl; output-is = h .output-is }

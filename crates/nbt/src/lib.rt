@@ -6,11 +6,12 @@ ghost use Rattle.form.specs.Decoding.{verdict, utf8Verdict};
 ghost use Rattle.text_form.specs.Lexing.{lexed};
 ghost use Rattle.tokens.specs.Answers.{tokenIs, stopsIs};
 ghost use Rattle.tokens.specs.Quiet.{Quiet};
-ghost use Rattle.nbt.specs.Answers.{verdictWords, ReadCalled, TableCalled, WriteCalled, QueryCalled, tokenKind, carriedFirst, carriedSecond, tokenWords, stopsOf, ContentCalled};
+ghost use Rattle.nbt.specs.Answers.{verdictWords, ReadCalled, TableCalled, WriteCalled, QueryCalled, tokenKind, carriedFirst, carriedSecond, tokenWords, stopsOf, ContentCalled, ParseCalled};
 use mutf8::Checked;
 use query::Found;
 use quotes::Contents;
 use reader::Answer;
+use snbt::Parsed;
 use table::Verdict;
 use tokens::Lexed;
 use tokens::Stops;
@@ -284,6 +285,27 @@ pub extern "C" fn tikfazrul_content(
             place: at,
         } => {
             *answer = [refusal as u64, at as u64, 0, 0, 0, 0, 0, 0];
+        }
+    }
+}
+
+// The document that a text means (rules 14 and 15).
+#[no_mangle]
+pub extern "C" fn tikfazrul_parse(text: &[u8], out: &mut [u8], answer: &mut [u64; 8])
+    ensures { λ _. ⌜ ParseCalled (now (text .entry)) (now (out .entry)) (now (out .exit)) (now (answer .exit)) ⌝ }
+{
+    match snbt::parse(text, out) {
+        Parsed::Document {
+            consumed,
+            length: bytes,
+        } => {
+            *answer = [0, 0, consumed as u64, bytes as u64, 0, 0, 0, 0];
+        }
+        Parsed::Refused {
+            number: refusal,
+            place: spot,
+        } => {
+            *answer = [refusal as u64, spot as u64, 0, 0, 0, 0, 0, 0];
         }
     }
 }

@@ -49,26 +49,78 @@ fn print_parsed(text: &[u8], out: &mut [u8]) {
 // The answer to the first n bytes of a buffer, with so much room.
 fn print_case(text: &[u8], n: usize, out: &mut [u8], room: usize) {
     if n <= text.len() && room <= out.len() {
-        lines::fill(out, 0, room, 0xAA);
         print_parsed(&text[..n], &mut out[..room]);
     } else {
         lines::print_bad();
     }
 }
 
+// Puts a byte, where there is room for it.
+fn put(text: &mut [u8], at: usize, b: u8) {
+    if at < text.len() {
+        text[at] = b;
+    }
+}
+
 // Puts the first n bytes of another buffer from a place on; the place behind them.
 fn append(text: &mut [u8], at: usize, more: &[u8], n: usize) -> usize {
     let mut i: usize = 0;
-    let mut to = at;
-    while i < n && i < more.len() && to < text.len() {
-        text[to] = more[i];
+    while i < n && i < more.len() {
+        put(text, lines::sum(at, i), more[i]);
         i += 1;
-        to += 1;
     }
-    to
+    lines::sum(at, i)
 }
 
-// The answer to a line.
+// The last field of a line, from `from` on: what stands behind the run, whose end is `end`.
+fn print_last(
+    line: &[u8],
+    len: usize,
+    from: usize,
+    field: &mut [u8],
+    part: &mut [u8],
+    text: &mut [u8],
+    end: usize,
+    out: &mut [u8],
+    room: usize,
+) {
+    let d = lines::take_field(line, len, from, field);
+    let behind = lines::bytes_of(field, d, part);
+    let n = append(text, end, part, behind);
+    lines::fill(out, 0, room, 0xAA);
+    print_case(text, n, out, room);
+}
+
+// The third field: what stands before the run, of so many letters.
+fn print_third(
+    line: &[u8],
+    len: usize,
+    from: usize,
+    field: &mut [u8],
+    part: &mut [u8],
+    text: &mut [u8],
+    run: usize,
+    out: &mut [u8],
+    room: usize,
+) {
+    let c = lines::take_field(line, len, from, field);
+    let before = lines::bytes_of(field, c, text);
+    let end = lines::sum(before, run);
+    lines::fill(text, before, end, b'x');
+    print_last(
+        line,
+        len,
+        lines::sum(lines::sum(from, c), 1),
+        field,
+        part,
+        text,
+        end,
+        out,
+        room,
+    );
+}
+
+// The answer to a line: its first two fields are the room and the run's length.
 fn print_line(
     line: &[u8],
     len: usize,
@@ -82,16 +134,17 @@ fn print_line(
     let second = lines::sum(a, 1);
     let b = lines::take_field(line, len, second, field);
     let run = lines::decimal(field, b);
-    let third = lines::sum(lines::sum(second, b), 1);
-    let c = lines::take_field(line, len, third, field);
-    let before = lines::bytes_of(field, c, text);
-    let end = lines::sum(before, run);
-    lines::fill(text, before, end, b'x');
-    let fourth = lines::sum(lines::sum(third, c), 1);
-    let d = lines::take_field(line, len, fourth, field);
-    let behind = lines::bytes_of(field, d, part);
-    let n = append(text, end, part, behind);
-    print_case(text, n, out, room);
+    print_third(
+        line,
+        len,
+        lines::sum(lines::sum(second, b), 1),
+        field,
+        part,
+        text,
+        run,
+        out,
+        room,
+    );
 }
 
 // Every line in turn. The turns are for the loop to be seen to end: no input uses them up.

@@ -266,8 +266,7 @@ module _ (t o₀ k₀ : List ℕ) (val : Reads) (base at start brace : ℕ) wher
         let es = _and_ (s .done) (before (g .turned .entered) ended) in
         let is : whole ≡ got (record { entries = _and_ es ended; next = m; used = u + 1 }) =
         w ∙ turn-e (λ f h r. sym (rest-on o′ u (closes i m) (g .turned) f r) ∙ ap (afterEntries es) (subst (λ (x : ℕ). closeAt t x i m u ≡ got (record { entries = ended; next = m; used = u + 1 })) (long-on o′ u (closes i m) (g .turned)) (e t))) in
-        let laid-is : payload (tree.compound (_and_ es ended)) ≡ laid es ++ (0 ∷ []) = compound-bytes (_and_ es ended) ∙ laid-ended es in
-        (
+        let laid-is : payload (tree.compound (_and_ es ended)) ≡ laid es ++ (0 ∷ []) = compound-bytes (_and_ es ended) ∙ laid-ended es in (
           record {
             value = record { tag = tree.compound (_and_ es ended); next = m; used = u + 1 };
             same = ap blockValue is;

@@ -248,9 +248,9 @@ module _ (t : List ℕ) (room f : ℕ) (val : Reads) (brace : ℕ) (earlier : Li
       by-sign x false = entered (entryAt t room val brace earlier x u)
 
       go : (o : Out Next) → (o >>= (λ x. elim (eqb (signOf (x .td .token)) 125) [
-            | true ↦ (guard (eqb last 0) trailingComma last >> closeAt t room (x .td .index) (x .next) u)
-            | false ↦ (entryAt t room val brace earlier x u >>= (λ e. following t room 125 (e .1 .next) unmatchedBrace brace >>= (λ s. behind t room (λ i n. entriesBy t room f val brace (e .0 ∷ earlier) i n (e .1 .used)) (e .1 .used) s >>= (λ r. got (record { entries = tree.entry (e .0) (e .1 .tag) (r .entries); next = r .next; used = r .used })))))
-          ]))
+        | true ↦ (guard (eqb last 0) trailingComma last >> closeAt t room (x .td .index) (x .next) u)
+        | false ↦ (entryAt t room val brace earlier x u >>= (λ e. following t room 125 (e .1 .next) unmatchedBrace brace >>= (λ s. behind t room (λ i n. entriesBy t room f val brace (e .0 ∷ earlier) i n (e .1 .used)) (e .1 .used) s >>= (λ r. got (record { entries = tree.entry (e .0) (e .1 .tag) (r .entries); next = r .next; used = r .used })))))
+      ]))
           ≡ ((o >>= (λ x. turnBy t room (eqb (signOf (x .td .token)) 125) val brace earlier last x u)) >>= afterTurn t room f val brace earlier u)
       go (got x) = by-sign x (eqb (signOf (x .td .token)) 125)
       go (no a b) = refl

@@ -59,6 +59,8 @@ module _ (t : List ℕ) (brace p : ℕ) (d : TokenData) (m : ℕ) (e : tokenAt d
       → ((room : ℕ) → (colonAt t room brace p >>= (λ q. due t room value q textEnds (length t))) ≡ got (record { td = d′; next = n })) × Met t d′ n × (p < d′ .index)
   colon-value s d′ n g =
       let y = token-moves default t p d m e h in
-      let z = token-moves value t m d′ n g (y .2) in
-      ((λ room. colon-is t room brace p (record { td = d; next = m }) (due-found t room default p unmatchedBrace brace d m e) s ∙ due-found t room value m textEnds (length t) d′ n g),
-      met-at value t m d′ n g (y .2), omega (arith, y .0, y .1, z .0))
+      let z = token-moves value t m d′ n g (y .2) in (
+        (λ room. colon-is t room brace p (record { td = d; next = m }) (due-found t room default p unmatchedBrace brace d m e) s ∙ due-found t room value m textEnds (length t) d′ n g),
+        met-at value t m d′ n g (y .2),
+        omega (arith, y .0, y .1, z .0),
+      )

@@ -69,9 +69,10 @@ module _ (t o k : List ℕ) (top at left want : ℕ) (x : TokenData) (n : ℕ) w
   value-by-scalar (No a b) o′ met h g s e = by-sign ∙ value-scalar t (length o) left (inner t (length o) left) want x n at g s ∙ e
   value-by-scalar (To m u kind) o′ met h g s d =
       let z = scalar-went met (length o) want at (d .value) (d .same) in
-      let w = met-within met in
-      (did-as (by-sign ∙ value-scalar t (length o) left (inner t (length o) left) want x n at g s) d,
-      record { around = refl; on = omega (arith, d .next-is, z .0); within = omega (arith, d .next-is, z .0, w .1); small = omega (arith, d .next-is, z .0, d .size-is, z .1, w .0) })
+      let w = met-within met in (
+        did-as (by-sign ∙ value-scalar t (length o) left (inner t (length o) left) want x n at g s) d,
+        record { around = refl; on = omega (arith, d .next-is, z .0); within = omega (arith, d .next-is, z .0, w .1); small = omega (arith, d .next-is, z .0, d .size-is, z .1, w .0) },
+      )
 
 -- ---- behind a `[`
 

@@ -20,7 +20,6 @@ use Rattle.snbt.specs.Turns.{Met, Ran, Entered, stops, enters, entryTurn
 use Rattle.keys.specs.Keys.{Kept, FreeAt, namesIn}
 use Rattle.scalars.specs.Done.{Did}
 use Rattle.scalars.specs.Turns.{Wide}
-
 use Rattle.snbt.specs.declared.Due.{Due}
 use Rattle.snbt.specs.declared.After.{After}
 use Rattle.snbt.specs.declared.Item.{Item}

@@ -132,4 +132,3 @@ pub record Rooted (res : Out Block) (o : List ℕ) (next used : ℕ) (o′ : Lis
   pub next-is : next ≡ block .next
   pub used-is : used ≡ block .used
   pub wrote : o′ ≡ over o 0 (layout (documentOf block))
-

@@ -3,7 +3,10 @@
 use keys::Spot;
 use quotes::Text;
 use scalars::Done;
-use tokens::{Lexed, Stops, Token, TokenData};
+use tokens::Lexed;
+use tokens::Stops;
+use tokens::Token;
+use tokens::TokenData;
 ghost use mathlib.Core.Path.{_≡_};
 ghost use mathlib.Core.List.{[], _∷_, _++_};
 ghost use Prim.Native.Nat.{ℕ, suc, _+_, _-_, _*_, _≤_, _<_};
@@ -11,7 +14,7 @@ ghost use lib.ListN.{length, take, replicate};
 ghost use Rattle.form.specs.Numbers.{bytesOf};
 ghost use Rattle.form.specs.Spans.{over};
 ghost use Rattle.form.specs.Layout.{stringBytes};
-ghost use Rattle.text_form.specs.Text.{compoundAt, squareAt, elementsBy, valueAt, parsed, ParseIs};
+ghost use Rattle.text_form.specs.Text.{compoundAt, entriesBy, squareAt, elementsBy, valueAt, parsed, ParseIs};
 ghost use Rattle.tokens.specs.Answers.{dataIs, stopsIs};
 ghost use Rattle.form.specs.Answer.{got};
 ghost use Rattle.form.specs.Tree.{list, nil};
@@ -117,7 +120,13 @@ fn due_at(text: &[u8], place: usize, set: Stops, number: u8, brace: usize) -> Du
             number,
             place: brace,
         },
-        Lexed::Refused { number: n, place: p } => Due::No { number: n, place: p },
+        Lexed::Refused {
+            number: n,
+            place: p,
+        } => Due::No {
+            number: n,
+            place: p,
+        },
     }
 }
 
@@ -143,7 +152,13 @@ fn following(text: &[u8], place: usize, closing: u8, number: u8, brace: usize) -
                 place: here,
             }
         }
-        Due::No { number: n, place: p } => After::No { number: n, place: p },
+        Due::No {
+            number: n,
+            place: p,
+        } => After::No {
+            number: n,
+            place: p,
+        },
     }
 }
 
@@ -358,7 +373,13 @@ fn named(
                 place: here,
             },
             Spot::Free { index: i } => match behind_key(text, next, brace) {
-                Due::No { number: n, place: p } => Key::No { number: n, place: p },
+                Due::No {
+                    number: n,
+                    place: p,
+                } => Key::No {
+                    number: n,
+                    place: p,
+                },
                 Due::Is { td: d, next: m } => Key::Is {
                     size: length,
                     index: i,
@@ -565,10 +586,18 @@ fn square(
         Opened::First { td, next: n } => {
             match value(text, td, n, 0, out, at + 5, keys, top, buffer, left - 1) {
                 Done::No { number, place } => Done::No { number, place },
-                Done::To { next: m, used, kind } => {
+                Done::To {
+                    next: m,
+                    used,
+                    kind,
+                } => {
                     match elements(text, m, kind, out, used, keys, top, buffer, left - 1) {
                         Run::No { number, place } => Done::No { number, place },
-                        Run::To { next: e, used: u, count } => {
+                        Run::To {
+                            next: e,
+                            used: u,
+                            count,
+                        } => {
                             put_head(out, at, kind, count + 1);
                             Done::To {
                                 next: e,
@@ -614,7 +643,11 @@ fn elements(
                     Done::No { number, place: p } => {
                         return Run::No { number, place: p };
                     }
-                    Done::To { next: n, used: u, kind: _ } => {
+                    Done::To {
+                        next: n,
+                        used: u,
+                        kind: _,
+                    } => {
                         place = n;
                         used = u;
                         count += 1;
@@ -652,19 +685,57 @@ fn compound(
             place: brace,
         };
     }
+    entries(text, brace, next, out, at, keys, top, buffer, left - 1)
+}
+
+// The entries of a compound from `next` on, with its end byte. Its keys are those from `top` on.
+fn entries(
+    text: &[u8],
+    brace: usize,
+    next: usize,
+    out: &mut [u8],
+    at: usize,
+    keys: &mut [u32],
+    top: usize,
+    buffer: &mut [u8],
+    left: usize,
+) -> Done
+    requires { ⌜ (Ready (now text) (now keys) (now buffer)) × (next ≤ length (now text)) × (at ≤ length (now out)) × (at ≤ 16 * next) × (3 * top ≤ next) ⌝ }
+    ensures { λ r. ⌜ ValueIs (blockValue (entriesBy (now (text .entry)) (length (now (out .entry))) (suc (length (now (text .entry)))) (valueAt (now (text .entry)) (length (now (out .entry))) left) brace [] 0 next at)) (now (text .entry)) (now (out .entry)) (now (keys .entry)) top at next r (now (out .exit)) (now (keys .exit)) ⌝ }
+{
     let mut place = next;
     let mut used = at;
     let mut high = top;
     let mut comma: usize = 0;
     loop {
-        match entry(text, place, comma, brace, out, used, keys, top, high, buffer, left - 1) {
+        match entry(
+            text,
+            place,
+            comma,
+            brace,
+            out,
+            used,
+            keys,
+            top,
+            high,
+            buffer,
+            left,
+        ) {
             Turn::No { number, place: p } => {
                 return Done::No { number, place: p };
             }
-            Turn::Last { place: p, next: n, used: u } => {
+            Turn::Last {
+                place: p,
+                next: n,
+                used: u,
+            } => {
                 return close(out, p, n, u);
             }
-            Turn::More { comma: c, next: n, used: u } => {
+            Turn::More {
+                comma: c,
+                next: n,
+                used: u,
+            } => {
                 place = n;
                 used = u;
                 high += 1;
@@ -699,13 +770,31 @@ fn entry(
             next,
             used: at,
         },
-        Key::Is { size, index, td, next } => {
+        Key::Is {
+            size,
+            index,
+            td,
+            next,
+        } => {
             put_name(out, at + 1, buffer, size);
-            match value(text, td, next, 0, out, at + 3 + size, keys, top, buffer, left) {
+            match value(
+                text,
+                td,
+                next,
+                0,
+                out,
+                at + 3 + size,
+                keys,
+                top,
+                buffer,
+                left,
+            ) {
                 Done::No { number, place: p } => Turn::No { number, place: p },
-                Done::To { next: n, used, kind } => {
-                    settle(text, n, used, kind, brace, out, at, keys, top, index)
-                }
+                Done::To {
+                    next: n,
+                    used,
+                    kind,
+                } => { settle(text, n, used, kind, brace, out, at, keys, top, index) }
             }
         }
     }
@@ -742,7 +831,11 @@ fn root(text: &[u8], out: &mut [u8], keys: &mut [u32], buffer: &mut [u8]) -> Don
             }
             match compound(text, here, next, out, 3, keys, 0, buffer, form::DEPTH) {
                 Done::No { number, place } => Done::No { number, place },
-                Done::To { next: n, used, kind } => {
+                Done::To {
+                    next: n,
+                    used,
+                    kind,
+                } => {
                     put_root(out);
                     Done::To {
                         next: n,
@@ -821,7 +914,11 @@ pub fn parse(text: &[u8], out: &mut [u8]) -> Parsed
             clear(out);
             Parsed::Refused { number, place }
         }
-        Done::To { next, used, kind: _ } => Parsed::Document {
+        Done::To {
+            next,
+            used,
+            kind: _,
+        } => Parsed::Document {
             consumed: next,
             length: used,
         },

@@ -1,3 +1,12 @@
+-- The arrays are long enough.
+use Prim.Native.Nat.{ℕ, suc, _+_, _-_, _*_, _≤_, _<_}
+use mathlib.Core.Path.{_≡_, refl, sym, ap, subst, _∙_}
+use mathlib.Core.Bool.{true, false}
+use mathlib.Core.List.{[], _∷_, _++_}
+use native.Mathlib.Omega.{arith}
+use borrow.Author.Tests.{lt-ltb, le-ltb, le-leb, lt-leb, eq-eqb, ne-eqb}
+use lib.ListN.{length, length-set, take, drop, set, getD, replicate}
+use mathlib.Core.Logic.{inl, inr}
 use borrow.Author.Needs.{needs}
 use Rattle.snbt.proofs.middle.Statement.{statement}
 use Rattle.snbt.proofs.middle.Tie as tie
@@ -15,7 +24,7 @@ slice-aggregate-root-2 c = search needs
 
 -- src/lib.rt:775:5
 root-requires : tie.Need-root-requires
-root-requires c κs = ?
+root-requires c κs = record { text-le = omega arith; keys-ge = omega arith; buffer-ge = inl (omega arith) }
 
 -- src/lib.rt:769:1
 same-length : tie.Need-same-length

@@ -1,3 +1,12 @@
+-- A refusal clears the output.
+use Prim.Native.Nat.{ℕ, suc, _+_, _-_, _*_, _≤_, _<_}
+use mathlib.Core.Path.{_≡_, refl, sym, ap, subst, _∙_}
+use mathlib.Core.Bool.{true, false}
+use mathlib.Core.List.{[], _∷_, _++_}
+use native.Mathlib.Omega.{arith}
+use borrow.Author.Tests.{lt-ltb, le-ltb, le-leb, lt-leb, eq-eqb, ne-eqb}
+use lib.ListN.{length, length-set, take, drop, set, getD, replicate}
+use Rattle.snbt.proofs.Tops.{parse-refused, parse-read}
 use borrow.Author.Needs.{needs}
 use Rattle.snbt.proofs.parse.Statement.{statement}
 use Rattle.snbt.proofs.parse.Tie as tie
@@ -28,7 +37,7 @@ same-length c = search needs
 
 -- src/lib.rt:816:1
 returns : tie.Need-returns
-returns c = ?
+returns c = parse-refused (c .before .before .before .before .before .before .before .before .before .before .before .before .before .args .text .now) (c .before .before .before .before .before .before .before .before .before .before .before .before .before .args .out .now) _ _ _ (rw (c .before .before .before .before .before .number .given .1) at (c .before .before .before .before .before .before .before .before .before .judged .ensures)) (c .before .before .clear .ensures ∙ ap (λ n. replicate n 0) (c .before .before .before .before .before .before .before .before .before .judged .kept .1 .0))
 
 -- src/lib.rt:816:1
 same-length-2 : tie.Need-same-length-2
@@ -36,7 +45,7 @@ same-length-2 c = search needs
 
 -- src/lib.rt:816:1
 returns-2 : tie.Need-returns-2
-returns-2 c = ?
+returns-2 c = parse-read (c .before .before .before .before .before .before .before .before .before .args .text .now) (c .before .before .before .before .before .before .before .before .before .args .out .now) _ _ _ (rw (c .before .next .given .1) at (c .before .before .before .before .before .judged .ensures))
 
 pub parse-spec : {M : Type 1} → statement M
 parse-spec =

@@ -10,7 +10,9 @@ use lib.ListN.{length, take}
 use Rattle.scalars.specs.declared.Done.the-variants.{To, No}
 use Rattle.snbt.specs.declared.Turn.{Turn}
 use Rattle.tokens.specs.Answers.{dataIs}
-use Rattle.text_form.specs.Text.{valueAt, compoundAt}
+use Rattle.form.specs.Answer.{Out as Answer}
+use Rattle.text_form.specs.Text.{Block, valueAt, compoundAt, entriesBy}
+use Rattle.snbt.specs.Steps.{ValueIs}
 use Rattle.keys.proofs.Keys.{kept-whole}
 use Rattle.snbt.specs.Turns.{inner, blockValue}
 use Rattle.snbt.proofs.Reading.{compound-deep, compound-full}
@@ -24,8 +26,8 @@ use Rattle.snbt.proofs.key_at.Reads as key-at
 use Rattle.snbt.proofs.put_name.Reads as put-name
 use Rattle.snbt.proofs.value.Reads as value
 use Rattle.snbt.proofs.settle.Reads as settle
-use Rattle.snbt.proofs.+compound+elements+entry+square+value.Lts-entry as lts
-use Rattle.snbt.proofs.+compound+elements+entry+square+value.Proof.Common.{entry-at, value-below}
+use Rattle.snbt.proofs.+compound+elements+entries+entry+square+value.Lts-entry as lts
+use Rattle.snbt.proofs.+compound+elements+entries+entry+square+value.Proof.Common.{entry-at, value-below}
 
 abbrev On : ℕ → (lts.Claims → In 4 kinds.ps → Out 4 kinds.ps kinds.r → Type 0) → Type 0
 On t F = F (key-at.Asked, key-at.Learnt, put-name.Asked, put-name.Learnt, value-below t, value.Post, settle.Asked, settle.Learnt) (entry-at t) entry.Post
@@ -81,4 +83,3 @@ module _ (t : ℕ) where
 
   pub returns-4 : On t lts.Need-returns-4
   returns-4 c = let k = rw (c .before .before .before .before .before .before .before .before .before .before .before .before .before .before .before .before .before .before .before .before .before .before .before .before .before .before .size .given .1) at (c .before .before .before .before .before .before .before .before .before .before .before .before .before .before .before .before .before .before .before .before .before .before .before .before .before .before .before .before .before .before .key-at .ensures) in let p = c .before .before .before .before .before .before .before .before .before .before .before .before .before .before .before .before .before .before .before .before .before .before .before .before .before .before .before .before .before .before .before .before .before .before .before .before .before .before .pre .1 in let w = rw (c .before .before .before .before .before .before .before .before .n .given .1) at (c .before .before .before .before .before .before .before .before .before .before .before .before .before .before .before .before .value .ensures) in entry-settled (c .before .before .before .before .before .before .before .before .before .before .before .before .before .before .before .before .before .before .before .before .before .before .before .before .before .before .before .before .before .before .before .before .before .before .before .before .before .before .args .text .now) (c .before .before .before .before .before .before .before .before .before .before .before .before .before .before .before .before .before .before .before .before .before .before .before .before .before .before .before .before .before .before .before .before .before .before .before .before .before .before .args .out .now) (c .before .before .before .before .before .before .before .before .before .before .before .before .before .before .before .before .before .before .before .before .before .before .before .before .before .before .before .before .before .before .before .before .before .before .before .before .before .before .args .keys .now) (c .before .before .before .before .before .before .before .before .before .before .before .before .before .before .before .before .before .before .before .before .before .before .before .before .before .before .before .before .before .before .before .before .before .before .before .before .before .before .args .base) (c .before .before .before .before .before .before .before .before .before .before .before .before .before .before .before .before .before .before .before .before .before .before .before .before .before .before .before .before .before .before .before .before .before .before .before .before .before .before .args .top) (c .before .before .before .before .before .before .before .before .before .before .before .before .before .before .before .before .before .before .before .before .before .before .before .before .before .before .before .before .before .before .before .before .before .before .before .before .before .before .args .at) (c .before .before .before .before .before .before .before .before .before .before .before .before .before .before .before .before .before .before .before .before .before .before .before .before .before .before .before .before .before .before .before .before .before .before .before .before .before .before .args .brace) (c .before .before .before .before .before .before .before .before .before .before .before .before .before .before .before .before .before .before .before .before .before .before .before .before .before .before .before .before .before .before .before .before .before .before .before .before .before .before .args .comma) (c .before .before .before .before .before .before .before .before .before .before .before .before .before .before .before .before .before .before .before .before .before .before .before .before .before .before .before .before .before .before .before .before .before .before .before .before .before .before .args .place) (c .before .before .before .before .before .before .before .before .before .before .before .before .before .before .before .before .before .before .before .before .before .before .before .before .before .before .before .before .before .before .before .before .before .before .before .before .before .before .args .left) (c .before .before .before .before .before .before .before .before .before .before .before .before .before .before .before .before .before .before .before .before .before .before .before .before .before .before .before .before .before .before .key-at .last .1 .1 .1 .1 .1 .1 .1 .1 .0) _ _ _ _ (p .4) (omega (arith, p .3, k .fit .far, met-within (k .fit .met) .0, met-within (k .fit .met) .1, p .0 .keys-ge)) k (p .2) (c .before .before .before .before .before .before .before .before .before .before .before .before .before .before .before .before .before .before .before .before .before .before .put-name .last .0) (c .before .before .before .before .before .before .before .before .before .before .before .before .before .before .before .before .value .last .1 .1 .1 .1 .0) (c .before .before .before .before .settle .last .1 .1 .1 .1 .1 .0) (c .before .before .before .before .before .before .before .before .before .before .before .before .before .before .before .before .value .last .1 .1 .1 .1 .1 .1 .0) (c .before .before .before .before .settle .last .1 .1 .1 .1 .1 .1 .1 .0) _ _ _ (c .before .before .before .before .before .before .before .before .before .before .before .before .before .before .before .before .before .before .before .before .before .before .put-name .kept .0) (c .before .before .before .before .before .before .before .before .before .before .before .before .before .before .before .before .value .kept .1 .1 .1 .1 .1 .1 .0) (c .before .before .before .before .before .before .before .before .before .before .before .before .before .before .before .before .before .before .before .before .before .before .put-name .ensures) (w .0) (w .1) (c .before .before .before .before .settle .ensures .1 .0) (c .before .before .before .before .settle .ensures .1 .1) (c .before .before .before .before .settle .result) (c .before .before .before .before .settle .ensures .0)
-

@@ -10,7 +10,9 @@ use lib.ListN.{length, take}
 use Rattle.scalars.specs.declared.Done.the-variants.{To, No}
 use Rattle.snbt.specs.declared.Turn.{Turn}
 use Rattle.tokens.specs.Answers.{dataIs}
-use Rattle.text_form.specs.Text.{valueAt, compoundAt}
+use Rattle.form.specs.Answer.{Out as Answer}
+use Rattle.text_form.specs.Text.{Block, valueAt, compoundAt, entriesBy}
+use Rattle.snbt.specs.Steps.{ValueIs}
 use Rattle.keys.proofs.Keys.{kept-whole}
 use Rattle.snbt.specs.Turns.{inner, blockValue}
 use Rattle.snbt.proofs.Reading.{compound-deep, compound-full}
@@ -25,8 +27,8 @@ use Rattle.snbt.proofs.compound.Reads as compound
 use Rattle.snbt.proofs.alike.Reads as alike
 use Rattle.snbt.proofs.square.Reads as square
 use Rattle.scalars.proofs.scalar.Reads as scalar
-use Rattle.snbt.proofs.+compound+elements+entry+square+value.Lts-value as lts
-use Rattle.snbt.proofs.+compound+elements+entry+square+value.Proof.Common.{value-at, compound-below, square-below}
+use Rattle.snbt.proofs.+compound+elements+entries+entry+square+value.Lts-value as lts
+use Rattle.snbt.proofs.+compound+elements+entries+entry+square+value.Proof.Common.{value-at, compound-below, square-below}
 
 abbrev On : ℕ → (lts.Claims → In 4 kinds.ps → Out 4 kinds.ps kinds.r → Type 0) → Type 0
 On t F = F (sign.Asked, sign.Learnt, compound-below t, compound.Post, alike.Asked, alike.Learnt, square-below t, square.Post, scalar.Asked, scalar.Learnt) (value-at t) value.Post
@@ -49,4 +51,3 @@ module _ (t : ℕ) where
 
   pub returns-3 : On t lts.Need-returns-3
   returns-3 c = value-by-scalar (c .before .before .before .before .before .before .before .before .before .before .before .before .args .text .now) (c .before .before .before .before .before .before .before .before .before .before .before .before .args .out .now) (c .before .before .before .before .before .before .before .before .before .before .before .before .args .keys .now) (c .before .before .before .before .before .before .before .before .before .before .before .before .args .top) (c .before .before .before .before .before .before .before .before .before .before .before .before .args .at) (c .before .before .before .before .before .before .before .before .before .before .before .before .args .left) (c .before .before .before .before .before .before .before .before .before .before .before .before .args .want) (dataIs (c .before .before .before .before .before .before .before .before .before .before .before .before .args .td)) (c .before .before .before .before .before .before .before .before .before .before .before .before .args .next) (c .before .before .scalar .result) (c .before .before .scalar .last .1 .1 .1 .1 .0) (c .before .before .before .before .before .before .before .before .before .before .before .before .pre .1 .1) (c .before .before .before .before .before .before .before .before .before .before .before .before .pre .1 .2) (λ e. c .before .before .before .before .before .if1 .left (c .before .before .before .before .before .before .sign .ensures ∙ e)) (λ e. c .before .before .before .before .if2 .left (c .before .before .before .before .before .before .sign .ensures ∙ e)) (c .before .before .scalar .ensures)
-

@@ -1,19 +1,21 @@
--- The proof of the cycle of calls {compound, elements, entry, square, value}. Each member's answers stand in a file of `Proof/`.
+-- The proof of the cycle of calls {compound, elements, entries, entry, square, value}. Each member's answers stand in a file of `Proof/`.
 -- Assumes nothing.
 mod Common
 mod Compound
 mod Elements
+mod Entries
 mod Entry
 mod Square
 mod Value
 use borrow.Author.Needs.{needs}
 use Rattle.snbt.proofs.compound.Reads as compound
 use Rattle.snbt.proofs.elements.Reads as elements
+use Rattle.snbt.proofs.entries.Reads as entries
 use Rattle.snbt.proofs.entry.Reads as entry
 use Rattle.snbt.proofs.square.Reads as square
 use Rattle.snbt.proofs.value.Reads as value
-use Rattle.snbt.proofs.close.Reads as close
 use Rattle.snbt.proofs.item_at.Reads as item-at
+use Rattle.snbt.proofs.close.Reads as close
 use Rattle.snbt.proofs.key_at.Reads as key-at
 use Rattle.snbt.proofs.put_name.Reads as put-name
 use Rattle.snbt.proofs.settle.Reads as settle
@@ -24,39 +26,28 @@ use Rattle.snbt.proofs.put_head.Reads as put-head
 use Rattle.tokens.proofs.sign.Reads as sign
 use Rattle.snbt.proofs.alike.Reads as alike
 use Rattle.scalars.proofs.scalar.Reads as scalar
-use Rattle.snbt.proofs.+compound+elements+entry+square+value.Lts-compound as compound-lts
-use Rattle.snbt.proofs.+compound+elements+entry+square+value.Lts-elements as elements-lts
-use Rattle.snbt.proofs.+compound+elements+entry+square+value.Lts-entry as entry-lts
-use Rattle.snbt.proofs.+compound+elements+entry+square+value.Lts-square as square-lts
-use Rattle.snbt.proofs.+compound+elements+entry+square+value.Lts-value as value-lts
-use Rattle.snbt.proofs.+compound+elements+entry+square+value.{statement}
-use Rattle.snbt.proofs.+compound+elements+entry+square+value.Tie.{close}
-use Common.{μ-compound, μ-elements, μ-entry, μ-square, μ-value, compound-at, elements-at, entry-at, square-at, value-at, compound-below, elements-below, entry-below, square-below, value-below}
+use Rattle.snbt.proofs.+compound+elements+entries+entry+square+value.Lts-compound as compound-lts
+use Rattle.snbt.proofs.+compound+elements+entries+entry+square+value.Lts-elements as elements-lts
+use Rattle.snbt.proofs.+compound+elements+entries+entry+square+value.Lts-entries as entries-lts
+use Rattle.snbt.proofs.+compound+elements+entries+entry+square+value.Lts-entry as entry-lts
+use Rattle.snbt.proofs.+compound+elements+entries+entry+square+value.Lts-square as square-lts
+use Rattle.snbt.proofs.+compound+elements+entries+entry+square+value.Lts-value as value-lts
+use Rattle.snbt.proofs.+compound+elements+entries+entry+square+value.{statement}
+use Rattle.snbt.proofs.+compound+elements+entries+entry+square+value.Tie.{close}
+use Common.{μ-compound, μ-elements, μ-entries, μ-entry, μ-square, μ-value, compound-at, elements-at, entries-at, entry-at, square-at, value-at, compound-below, elements-below, entries-below, entry-below, square-below, value-below}
 
-pub +compound+elements+entry+square+value-spec : {M : Type 1} → statement M
-+compound+elements+entry+square+value-spec =
-    close μ-compound μ-elements μ-entry μ-square μ-value
-    (λ t. compound-lts.spec (entry-below t, entry.Post, close.Asked, close.Learnt) (compound-at t) compound.Post Compound.Inv-loop Compound.μ-loop
+pub +compound+elements+entries+entry+square+value-spec : {M : Type 1} → statement M
++compound+elements+entries+entry+square+value-spec =
+    close μ-compound μ-elements μ-entries μ-entry μ-square μ-value
+    (λ t. compound-lts.spec (entries-below t, entries.Post) (compound-at t) compound.Post
     (Compound.returns t)
     (Compound.returns-2 t)
-    (Compound.loop-holds t)
     (λ c. search needs)
-    (Compound.entry-requires t)
+    (Compound.entries-requires t)
     (λ c. search needs)
-    (Compound.same-length t)
-    (Compound.same-length-2 t)
-    (Compound.same-length-3 t)
-    (Compound.returns-3 t)
     (λ c. search needs)
-    (Compound.close-requires t)
-    (Compound.same-length-4 t)
-    (Compound.same-length-5 t)
-    (Compound.same-length-6 t)
-    (Compound.returns-4 t)
     (λ c. search needs)
-    (Compound.add-high t)
-    (Compound.loop-less t)
-    (Compound.loop-again t))
+    (Compound.returns-3 t))
     (λ t. elements-lts.spec (item-at.Asked, item-at.Learnt, value-below t, value.Post) (elements-at t) elements.Post Elements.Inv-loop Elements.μ-loop
     (Elements.loop-holds t)
     (Elements.item-at-requires t)
@@ -81,6 +72,24 @@ pub +compound+elements+entry+square+value-spec : {M : Type 1} → statement M
     (Elements.add-count t)
     (Elements.loop-less t)
     (Elements.loop-again t))
+    (λ t. entries-lts.spec (entry-below t, entry.Post, close.Asked, close.Learnt) (entries-at t) entries.Post Entries.Inv-loop Entries.μ-loop
+    (Entries.loop-holds t)
+    (Entries.entry-requires t)
+    (λ c. search needs)
+    (Entries.same-length t)
+    (Entries.same-length-2 t)
+    (Entries.same-length-3 t)
+    (Entries.returns t)
+    (λ c. search needs)
+    (Entries.close-requires t)
+    (Entries.same-length-4 t)
+    (Entries.same-length-5 t)
+    (Entries.same-length-6 t)
+    (Entries.returns-2 t)
+    (λ c. search needs)
+    (Entries.add-high t)
+    (Entries.loop-less t)
+    (Entries.loop-again t))
     (λ t. entry-lts.spec (key-at.Asked, key-at.Learnt, put-name.Asked, put-name.Learnt, value-below t, value.Post, settle.Asked, settle.Learnt) (entry-at t) entry.Post
     (Entry.key-at-requires t)
     (λ c. search needs)

@@ -1,5 +1,5 @@
 -- The measures of the cycle: the containers left fall from a container to what is in it, and between two of them the calls go from
--- `entry` and `elements` to `value`, and from `value` to `compound` and `square`. `m-at t` is what m is given at the measure t, and
+-- `entries` to `entry`, from `entry` and `elements` to `value`, and from `value` to `compound` and `square`. `m-at t` is what m is given at the measure t, and
 -- `m-below t` what a call of it asks below t.
 -- Assumes nothing.
 use Prim.Native.Nat.{ℕ, _<_, _+_, _*_}
@@ -9,6 +9,8 @@ use Rattle.snbt.proofs.compound.Reads as compound
 use Rattle.snbt.proofs.compound.Kinds as compound-kinds
 use Rattle.snbt.proofs.elements.Reads as elements
 use Rattle.snbt.proofs.elements.Kinds as elements-kinds
+use Rattle.snbt.proofs.entries.Reads as entries
+use Rattle.snbt.proofs.entries.Kinds as entries-kinds
 use Rattle.snbt.proofs.entry.Reads as entry
 use Rattle.snbt.proofs.entry.Kinds as entry-kinds
 use Rattle.snbt.proofs.square.Reads as square
@@ -34,8 +36,17 @@ elements-at t = and 4 elements-kinds.ps (is 4 elements-kinds.ps μ-elements t) e
 abbrev pub elements-below : ℕ → In 4 elements-kinds.ps
 elements-below t = and 4 elements-kinds.ps (falls 4 elements-kinds.ps _<_ μ-elements t) elements.Pre
 
+abbrev pub μ-entries : Measures 4 entries-kinds.ps ℕ
+μ-entries κs a = 5 * a .1 .1 .1 .1 .1 .1 .1 .1 .0 + 4
+
+abbrev pub entries-at : ℕ → In 4 entries-kinds.ps
+entries-at t = and 4 entries-kinds.ps (is 4 entries-kinds.ps μ-entries t) entries.Pre
+
+abbrev pub entries-below : ℕ → In 4 entries-kinds.ps
+entries-below t = and 4 entries-kinds.ps (falls 4 entries-kinds.ps _<_ μ-entries t) entries.Pre
+
 abbrev pub μ-entry : Measures 4 entry-kinds.ps ℕ
-μ-entry κs a = 5 * a .1 .1 .1 .1 .1 .1 .1 .1 .1 .1 .0 + 4
+μ-entry κs a = 5 * a .1 .1 .1 .1 .1 .1 .1 .1 .1 .1 .0 + 3
 
 abbrev pub entry-at : ℕ → In 4 entry-kinds.ps
 entry-at t = and 4 entry-kinds.ps (is 4 entry-kinds.ps μ-entry t) entry.Pre

@@ -10,7 +10,9 @@ use lib.ListN.{length, take}
 use Rattle.scalars.specs.declared.Done.the-variants.{To, No}
 use Rattle.snbt.specs.declared.Turn.{Turn}
 use Rattle.tokens.specs.Answers.{dataIs}
-use Rattle.text_form.specs.Text.{valueAt, compoundAt}
+use Rattle.form.specs.Answer.{Out as Answer}
+use Rattle.text_form.specs.Text.{Block, valueAt, compoundAt, entriesBy}
+use Rattle.snbt.specs.Steps.{ValueIs}
 use Rattle.keys.proofs.Keys.{kept-whole}
 use Rattle.snbt.specs.Turns.{inner, blockValue}
 use Rattle.snbt.proofs.Reading.{compound-deep, compound-full}
@@ -22,8 +24,8 @@ use Rattle.snbt.proofs.elements.Reads as elements
 use Rattle.snbt.proofs.elements.Kinds as kinds
 use Rattle.snbt.proofs.item_at.Reads as item-at
 use Rattle.snbt.proofs.value.Reads as value
-use Rattle.snbt.proofs.+compound+elements+entry+square+value.Lts-elements as lts
-use Rattle.snbt.proofs.+compound+elements+entry+square+value.Proof.Common.{elements-at, value-below}
+use Rattle.snbt.proofs.+compound+elements+entries+entry+square+value.Lts-elements as lts
+use Rattle.snbt.proofs.+compound+elements+entries+entry+square+value.Proof.Common.{elements-at, value-below}
 
 abbrev pub Inv-loop : lts.InvT-loop
 Inv-loop text start kind out₀ at keys₀ top buffer₀ left place₀ used₀ count₀ out keys buffer place used count = Listing text out₀ keys₀ (valueAt text (length out₀) left) top at start kind out keys place used count × (length keys ≡ length keys₀) × (length buffer ≡ length buffer₀)
@@ -91,4 +93,3 @@ module _ (t : ℕ) where
 
   pub loop-again : On t lts.Need-loop-again
   loop-again c = let g = rw (c .before .before .before .before .before .before .before .before .before .before .before .before .before .before .td .given .1) at (c .before .before .before .before .before .before .before .before .before .before .before .before .before .before .before .before .item-at .ensures) in let w = rw (c .before .n .given .1) at (c .before .before .before .before .before .before .before .before .before .value .ensures) in (listing-more (c .before .before .before .before .before .before .before .before .before .before .before .before .before .before .before .before .before .before .before .before .before .before .args .text .now) (c .before .before .before .before .before .before .before .before .before .before .before .before .before .before .before .before .before .before .before .before .before .before .args .out .now) (c .before .before .before .before .before .before .before .before .before .before .before .before .before .before .before .before .before .before .before .before .before .before .args .keys .now) (valueAt (c .before .before .before .before .before .before .before .before .before .before .before .before .before .before .before .before .before .before .before .before .before .before .args .text .now) (length (c .before .before .before .before .before .before .before .before .before .before .before .before .before .before .before .before .before .before .before .before .before .before .args .out .now)) (c .before .before .before .before .before .before .before .before .before .before .before .before .before .before .before .before .before .before .before .before .before .before .args .left)) (c .before .before .before .before .before .before .before .before .before .before .before .before .before .before .before .before .before .before .before .before .before .before .args .top) (c .before .before .before .before .before .before .before .before .before .before .before .before .before .before .before .before .before .before .before .before .before .before .args .at) (c .before .before .before .before .before .before .before .before .before .before .before .before .before .before .before .before .before .before .before .before .before .before .args .start) (c .before .before .before .before .before .before .before .before .before .before .before .before .before .before .before .before .before .before .before .before .before .before .args .kind) (c .before .before .before .before .before .before .before .before .before .before .before .before .before .before .before .before .before .loop .out) (c .before .before .before .before .before .before .before .before .before .before .before .before .before .before .before .before .before .loop .keys) (c .before .before .before .before .before .before .before .before .before .before .before .before .before .before .before .before .before .loop .place) (c .before .before .before .before .before .before .before .before .before .before .before .before .before .before .before .before .before .loop .used) (c .before .before .before .before .before .before .before .before .before .before .before .before .before .before .before .before .before .loop .count) (c .before .before .before .before .before .before .before .before .before .before .before .before .before .before .before .before .before .loop .inv .0) (dataIs (c .before .before .before .before .before .before .before .before .before .before .before .before .before .before .td .given .0 .0)) (c .before .before .before .before .before .before .before .before .before .before .before .before .before .before .td .given .0 .1 .0) (λ f. g .0 (length (c .before .before .before .before .before .before .before .before .before .before .before .before .before .before .before .before .before .before .before .before .before .before .args .out .now)) f (valueAt (c .before .before .before .before .before .before .before .before .before .before .before .before .before .before .before .before .before .before .before .before .before .before .args .text .now) (length (c .before .before .before .before .before .before .before .before .before .before .before .before .before .before .before .before .before .before .before .before .before .before .args .out .now)) (c .before .before .before .before .before .before .before .before .before .before .before .before .before .before .before .before .before .before .before .before .before .before .args .left)) (c .before .before .before .before .before .before .before .before .before .before .before .before .before .before .before .before .before .before .before .before .before .before .args .kind) (c .before .before .before .before .before .before .before .before .before .before .before .before .before .before .before .before .before .loop .used)) (c .before .before .before .before .before .before .before .before .before .value .last .1 .1 .1 .1 .0) (c .before .before .before .before .before .before .before .before .before .value .last .1 .1 .1 .1 .1 .1 .0) _ _ _ (omega (arith, g .2, met-within (g .1) .0)) (did-as (ap (λ x. valueAt (c .before .before .before .before .before .before .before .before .before .before .before .before .before .before .before .before .before .before .before .before .before .before .args .text .now) x (c .before .before .before .before .before .before .before .before .before .before .before .before .before .before .before .before .before .before .before .before .before .before .args .left) (c .before .before .before .before .before .before .before .before .before .before .before .before .before .before .before .before .before .before .before .before .before .before .args .kind) (dataIs (c .before .before .before .before .before .before .before .before .before .before .before .before .before .before .td .given .0 .0)) (c .before .before .before .before .before .before .before .before .before .before .before .before .before .before .td .given .0 .1 .0) (c .before .before .before .before .before .before .before .before .before .before .before .before .before .before .before .before .before .loop .used)) (sym (listing-long (c .before .before .before .before .before .before .before .before .before .before .before .before .before .before .before .before .before .before .before .before .before .before .args .text .now) (c .before .before .before .before .before .before .before .before .before .before .before .before .before .before .before .before .before .before .before .before .before .before .args .out .now) (c .before .before .before .before .before .before .before .before .before .before .before .before .before .before .before .before .before .before .before .before .before .before .args .keys .now) (valueAt (c .before .before .before .before .before .before .before .before .before .before .before .before .before .before .before .before .before .before .before .before .before .before .args .text .now) (length (c .before .before .before .before .before .before .before .before .before .before .before .before .before .before .before .before .before .before .before .before .before .before .args .out .now)) (c .before .before .before .before .before .before .before .before .before .before .before .before .before .before .before .before .before .before .before .before .before .before .args .left)) (c .before .before .before .before .before .before .before .before .before .before .before .before .before .before .before .before .before .before .before .before .before .before .args .top) (c .before .before .before .before .before .before .before .before .before .before .before .before .before .before .before .before .before .before .before .before .before .before .args .at) (c .before .before .before .before .before .before .before .before .before .before .before .before .before .before .before .before .before .before .before .before .before .before .args .start) (c .before .before .before .before .before .before .before .before .before .before .before .before .before .before .before .before .before .before .before .before .before .before .args .kind) (c .before .before .before .before .before .before .before .before .before .before .before .before .before .before .before .before .before .loop .out) (c .before .before .before .before .before .before .before .before .before .before .before .before .before .before .before .before .before .loop .keys) (c .before .before .before .before .before .before .before .before .before .before .before .before .before .before .before .before .before .loop .place) (c .before .before .before .before .before .before .before .before .before .before .before .before .before .before .before .before .before .loop .used) (c .before .before .before .before .before .before .before .before .before .before .before .before .before .before .before .before .before .loop .count) (c .before .before .before .before .before .before .before .before .before .before .before .before .before .before .before .before .before .loop .inv .0)))) (w .0)) (w .1), (c .before .before .before .before .before .before .before .before .before .value .kept .1 .1 .1 .1 .1 .1 .0) ∙ c .before .before .before .before .before .before .before .before .before .before .before .before .before .before .before .before .before .loop .inv .1, (c .before .before .before .before .before .before .before .before .before .value .kept .1 .1 .1 .1 .1 .1 .1 .1 .0) ∙ c .before .before .before .before .before .before .before .before .before .before .before .before .before .before .before .before .before .loop .inv .2)
-
