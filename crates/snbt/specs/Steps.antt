@@ -109,6 +109,7 @@ pub record Fit (t : List ℕ) (p : ℕ) (o k : List ℕ) (base top : ℕ) (buffe
   pub small : 3 + n + 16 * p ≤ 16 * (d .index)
   pub far : p + 2 ≤ d .index
 
+-- The same as a turn of a compound.
 pub record Keyed (t : List ℕ) (brace last p : ℕ) (o k : List ℕ) (base top : ℕ) (buffer : List ℕ) (n i : ℕ) (d : TokenData) (m : ℕ) : Type 0 where
   pub name : List ℕ
   pub is : (room : ℕ) (val : Reads) (u : ℕ) → entryTurn t room val brace (namesIn o k base (top - base)) last p u
@@ -122,12 +123,14 @@ pub record NameIs (t : List ℕ) (x : TokenData) (next brace : ℕ) (o k : List 
       ≡ (val 0 d m (u + (3 + length name)) >>= (λ v. got (name, v)))
   pub fit : Fit t (x .index) o k base top buffer name n i d m
 
+-- The answer by a key's token: such a key, or a refusal.
 abbrev pub NamedIs : List ℕ → TokenData → ℕ → ℕ → List ℕ → List ℕ → ℕ → ℕ → List ℕ → Key → Type 0
 NamedIs t x next brace o k base top buffer (Key.End i m) = ⊥
 NamedIs t x next brace o k base top buffer (Key.Is n i d m) = NameIs t x next brace o k base top buffer n i (dataIs d) m
 NamedIs t x next brace o k base top buffer (Key.No a b) =
     (room : ℕ) (val : Reads) (u : ℕ) → entryAt t room val brace (namesIn o k base (top - base)) (record { td = x; next = next }) u ≡ no a b
 
+-- The answer where a key is due: the `}`, a key, or a refusal.
 abbrev pub KeyedIs : List ℕ → ℕ → ℕ → ℕ → List ℕ → List ℕ → ℕ → ℕ → List ℕ → Key → Type 0
 KeyedIs t brace last p o k base top buffer (Key.End i m) =
     ((room : ℕ) (val : Reads) (u : ℕ) → entryTurn t room val brace (namesIn o k base (top - base)) last p u ≡ got (stops i m)) × (p < m) × (m ≤ length t)
@@ -165,6 +168,7 @@ pub record Closed (res : Out Entered) (t o k : List ℕ) (base at p : ℕ) (plac
   pub within : m ≤ length t
   pub small : used + 1 ≤ 16 * m
 
+-- The answer of a turn of a compound, with the output and the keys behind it.
 abbrev pub TurnIs : Out Entered → List ℕ → List ℕ → List ℕ → ℕ → ℕ → ℕ → ℕ → Turn → List ℕ → List ℕ → Type 0
 TurnIs res t o k base top at p (Turn.More c m u) o′ k′ = Grown res t o k base top at p c m u o′ k′
 TurnIs res t o k base top at p (Turn.Last i m u) o′ k′ = Closed res t o k base at p i m u o′ k′
@@ -176,14 +180,17 @@ abbrev pub ValueIs : Out Value → List ℕ → List ℕ → List ℕ → ℕ �
 ValueIs res t o k top at p (To n u kind) o′ k′ = Did res o at n u kind o′ × Went t k top p n u k′
 ValueIs res t o k top at p (No a b) o′ k′ = res ≡ no a b
 
+-- The same of the elements of a list behind its first; there are no more of them than bytes of the text.
 abbrev pub RunIs : Out Row → List ℕ → List ℕ → List ℕ → ℕ → ℕ → ℕ → Run → List ℕ → List ℕ → Type 0
 RunIs res t o k top at p (Run.To n u c) o′ k′ = Ran res o at n u c o′ × Went t k top p n u k′ × (c ≤ n)
 RunIs res t o k top at p (Run.No a b) o′ k′ = res ≡ no a b
 
+-- An answer where a test holds, else refusal 11.
 abbrev pub unless : Bool → Done → ℕ → Done
 unless true r p = r
 unless false r p = No mixedList p
 
+-- The code's answer held to its list's kind.
 abbrev pub heldDone : ℕ → ℕ → Done → Done
 heldDone want p (To n u k) = unless (eqb want 0 || eqb k want) (To n u k) p
 heldDone want p (No a b) = No a b

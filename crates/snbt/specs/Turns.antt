@@ -68,15 +68,17 @@ module _ (t : List ℕ) (room : ℕ) where
   inner zero = λ want x n u. no tooDeep (x .index)
   inner (suc d) = valueAt t room d
 
--- What is written of it, what follows it, and the bytes used behind it.
+-- What is written of it.
 abbrev pub enteredBytes : Entered → List ℕ
 enteredBytes (stops i n) = []
 enteredBytes (enters s v th) = kindOf (v .tag) ∷ stringBytes s ++ payload (v .tag)
 
+-- What follows it.
 abbrev pub thenOf : Entered → Then
 thenOf (stops i n) = closes i n
 thenOf (enters s v th) = th
 
+-- The bytes used behind it.
 abbrev pub usedOf : Entered → ℕ → ℕ
 usedOf (stops i n) u = u
 usedOf (enters s v th) u = v .used

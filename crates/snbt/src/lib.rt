@@ -721,16 +721,12 @@ fn entries(
             buffer,
             left,
         ) {
-            Turn::No { number, place: p } => {
-                return Done::No { number, place: p };
-            }
+            Turn::No { number, place: p } => return Done::No { number, place: p },
             Turn::Last {
                 place: p,
                 next: n,
                 used: u,
-            } => {
-                return close(out, p, n, u);
-            }
+            } => return close(out, p, n, u),
             Turn::More {
                 comma: c,
                 next: n,
