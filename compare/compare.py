@@ -85,7 +85,7 @@ ROOM, HUGE = 4096, 1 << 24
 def document_entry(doc, ours, theirs):
     """The entry of docs/DIFFERENCES.md that explains a difference, or None."""
     listing.ROOM = ROOM
-    if read_by(listing.Reader(doc)) != ours:
+    if (read_by(listing.Reader(doc)) if len(doc) <= 1 << 24 else "refused 9 0") != ours:
         return None
     listing.ROOM = 1 << 60
     reader = CrateReader(doc)
@@ -97,7 +97,17 @@ def document_entry(doc, ours, theirs):
     return {"5": "negative count", "6": "repeated name", "7": "depth", "8": "records", "9": "size"}.get(ours.split(" ")[1])
 
 
+def large_documents():
+    """Beyond each limit, and as far as it goes."""
+    for deep in (511, 512):
+        yield bytes.fromhex("0A0000090000") + b"\x09\0\0\0\1" * (deep - 1) + bytes(5) + b"\0"
+    for n in (ROOM - 2, ROOM - 1):
+        yield bytes.fromhex("0A0000090000") + b"\1" + n.to_bytes(4, "big") + bytes(n) + b"\0"
+    yield b"\x0A\0\0\0" + bytes((1 << 24) - 3)
+
+
 def documents(r, quick):
+    yield from large_documents()
     alphabet = bytes.fromhex("000102030708090A0B0C0DFF61")
     for n in range(4 if quick else 6):
         for body in itertools.product(alphabet, repeat=n):
@@ -154,7 +164,7 @@ def token_entry(case, ours, theirs):
         if f"refused {e.args[0]} {e.args[1]}" != ours:
             return None
     if ours == "refused 15 0":
-        return "text not UTF-8, start" if theirs in ("bad utf8", "bad start") else None
+        return "size, text not UTF-8, start" if theirs in ("bad utf8", "bad start") else None
     if ours.startswith("refused 23 "):
         return "decimals" if theirs.startswith(("double", "float")) else None
     return "escape before a long character" if ours.startswith("refused 17 ") and theirs.startswith("panic") else None
@@ -196,7 +206,9 @@ def text_entry(text, ours, theirs):
     if answer(snbt.parse, text, 1 << 18) != ours:
         return None
     if ours == "refused 15 0":
-        return "text not UTF-8, start" if theirs == "bad utf8" else None
+        return "size, text not UTF-8, start" if theirs == "bad utf8" else None
+    if ours == "refused 9 0":
+        return "size, text not UTF-8, start" if len(text) > 1 << 20 and theirs.startswith("ok") else None
     way = answer(crate.parse, text)
     if theirs.startswith("panic") and way.startswith("refused 17 "):
         return "escape before a long character"
@@ -211,8 +223,21 @@ def text_entry(text, ours, theirs):
     return {"6": "repeated key", "7": "depth", "11": "array elements", "12": "long string", "18": "stop sets", "23": "decimals", "21": "commas in a compound"}.get(number, "refused earlier")
 
 
+def large_texts():
+    """Beyond each limit, and as far as it goes."""
+    for deep in (511, 512):
+        yield ("{a:" + "[" * deep + "]" * deep + "}").encode()
+    for n in (65535, 65536):
+        yield ("{a:'" + "x" * n + "'}").encode()
+        yield ("{" + "x" * n + ":1}").encode()
+    for n in ((1 << 20) - 2, (1 << 20) - 1):
+        yield b"{}" + b" " * n
+    yield b"{a:'\xFF'}"
+
+
 def texts(r, quick):
     import texts as made
+    yield from large_texts()
     pieces = ["{", "}", "[", "]", ",", ":", ";", "a", "1", "1b", "B", "'x'", "I;", "\\"]
     for front in ("{", "{a:[", "{a:1,", "{a:"):
         for n in range(4 if quick else 6):
@@ -262,6 +287,27 @@ def jobs(options):
             yield part, group, options
 
 
+# The recorded answers of each function, for the table of refusals.
+REPLAYED = {"read": "listing", "write": "replay_tables", "query": "replay_queries", "token": "replay_tokens", "parse": "replay_texts"}
+COMPARED = {"documents": "read", "tokens": "token", "texts": "parse"}
+
+
+def replayed(name):
+    with open(os.path.join(ROOT, "crates", REPLAYED[name], "stdout")) as lines:
+        words = (line.split(" ") for line in lines)
+        return collections.Counter(int(w[w.index("refused") + 1]) for w in words if "refused" in w)
+
+
+def print_refusals(refusals):
+    """How often each function gave each refusal: compared with the crate, and replayed from recorded answers."""
+    print("\nrefusals, compared + replayed:")
+    for name in REPLAYED:
+        part = next((p for p, f in COMPARED.items() if f == name), None)
+        compared, recorded = refusals.get(part, {}), replayed(name)
+        numbers = sorted(n for n in {*compared, *recorded} if n != "accepted")
+        print(f"  {name}: " + ", ".join(f"{n}: {compared.get(n, 0)} + {recorded.get(n, 0)}" for n in numbers))
+
+
 def main():
     ask = argparse.ArgumentParser()
     ask.add_argument("--quick", action="store_true")
@@ -283,6 +329,7 @@ def main():
         print("  answers: " + ", ".join(f"{k} {v}" for k, v in sorted(refusals[part].items(), key=str)))
         for entry, n in sorted(entries[part].items()):
             print(f"  {entry}: {n}")
+    print_refusals(refusals)
     for w in wrong[:20]:
         print("NOT LISTED", *w)
     print(f"\n{'no difference that is not listed' if not wrong else f'differences that are not listed: {len(wrong)}+'}")

@@ -17,23 +17,25 @@
  *    4  not modified UTF-8      the string's first content byte (tikfazrul_check_mutf8: the first sequence that can't be read;
  *                               tikfazrul_write: the record)
  *    5  a count below 0         its first byte
- *    6  a name twice            the id byte of the later entry (tikfazrul_write: the later record)
- *    7  over 512 deep           the first payload byte (tikfazrul_write, tikfazrul_query: the record)
+ *    6  a name twice            the id byte of the later entry (tikfazrul_write: the later record; tikfazrul_parse: the later key)
+ *    7  over 512 deep           the first payload byte (tikfazrul_write, tikfazrul_query: the record; tikfazrul_parse: the opening brace)
  *    8  the table is full       the first payload byte
  *    9  over a limit            0: a document over 16,777,216 bytes, a table to check, to write or to ask over 8,388,608 words, or a text over
  *                               1,048,576 bytes
  *   10  no table                0: the words form no table (tikfazrul_write, tikfazrul_query)
- *   11  a mixed list            the record of another kind than its list's first
- *   12  over 65,535 bytes       the record whose name or string it is
- *   13  the output is full      0
+ *   11  a mixed list            the record of another kind than its list's first (tikfazrul_parse: the element's token)
+ *   12  over 65,535 bytes       the record whose name or string it is (tikfazrul_parse: the token)
+ *   13  the output is full      0 (tikfazrul_parse: the token whose bytes do not fit)
  *   14  a malformed query       the first byte of the step, as an offset in the query
  *   15  not UTF-8               tikfazrul_check_utf8: the first sequence that can't be read; elsewhere 0, also for a start off a character
  *                               or past the text
  *   16  a quote left open       the token
  *   17  no such escape          its backslash; surrogates are none
  *   18  no number               the token
- *   19  unexpected              the character in an escape that is no hexadecimal digit
- *   20  the text ends           the text's length: within an escape's digits
+ *   19  unexpected              the token; in an escape the character that is no hexadecimal digit
+ *   20  the text ends           the text's length
+ *   21  a trailing comma        the comma
+ *   22  an unmatched brace      the opening brace
  *   23  a decimal beyond reach  the token: more digits or a larger power of ten than one rounding can do
  *   24  more matches than room  0, with the true number of matches in [2]
  */
@@ -129,6 +131,11 @@ void tikfazrul_token(const uint8_t *text, size_t text_len, size_t start, uint32_
  * or in the wrong order; 17, 19, 20; 13): the output is as it was. A content has at most twice as many bytes as it takes in the text. */
 void tikfazrul_content(const uint8_t *text, size_t text_len, size_t start, size_t end, uint8_t quoted, uint8_t *out, size_t out_len,
                        uint64_t answer[8]);
+
+/* The document that a text (SNBT, UTF-8) means, with an empty root name. Accepted: [2] is the number of bytes of the text consumed, through the
+ * root's `}`, [3] the document's length, from out[0] on; no other byte changes. What stands behind the root is asked for 9 and 15 only.
+ * Refused (9, 15, then at the first token that breaks a rule): every byte of the output is 0. No more than 1.5 MB of stack is used. */
+void tikfazrul_parse(const uint8_t *text, size_t text_len, uint8_t *out, size_t out_len, uint64_t answer[8]);
 
 /* Whether bytes are modified UTF-8 (java.io.DataInput) of Unicode scalar values. Refused: 4, at the offset where the first sequence that
  * can't be read begins. */
