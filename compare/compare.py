@@ -1,5 +1,5 @@
 #!/usr/bin/env python3
-"""Compares the proved library with quartz_nbt: documents, tokens and texts. Run by compare/run; prints counts and seeds, and exits 1 on any
+"""Compares the proved library with quartz_nbt: documents, tokens and texts; and strings with the JDK. Run by compare/run; prints counts and seeds, and exits 1 on any
 difference that docs/DIFFERENCES.md does not list.
 
 Where the two agree nothing more is asked. Where they differ, the reading of document 01 in tests/replay must say what the library says, and
@@ -250,7 +250,21 @@ def texts(r, quick):
         yield made.damaged(r, s).encode()
 
 
+# ---- strings, by the JDK
+
+def strings(r, quick):
+    edges = bytes.fromhex("00017F808F909FA0AFB0BFC0C1C2DFE0EDEFF0F4F8FF")
+    for n in range(3 if quick else 5):
+        for body in itertools.product(edges, repeat=n):
+            yield bytes(body)
+    pieces = [b"a", b"\xC0\x80", b"\xC3\xA9", b"\xE2\x82\xAC", b"\xED\xA0\xBD", b"\xED\xB8\x80", b"\xED\xA0\xBD\xED\xB8\x80", b"\xF0\x9F\x98\x80", b"\0", b"\xC1", b"\x80"]
+    for _ in range(10000 if quick else 400000):
+        weights = [40] + [8] * 3 + [2, 2, 8] + [1] * 4
+        yield b"".join(r.choices(pieces, weights, k=r.randrange(1, 60)))
+
+
 PARTS = {
+    "strings": (strings, bytes.hex, lambda line: line, lambda lib, s: lib.string(s), lambda case, ours, theirs: None),
     "documents": (documents, document_line, crate_document, lambda lib, d: lib.rewrite(d), document_entry),
     "tokens": (tokens, token_line, crate_token, lambda lib, c: lib.token(c[2], c[1], c[0]), token_entry),
     "texts": (texts, text_line, crate_text, lambda lib, t: lib.parse(t), text_entry),
@@ -264,12 +278,13 @@ def chunk(job):
     sys.setrecursionlimit(20000)
     lib = Library(options.lib)
     asked = "\n".join(map(line_of, cases)) + "\n"
-    lines = subprocess.run([options.oracle], input=asked, capture_output=True, text=True, check=True).stdout.splitlines()
+    judge = ["java", "-cp", options.judge, "Mutf8"] if part == "strings" else [options.oracle]
+    lines = subprocess.run(judge, input=asked, capture_output=True, text=True, check=True).stdout.splitlines()
     assert len(lines) == len(cases)
     refusals, entries, wrong = collections.Counter(), collections.Counter(), []
     for case, line in zip(cases, lines):
         ours, theirs = ours_of(lib, case), theirs_of(line)
-        refusals["accepted" if ours[0] != "r" else int(ours.split(" ")[1])] += 1
+        refusals[int(ours.split(" ")[1]) if ours[0] == "r" else "refused" if ours == "bad" else "accepted"] += 1
         if ours == theirs or same_but_place(ours, theirs):
             continue
         entry = entry_of(case, ours, theirs)
@@ -314,6 +329,7 @@ def main():
     ask.add_argument("--seed", type=int, default=20261115)
     ask.add_argument("--lib", required=True)
     ask.add_argument("--oracle", required=True)
+    ask.add_argument("--judge", required=True)
     ask.add_argument("parts", nargs="*", default=list(PARTS))
     options = ask.parse_args()
     count, refusals, entries, wrong = collections.Counter(), collections.defaultdict(collections.Counter), collections.defaultdict(collections.Counter), []

@@ -13,14 +13,19 @@ class Library:
         self.room = room
         size, data, words = ctypes.c_size_t, ctypes.c_char_p, ctypes.c_void_p
         self.lib.tikfazrul_read.argtypes = [data, size, words, size, words]
+        self.lib.tikfazrul_check_mutf8.argtypes = [data, size, words]
         self.lib.tikfazrul_write.argtypes = [data, size, words, size, words, size, words]
-        if hasattr(self.lib, "tikfazrul_parse"):
-            self.lib.tikfazrul_token.argtypes = [data, size, size, ctypes.c_uint32, words]
-            self.lib.tikfazrul_content.argtypes = [data, size, size, size, ctypes.c_uint8, words, size, words]
-            self.lib.tikfazrul_parse.argtypes = [data, size, words, size, words]
+        self.lib.tikfazrul_token.argtypes = [data, size, size, ctypes.c_uint32, words]
+        self.lib.tikfazrul_content.argtypes = [data, size, size, size, ctypes.c_uint8, words, size, words]
+        self.lib.tikfazrul_parse.argtypes = [data, size, words, size, words]
 
     def refused(self):
         return f"refused {self.answer[0]} {self.answer[1]}"
+
+    def string(self, s):
+        """Whether a string's content is modified UTF-8."""
+        self.lib.tikfazrul_check_mutf8(s, len(s), self.answer)
+        return "bad" if self.answer[0] else "ok"
 
     def rewrite(self, doc):
         """Reads a document and writes it: the bytes consumed and what is written."""
