@@ -134,7 +134,8 @@ void tikfazrul_content(const uint8_t *text, size_t text_len, size_t start, size_
 
 /* The document that a text (SNBT, UTF-8) means, with an empty root name. Accepted: [2] is the number of bytes of the text consumed, through the
  * root's `}`, [3] the document's length, from out[0] on; no other byte changes. What stands behind the root is asked for 9 and 15 only.
- * Refused (9, 15, then at the first token that breaks a rule): every byte of the output is 0. No more than 1.5 MB of stack is used. */
+ * Refused (9, 15, then at the first token that breaks a rule): every byte of the output is 0. It wants 1.5 MB
+ * of stack, and 2.1 MB where a text is 512 deep: more than some threads have. */
 void tikfazrul_parse(const uint8_t *text, size_t text_len, uint8_t *out, size_t out_len, uint64_t answer[8]);
 
 /* Whether bytes are modified UTF-8 (java.io.DataInput) of Unicode scalar values. Refused: 4, at the offset where the first sequence that
