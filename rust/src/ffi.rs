@@ -32,9 +32,6 @@ mod c {
         );
         pub fn tikfazrul_check_mutf8(bytes: *const u8, len: usize, answer: *mut u64);
         pub fn tikfazrul_check_utf8(bytes: *const u8, len: usize, answer: *mut u64);
-    }
-    #[cfg(feature = "text")]
-    extern "C" {
         pub fn tikfazrul_token(text: *const u8, text_len: usize, start: usize, stops: u32, answer: *mut u64);
         pub fn tikfazrul_content(
             text: *const u8,
@@ -106,7 +103,6 @@ pub fn check_utf8(bytes: &[u8]) -> Answer {
     answer
 }
 
-#[cfg(feature = "text")]
 pub fn token(text: &[u8], start: usize, stops: u32) -> Answer {
     let mut answer = [0; 8];
     // SAFETY: the pointer stands for a slice of the length given; every start and every stop set is answered.
@@ -114,7 +110,6 @@ pub fn token(text: &[u8], start: usize, stops: u32) -> Answer {
     answer
 }
 
-#[cfg(feature = "text")]
 pub fn content(text: &[u8], start: usize, end: usize, quoted: bool, out: &mut [u8]) -> Answer {
     let mut answer = [0; 8];
     let (room, quoted) = (out.len(), quoted as u8);
@@ -124,7 +119,6 @@ pub fn content(text: &[u8], start: usize, end: usize, quoted: bool, out: &mut [u
     answer
 }
 
-#[cfg(feature = "text")]
 pub fn parse(text: &[u8], out: &mut [u8]) -> Answer {
     let mut answer = [0; 8];
     // SAFETY: the pointers stand for slices of the lengths given; the output and the answer are lent to be written to and overlap nothing.

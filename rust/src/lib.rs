@@ -1,4 +1,4 @@
-//! NBT read, written and asked by a proved library.
+//! NBT read, written, asked and parsed from text by a proved library.
 //!
 //! Every answer comes from `libnbt.a`, whose functions are proved to answer as its rules say on every input, to touch no memory that they
 //! weren't lent, and to return. This crate wraps its C calls: the one module with `unsafe` is `ffi`, and nothing here crashes on any
@@ -42,7 +42,7 @@
 //! | `NbtCompound::get`, `contains_key`, `len`, `inner().iter()` | [`Node::get`], [`Node::contains_key`], [`Node::len`], [`Node::children`] |
 //! | `NbtList::get` | [`Node::element`] |
 //! | `NbtIoError`, `ParserErrorType` | [`Refusal`]: `MissingRootTag`, `InvalidTagId`, `NonHomogenousList`, `UnmatchedQuote`, … mean the same |
-#![cfg_attr(feature = "text", doc = "| `snbt::parse_and_size` | [`parse`] |")]
+//! | `snbt::parse_and_size` | [`parse`] |
 #![deny(unsafe_code, missing_docs)]
 
 mod ffi;
@@ -52,12 +52,10 @@ mod node;
 mod path;
 mod refusal;
 mod table;
-#[cfg(feature = "text")]
 mod text;
 
 pub use node::{Children, Kind, Link, Node, Trail, Walk};
 pub use path::{quoted, Fault, PathError, Query, MAX_NAME, MAX_STEPS};
 pub use refusal::{Place, Refusal};
 pub use table::{query, query_into, read, read_into, write, write_into, Read, Table, MAX_DOCUMENT, MAX_RECORDS, WORDS};
-#[cfg(feature = "text")]
 pub use text::{content, parse, token, Parsed, Stops, Token, TokenData, MAX_TEXT};

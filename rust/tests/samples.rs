@@ -41,7 +41,6 @@ fn every_document_is_answered_as_told() {
     as_told(".nbt", 12, Ok);
 }
 
-#[cfg(feature = "text")]
 #[test]
 fn every_text_is_answered_as_told() {
     as_told(".snbt", 5, |text| tikfazrul::parse(&text).map(|parsed| parsed.document));

@@ -1,5 +1,4 @@
 //! Texts: tokens, contents, whole documents, and what is refused.
-#![cfg(feature = "text")]
 use tikfazrul::{content, parse, read, token, Place, Refusal, Stops, Token};
 
 fn refused(text: &[u8]) -> (u64, Place) {

@@ -220,7 +220,6 @@ fn long_values_are_cut_unless_all_is_asked_for() {
     assert!(full.contains(&"x".repeat(200)) && full.contains(&["5"; 100].join(", ")), "{full}");
 }
 
-#[cfg(feature = "text")]
 #[test]
 fn a_text_is_made_a_document() {
     let file = scratch("text.nbt");
@@ -232,7 +231,6 @@ fn a_text_is_made_a_document() {
     assert_eq!(fed(&["text", "-", "-o", "-"], b"{clouds: 7b}").stdout, b"\x0A\0\0\x01\0\x06clouds\x07\0");
 }
 
-#[cfg(feature = "text")]
 #[test]
 fn a_refused_text_shows_its_place() {
     let wanted = "\

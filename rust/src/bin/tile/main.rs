@@ -123,17 +123,11 @@ fn load(file: &OsStr) -> Result<(Input, Table), Trouble> {
     }
 }
 
-#[cfg(feature = "text")]
 fn parsed(text: Vec<u8>) -> Result<Vec<u8>, Trouble> {
     match tikfazrul::parse(&text) {
         Ok(parsed) => Ok(parsed.document),
         Err(refusal) => Err(Trouble::Refused(refusal, text)),
     }
-}
-
-#[cfg(not(feature = "text"))]
-fn parsed(_: Vec<u8>) -> Result<Vec<u8>, Trouble> {
-    Err(Trouble::Packed("this is a text, and tile was built without the text parser: build it with `--features text`".to_owned()))
 }
 
 fn again(input: Input, mut table: Table) -> Result<Vec<u8>, Trouble> {
