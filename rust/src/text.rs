@@ -142,7 +142,8 @@ pub struct Parsed {
     pub document: Vec<u8>,
 }
 
-/// The document that a text stands for.
+/// The document that a text stands for. It is parsed on a thread of its own, for the stack that this takes; panics where the system gives
+/// none.
 ///
 /// ```
 /// let parsed = tikfazrul::parse(b"{a:[1b,2b]}")?;
@@ -167,15 +168,11 @@ pub fn parse(text: &[u8]) -> Result<Parsed, Refusal> {
     }
 }
 
-/// Texts shorter than this can neither be deep nor hold many keys.
-const SHALLOW: usize = 512;
-/// The parser keeps the open keys on the stack, some 1.5 MB for the longest texts: more than a thread may have.
+/// The parser keeps open keys on the stack and recurses with each level: between 1 and 2 MiB at the worst, more than a thread may have
+/// left. So it runs on a thread of its own.
 const STACK: usize = 8 << 20;
 
 fn on_a_deep_stack(text: &[u8], out: &mut [u8]) -> Answer {
-    if text.len() < SHALLOW {
-        return ffi::parse(text, out);
-    }
     std::thread::scope(|scope| {
         let thread = std::thread::Builder::new().stack_size(STACK).spawn_scoped(scope, || ffi::parse(text, out));
         thread.expect("a thread to parse on").join().expect("the library does not panic")

@@ -124,7 +124,7 @@ fn a_long_text_on_a_small_stack() {
     assert_eq!(records.unwrap().join().unwrap(), 100_001);
 }
 
-/// Every text cut, and every byte of it changed: answered, and never more is consumed than there is.
+/// A text cut anywhere, and every byte of it changed to every sort: answered, and never more is consumed than there is.
 #[test]
 fn texts_cut_anywhere_and_with_any_byte_changed() {
     let text = br#"{"a\n":[B;1b,,2b],b:{c:[1.5f,-2f]},d:'\u0041'}"#;
@@ -133,7 +133,7 @@ fn texts_cut_anywhere_and_with_any_byte_changed() {
         assert!(parse(&text[..cut]).is_err(), "{cut}");
     }
     for at in 0..text.len() {
-        for value in 0..=255 {
+        for value in *b"{}[],:;'\"\\ \n-.0bBLfu\0\x0B\x80\xC3\xF0\xFF" {
             let mut changed = text.to_vec();
             changed[at] = value;
             match parse(&changed) {
@@ -141,5 +141,17 @@ fn texts_cut_anywhere_and_with_any_byte_changed() {
                 Ok(parsed) => assert!(parsed.consumed <= text.len() && read(&parsed.document).is_ok()),
             }
         }
+    }
+}
+
+/// The deepest texts, short and long, on a small stack.
+#[test]
+fn deep_texts_on_a_small_stack() {
+    let keys: Vec<String> = (0..60_000).map(|n| format!("k{n}:1b")).collect();
+    let deep = |inner: &str| format!("{}{{{inner}}}{}", "{a:".repeat(511), "}".repeat(511));
+    for text in ["{}".to_owned(), deep(""), deep(&keys.join(",")), format!("{{a:{}{}}}", "[".repeat(511), "]".repeat(511))] {
+        let small = std::thread::Builder::new().stack_size(128 << 10);
+        let thread = small.spawn(move || parse(text.as_bytes()).map(|parsed| parsed.consumed == text.len()));
+        assert_eq!(thread.unwrap().join().unwrap(), Ok(true));
     }
 }
