@@ -20,6 +20,7 @@ sys.path.insert(0, os.path.join(ROOT, "tests", "replay"))
 import crate  # noqa: E402
 import listing  # noqa: E402
 import snbt  # noqa: E402
+import texts as made  # noqa: E402
 from library import Library  # noqa: E402
 from listing import Refused  # noqa: E402
 
@@ -33,11 +34,15 @@ TEXT = {
 
 # ---- documents
 
+# The records that library.py lends, and a count for which the crate may ask for more memory than there is.
+ROOM, HUGE = 4096, 1 << 24
+
+
 class CrateReader(listing.Reader):
     """The crate's way with documents: no limits, repeated names pass, a negative count panics, and room for a whole list is asked for before
     its elements are read."""
 
-    largest = 0
+    largest, room, depth = 0, 1 << 60, 1 << 60
 
     def count(self, at):
         n = int.from_bytes(self.field(at, 4), "big", signed=True)
@@ -46,18 +51,14 @@ class CrateReader(listing.Reader):
             raise Refused("panic", 0)
         return n
 
-    def payload(self, kind, name, at, deep):
-        if kind != 10:
-            return super().payload(kind, name, at, 0)
-        self.records.append([10, name[1], 0, 0])
-        while True:
-            id = self.field(at, 1)[0]
-            if id == 0:
-                return at + 1
-            name = self.string(at + 1)
-            if id > 12:
-                raise Refused(3, at)
-            at = self.payload(id, name, sum(name), 0)
+    def take_name(self, names, word, at):
+        pass
+
+
+class Reader(listing.Reader):
+    """Document 01's way, with the room that library.py lends."""
+
+    room = ROOM
 
 
 def read_by(reader):
@@ -79,15 +80,10 @@ def crate_document(line):
     return line
 
 
-ROOM, HUGE = 4096, 1 << 24
-
-
 def document_entry(doc, ours, theirs):
     """The entry of docs/DIFFERENCES.md that explains a difference, or None."""
-    listing.ROOM = ROOM
-    if (read_by(listing.Reader(doc)) if len(doc) <= 1 << 24 else "refused 9 0") != ours:
+    if (read_by(Reader(doc)) if len(doc) <= 1 << 24 else "refused 9 0") != ours:
         return None
-    listing.ROOM = 1 << 60
     reader = CrateReader(doc)
     way, (said, *rest) = read_by(reader), theirs.split(" ")
     if said == "abort":
@@ -194,22 +190,14 @@ def crate_text(line):
     return f"refused {TEXT[rest[0]]} {rest[1]}" if word == "err" else line
 
 
-def answer(parse, *args):
-    try:
-        place, out = parse(*args)
-        return f"ok {place} {out.hex().upper()}"
-    except Refused as e:
-        return f"refused {e.args[0]} {e.args[1]}"
-
-
 def text_entry(text, ours, theirs):
-    if answer(snbt.parse, text, 1 << 18) != ours:
+    if made.answer(snbt.parse, text, 1 << 18) != ours:
         return None
     if ours == "refused 15 0":
         return "size, text not UTF-8, start" if theirs == "bad utf8" else None
     if ours == "refused 9 0":
         return "size, text not UTF-8, start" if len(text) > 1 << 20 and theirs.startswith("ok") else None
-    way = answer(crate.parse, text)
+    way = made.answer(crate.parse, text)
     if theirs.startswith("panic") and way.startswith("refused 17 "):
         return "escape before a long character"
     if way != theirs and not same_but_place(way, theirs):
@@ -236,7 +224,6 @@ def large_texts():
 
 
 def texts(r, quick):
-    import texts as made
     yield from large_texts()
     pieces = ["{", "}", "[", "]", ",", ":", ";", "a", "1", "1b", "B", "'x'", "I;", "\\"]
     for front in ("{", "{a:[", "{a:1,", "{a:"):

@@ -34,23 +34,9 @@ class Crate(snbt.Parser):
             return 8, string(body[:len(body) % 65536]) + body[len(body) % 65536:], tok.next
         return super().scalar(tok, want, front)
 
-    def array(self, letter, opening, place, front):
+    def belongs(self, tok, sort):
         """Any whole number stands in any array, by its low bits."""
-        sort, kind = snbt.LETTER[letter]
-        w, values, comma = snbt.WIDTH[sort], [], None
-        while True:
-            tok = self.take(place, "later", 22, opening.index)
-            place = tok.next
-            if tok.kind == "]":
-                if comma is not None:
-                    raise Refused(21, comma)
-                return kind, len(values).to_bytes(4, "big") + b"".join((v % 2**(8 * w)).to_bytes(w, "big") for v in values), place
-            if tok.kind == ",":
-                comma = tok.index
-            elif tok.kind not in snbt.WIDTH:
-                raise Refused(11, tok.index)
-            else:
-                values, comma = values + [tok.value], None
+        return tok.kind in snbt.WIDTH
 
     def bracket(self, opening, left, front):
         """Small letters open arrays; another string before `;` is refused itself; its next token stops as a first element does."""

@@ -57,6 +57,8 @@ def well_formed(b):
 
 
 class Reader:
+    room, depth = ROOM, DEPTH
+
     def __init__(self, doc):
         self.d, self.records = doc, []
 
@@ -77,13 +79,19 @@ class Reader:
             raise Refused(5, at)
         return n
 
+    def take_name(self, names, word, at):
+        """The name of the entry at `at`, beside those before it."""
+        if word in names:
+            raise Refused(6, at)
+        names.add(word)
+
     def payload(self, kind, name, at, deep):
         """Reads a payload at depth `deep`, and answers the place past it."""
-        if len(self.records) == ROOM:
+        if len(self.records) == self.room:
             raise Refused(8, at)
         record = [kind, name[1], 0, 0]
         self.records.append(record)
-        if kind in (9, 10) and deep > DEPTH:
+        if kind in (9, 10) and deep > self.depth:
             raise Refused(7, at)
         if kind <= 6:
             record[2] = WIDTH[kind]
@@ -112,10 +120,7 @@ class Reader:
                 name = self.string(at + 1)
                 if id > 12:
                     raise Refused(3, at)
-                word = bytes(self.d[name[0]:sum(name)])
-                if word in names:
-                    raise Refused(6, at)
-                names.add(word)
+                self.take_name(names, bytes(self.d[name[0]:sum(name)]), at)
                 record[3] += 1
                 at = self.payload(id, name, sum(name), deep + 1)
         record[3] = self.count(at)

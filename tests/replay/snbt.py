@@ -237,23 +237,26 @@ class Parser:
         self.count(front + len(out), tok)
         return KIND[tok.kind], out, tok.next
 
+    def belongs(self, tok, sort):
+        """Whether a token may stand in an array of a sort (rule 15)."""
+        w = WIDTH[sort]
+        return tok.kind == sort and -2**(8 * w - 1) <= tok.value < 2**(8 * w - 1)
+
     def array(self, letter, opening, place, front):
         sort, kind = LETTER[letter]
         self.count(front + 4, opening)
-        values, comma = [], None
+        w, values, comma = WIDTH[sort], [], None
         while True:
             tok = self.take(place, "later", 22, opening.index)
             place = tok.next
             if tok.kind == "]":
                 if comma is not None:
                     raise Refused(21, comma)
-                w = WIDTH[sort]
-                return kind, len(values).to_bytes(4, "big") + b"".join(v.to_bytes(w, "big", signed=True) for v in values), place
+                return kind, len(values).to_bytes(4, "big") + b"".join((v % 2**(8 * w)).to_bytes(w, "big") for v in values), place
             if tok.kind == ",":
                 comma = tok.index
                 continue
-            w = WIDTH[sort]
-            if tok.kind != sort or not -2**(8 * w - 1) <= tok.value < 2**(8 * w - 1):
+            if not self.belongs(tok, sort):
                 raise Refused(11, tok.index)
             self.count(w, tok)
             values, comma = values + [tok.value], None
