@@ -137,6 +137,7 @@ pub record Word : Type 0 where
   pub width : ℕ
   pub next : ℕ
 
+-- What a scan comes to where it ends, at i.
 abbrev pub wordOf : Scan → ℕ → Word
 wordOf s i = record { end = s .end; width = s .width; next = i }
 
@@ -230,6 +231,7 @@ unfoldable pub skipBy : List ℕ → ℕ → ℕ
 skipBy [] i = i
 skipBy (b ∷ l) i = pick (blank b) (skipBy l (i + 1)) i
 
+-- The same in a whole text (rule 10).
 unfoldable pub skip : List ℕ → ℕ → ℕ
 skip t i = skipBy (drop i t) i
 

@@ -411,6 +411,7 @@ pub record Lengths : Type 0 where
   pub consumed : ℕ
   pub length : ℕ
 
+-- What a parse answers of these, or its refusal.
 abbrev pub lengthsOf : Out Block → Out Lengths
 lengthsOf (got b) = got (record { consumed = b .next; length = b .used })
 lengthsOf (no n p) = no n p
