@@ -75,7 +75,7 @@ impl Goals {
     }
 
     pub fn print(&self) {
-        println!("\n## Goals");
+        markdown::heading("Goals");
         markdown::caption("Each with the worst that this run measured; the median decides.");
         markdown::head(&["goal", "wanted", "the worst", "where", "rows that meet it", ""]);
         for (goal, words, wanted) in GOALS {

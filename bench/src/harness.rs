@@ -38,6 +38,15 @@ pub struct Plan {
 }
 
 impl Plan {
+    /// A size for a full run, or a smaller one for a quick run.
+    pub fn size(&self, full: usize, quick: usize) -> usize {
+        if self.quick {
+            quick
+        } else {
+            full
+        }
+    }
+
     /// As many rounds as this, where a call takes seconds.
     pub fn with_rounds(self, rounds: usize) -> Plan {
         Plan { rounds, ..self }
@@ -130,6 +139,7 @@ pub fn figure(x: f64) -> String {
         x if x >= 100.0 => 0,
         x if x >= 10.0 => 1,
         x if x >= 0.1 => 2,
+        x if x >= 0.01 => 3,
         _ => 4,
     };
     format!("{x:.places$}")
@@ -138,9 +148,4 @@ pub fn figure(x: f64) -> String {
 /// Nanoseconds a piece of so many.
 pub fn each(seconds: f64, pieces: usize) -> String {
     figure(seconds * 1e9 / pieces as f64)
-}
-
-/// What a call gives is made and, if it is a tree, dropped within the time; the compiler may not leave it out.
-pub fn spent<T>(given: T) {
-    drop(std::hint::black_box(given));
 }

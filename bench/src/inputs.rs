@@ -1,4 +1,6 @@
 //! The documents and texts that the sections share.
+use crate::library::{self, WORDS};
+use crate::markdown::grouped;
 use std::fmt::Write;
 
 /// In which order the names of one compound come.
@@ -74,6 +76,14 @@ impl Doc {
         self.bytes.push(0);
         self
     }
+
+    /// The table that reading fills.
+    pub fn table(&self) -> Vec<u32> {
+        let mut table = vec![0; WORDS * self.tags];
+        let answer = library::read(&self.bytes, &mut table);
+        assert_eq!((answer[0], answer[2], answer[3]), (0, self.bytes.len() as u64, self.tags as u64));
+        table
+    }
 }
 
 /// Tiles: compounds of a dozen small tags with ordinary names, thirteen records each.
@@ -116,7 +126,7 @@ fn tile(d: &mut Doc, i: usize) {
     d.bytes.extend([0, 0]);
 }
 
-pub fn arrays(n: usize, elements: usize) -> Doc {
+fn arrays(n: usize, elements: usize) -> Doc {
     let mut d = Doc::new();
     for i in 0..n {
         d.head(12, format!("a{i}").as_bytes());
@@ -126,7 +136,7 @@ pub fn arrays(n: usize, elements: usize) -> Doc {
     d.end()
 }
 
-pub fn strings(n: usize, length: usize, each: &str) -> Doc {
+fn strings(n: usize, length: usize, each: &str) -> Doc {
     let mut d = Doc::new();
     let text: Vec<u8> = each.bytes().cycle().take(length / each.len() * each.len()).collect();
     for i in 0..n {
@@ -167,6 +177,25 @@ pub fn nested(paths: usize, deep: usize) -> Doc {
         d.bytes.extend(vec![0; deep - 1]);
     }
     d.end()
+}
+
+/// Documents whose bytes are nearly all payload.
+pub fn payloads() -> [(&'static str, Doc); 4] {
+    [
+        ("100 arrays of 1,000 longs", arrays(100, 1_000)),
+        ("10 arrays of 200,000 longs", arrays(10, 200_000)),
+        ("100 strings of 60,000 bytes, ASCII", strings(100, 60_000, "a scene over the reef, ")),
+        ("100 strings of 60,000 bytes, mixed", strings(100, 60_000, "Größe und Höhe über dem Riff, ")),
+    ]
+}
+
+/// Hostile documents that are not one wide compound: paths, and lists of n elements of the shortest kinds.
+pub fn odd_shapes(n: usize) -> [(String, Doc); 3] {
+    [
+        ("100 paths of compounds, 512 deep".into(), nested(100, 512)),
+        (format!("list of {} empty lists", grouped(n)), list_of(9, n, &[0; 5])),
+        (format!("list of {} empty compounds", grouped(n)), list_of(10, n, &[0])),
+    ]
 }
 
 /// A text like a tile's record: n tiles with a scene, an origin and a footprint.

@@ -5,6 +5,7 @@ mod harness;
 mod inputs;
 mod library;
 mod markdown;
+mod quartz;
 mod query;
 mod read;
 mod stack;

@@ -1,22 +1,33 @@
-//! Markdown tables on standard output, a row as soon as it is known.
+//! Markdown on standard output, a row as soon as it is known.
 use std::io::Write;
 
-pub fn head(columns: &[&str]) {
-    println!("\n| {} |\n|{}", columns.join(" | "), "---|".repeat(columns.len()));
+/// A line; where nobody reads on, nothing more is measured.
+fn line(text: &str) {
+    let mut out = std::io::stdout().lock();
+    if writeln!(out, "{text}").and_then(|()| out.flush()).is_err() {
+        std::process::exit(1);
+    }
 }
 
-pub fn row(cells: &[String]) {
-    println!("| {} |", cells.join(" | "));
-    let _ = std::io::stdout().flush();
-}
-
-/// A heading with the command that prints its section.
+/// A heading, with the command that prints its section.
 pub fn section(title: &str, name: &str) {
-    println!("\n## {title}: `bench/run {name}`");
+    line(&format!("\n## {title}: `bench/run {name}`"));
+}
+
+pub fn heading(title: &str) {
+    line(&format!("\n## {title}"));
 }
 
 pub fn caption(text: &str) {
-    println!("\n{text}");
+    line(&format!("\n{text}"));
+}
+
+pub fn head(columns: &[&str]) {
+    line(&format!("\n| {} |\n|{}", columns.join(" | "), "---|".repeat(columns.len())));
+}
+
+pub fn row(cells: &[String]) {
+    line(&format!("| {} |", cells.join(" | ")));
 }
 
 /// 1000000 as 1,000,000.

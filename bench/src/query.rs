@@ -4,7 +4,6 @@ use crate::growth::{self, Sized};
 use crate::harness::{each, Plan};
 use crate::inputs::{tiles_of_records, wide, Doc, Order};
 use crate::library::{self, WORDS};
-use crate::write::table_of;
 use crate::{markdown, Bench};
 use std::hint::black_box;
 
@@ -29,7 +28,7 @@ fn growing(bench: &mut Bench) {
 }
 
 fn asking(doc: Doc, query: Vec<u8>) -> Sized<'static> {
-    let (table, mut list) = (table_of(&doc), vec![0; doc.tags]);
+    let (table, mut list) = (doc.table(), vec![0; doc.tags]);
     Sized { pieces: doc.tags, call: Box::new(move || assert_eq!(library::query(black_box(&doc.bytes), &table, &query, &mut list)[0], 0)) }
 }
 

@@ -1,69 +1,32 @@
 //! Reading beside the crate's read_nbt. Ours lends a table that is used again; theirs builds its tree and drops it.
 use crate::goals::Goal;
 use crate::growth::{self, Sized};
-use crate::harness::{each, spent, Spread};
-use crate::inputs::{arrays, list_of, nested, strings, tiles, tiles_of_records, wide, Doc, Order, ORDERS};
+use crate::harness::{each, Spread};
+use crate::inputs::{list_of, odd_shapes, payloads, tiles, tiles_of_records, wide, Doc, Order, ORDERS};
 use crate::library::{self, MOST_RECORDS, WORDS};
 use crate::markdown::{self, grouped};
-use crate::Bench;
+use crate::{quartz, Bench};
 use std::hint::black_box;
-use std::io::Cursor;
 
 pub fn section(bench: &mut Bench) {
     markdown::section("Reading", "read");
     let mut table = vec![0; WORDS * MOST_RECORDS];
     markdown::caption("Documents:");
     head();
-    for n in tile_counts(bench) {
+    for n in [10, 1_000, bench.plan.size(50_000, 5_000)] {
         let what = format!("tiles, {}", grouped(n));
-        let ratios = row(bench, &what, &tiles(n), &mut table);
-        for (map, ratio) in ratios {
+        for (map, ratio) in row(bench, &what, &tiles(n), &mut table) {
             bench.goals.note(Goal::ReadTiles, ratio, &format!("{what}, {map}"));
         }
     }
-    for (what, doc) in ordinary() {
-        row(bench, &what, &doc, &mut table);
+    row(bench, "list of 1,000,000 bytes", &list_of(1, 1_000_000, &[5]), &mut table);
+    for (what, doc) in payloads() {
+        row(bench, what, &doc, &mut table);
     }
     markdown::caption("Hostile documents:");
     head();
     hostile(bench, &mut table);
-    drop(table);
     growing(bench);
-}
-
-/// How many tiles the documents have that reading and writing are judged by.
-pub fn tile_counts(bench: &Bench) -> Vec<usize> {
-    if bench.plan.quick {
-        vec![10, 1_000]
-    } else {
-        vec![10, 1_000, 50_000]
-    }
-}
-
-fn ordinary() -> Vec<(String, Doc)> {
-    let mut docs = vec![("list of 1,000,000 bytes".into(), list_of(1, 1_000_000, &[5]))];
-    docs.extend(payloads());
-    docs
-}
-
-/// Documents whose bytes are nearly all payload.
-pub fn payloads() -> Vec<(String, Doc)> {
-    vec![
-        ("100 arrays of 1,000 longs".into(), arrays(100, 1_000)),
-        ("10 arrays of 200,000 longs".into(), arrays(10, 200_000)),
-        ("100 strings of 60,000 bytes, ASCII".into(), strings(100, 60_000, "a scene over the reef, ")),
-        ("100 strings of 60,000 bytes, mixed".into(), strings(100, 60_000, "Größe und Höhe über dem Riff, ")),
-    ]
-}
-
-/// What is not one wide compound.
-pub fn odd_shapes(bench: &Bench) -> Vec<(String, Doc)> {
-    let n = if bench.plan.quick { 100_000 } else { 1_000_000 };
-    vec![
-        ("100 paths of compounds, 512 deep".into(), nested(100, 512)),
-        (format!("list of {} empty lists", grouped(n)), list_of(9, n, &[0; 5])),
-        (format!("list of {} empty compounds", grouped(n)), list_of(10, n, &[0])),
-    ]
 }
 
 /// One compound's names: what they have in common, bytes of that before and behind the digits that tell them apart, and how many there are.
@@ -76,7 +39,7 @@ const NAMES: [Names; 3] = [
 ];
 
 fn hostile(bench: &mut Bench, table: &mut [u32]) {
-    let most = if bench.plan.quick { 10_000 } else { 1_000_000 };
+    let most = bench.plan.size(1_000_000, 10_000);
     for (what, before, after, sizes) in NAMES {
         for order in ORDERS {
             for &n in sizes.iter().filter(|&&n| n <= most) {
@@ -85,7 +48,7 @@ fn hostile(bench: &mut Bench, table: &mut [u32]) {
             }
         }
     }
-    for (what, doc) in odd_shapes(bench) {
+    for (what, doc) in odd_shapes(bench.plan.size(1_000_000, 100_000)) {
         row(bench, &what, &doc, table);
     }
 }
@@ -111,8 +74,8 @@ fn row(bench: &mut Bench, what: &str, d: &Doc, table: &mut [u32]) -> [(&'static 
     let mut out = vec![0u8; d.bytes.len()];
     let times = bench.plan.measure(&mut [
         &mut || assert_eq!(library::read(black_box(&d.bytes), table)[0], 0),
-        &mut || spent(quartz_hash::io::read_nbt(&mut Cursor::new(black_box(&d.bytes)), quartz_hash::io::Flavor::Uncompressed).unwrap()),
-        &mut || spent(quartz_index::io::read_nbt(&mut Cursor::new(black_box(&d.bytes)), quartz_index::io::Flavor::Uncompressed).unwrap()),
+        &mut || quartz::hash::read(black_box(&d.bytes)),
+        &mut || quartz::index::read(black_box(&d.bytes)),
         &mut || black_box(&mut out[..]).copy_from_slice(black_box(&d.bytes)),
     ]);
     let ratios = [("HashMap", times.ratio(1, 0)), ("IndexMap", times.ratio(2, 0))];

@@ -3,7 +3,6 @@
 use crate::inputs::{around, list_text, nested, tile_text, wide, Doc, Order};
 use crate::library::{self, Answer, MOST_TEXT, WORDS};
 use crate::markdown::{self, grouped};
-use crate::write::table_of;
 use crate::Bench;
 use std::ffi::{c_int, c_void};
 
@@ -90,7 +89,7 @@ fn documents() {
     read("a document 512 deep", &deep, 0);
     read("a document 513 deep", &nested(1, 513), 7);
     read("one compound of 100,000 in random order", &wide(100_000, 0, 0, Order::Random), 0);
-    let table = table_of(&deep);
+    let table = deep.table();
     row("tikfazrul_is_table", "the table of one 512 deep", 0, || library::is_table(&deep.bytes, &table));
     write("the table of one 512 deep", &deep);
     write("one compound of 100,000 in random order", &wide(100_000, 0, 0, Order::Random));
@@ -106,7 +105,7 @@ fn read(what: &str, doc: &Doc, refusal: u64) {
 }
 
 fn write(what: &str, doc: &Doc) {
-    let (mut table, mut out) = (table_of(doc), vec![0; doc.bytes.len()]);
+    let (mut table, mut out) = (doc.table(), vec![0; doc.bytes.len()]);
     row("tikfazrul_write", what, 0, || library::write(&doc.bytes, &mut table, &mut out));
 }
 

@@ -1,11 +1,11 @@
 //! Texts beside the crate's parse_and_size. Ours writes a document into memory that is used again; theirs makes a tree and drops it.
 use crate::goals::Goal;
 use crate::growth::{self, Sized};
-use crate::harness::{each, spent, Spread};
+use crate::harness::{each, Spread};
 use crate::inputs::{around, keys_text, list_text, tile_text, ORDERS};
 use crate::library;
 use crate::markdown::{self, grouped};
-use crate::Bench;
+use crate::{quartz, Bench};
 use std::hint::black_box;
 
 /// No text makes a longer document than this many times its length, with what an empty one takes.
@@ -71,11 +71,10 @@ fn row(bench: &mut Bench, what: &str, text: &str) -> [Spread; 2] {
     let (mut out, mut copy) = (room(text), vec![0u8; text.len()]);
     let answer = library::parse(text, &mut out);
     assert_eq!((answer[0], answer[2]), (0, text.len() as u64), "{what}: {answer:?}");
-    assert_eq!(quartz_hash::snbt::parse_and_size(text).unwrap().1, text.len(), "{what}");
     let times = bench.plan.measure(&mut [
         &mut || assert_eq!(library::parse(black_box(text), &mut out)[0], 0),
-        &mut || spent(quartz_hash::snbt::parse_and_size(black_box(text)).unwrap()),
-        &mut || spent(quartz_index::snbt::parse_and_size(black_box(text)).unwrap()),
+        &mut || quartz::hash::parse(black_box(text)),
+        &mut || quartz::index::parse(black_box(text)),
         &mut || black_box(&mut copy[..]).copy_from_slice(black_box(text.as_bytes())),
     ]);
     let ratios = [times.ratio(1, 0), times.ratio(2, 0)];

@@ -1,10 +1,9 @@
 //! Tokens beside the crate's own lexer, which a probe in its module reaches. The crate's tokens carry their strings; ours say where these
 //! lie, and tikfazrul_content makes them, so ours has a column with that and one without.
-use crate::harness::{each, spent, Spread};
+use crate::harness::{each, Spread};
 use crate::inputs::{around, list_text, tile_text};
 use crate::library;
-use crate::{markdown, Bench};
-use quartz_hash::snbt::probe;
+use crate::{markdown, quartz, Bench};
 use std::hint::black_box;
 
 /// The kinds and stop sets of include/tikfazrul.h that are looked at here.
@@ -107,11 +106,11 @@ fn contents(text: &str, token: &library::Answer, out: &mut [u8]) {
 fn walked(bench: &mut Bench, what: &str, text: &str) {
     let sets = stop_sets(text);
     let mut out = vec![0; 2 * text.len()];
-    assert_eq!(Some(walk(text, &sets, |_| ())), probe::walk(text, &sets), "{what}");
+    assert_eq!(Some(walk(text, &sets, |_| ())), quartz::walk(text, &sets), "{what}");
     let times = bench.plan.measure(&mut [
-        &mut || spent(walk(black_box(text), &sets, |_| ())),
-        &mut || spent(probe::walk(black_box(text), &sets)),
-        &mut || spent(walk(black_box(text), &sets, |token| contents(text, token, &mut out))),
+        &mut || assert_eq!(walk(black_box(text), &sets, |_| ()), text.len()),
+        &mut || assert!(quartz::walk(black_box(text), &sets).is_some()),
+        &mut || assert_eq!(walk(black_box(text), &sets, |token| contents(text, token, &mut out)), text.len()),
     ]);
     markdown::row(&[
         what.into(),
@@ -145,7 +144,7 @@ fn single(bench: &mut Bench, what: &str, make: impl Fn(usize) -> String) {
         let text: &str = &texts[i];
         move || assert_eq!(library::token(black_box(text), 0, stops::VALUE)[5], text.len() as u64)
     };
-    let theirs = &mut || spent(probe::walk(black_box(&texts[2]), &[stops::VALUE]));
+    let theirs = &mut || assert!(quartz::walk(black_box(&texts[2]), &[stops::VALUE]).is_some());
     let times = bench.plan.measure(&mut [&mut ours(0), &mut ours(1), &mut ours(2), theirs]);
     let growth: Spread = times.ratio(2, 0).times(texts[0].len() as f64 / texts[2].len() as f64);
     markdown::row(&[

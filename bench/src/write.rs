@@ -3,28 +3,26 @@
 use crate::goals::Goal;
 use crate::growth::{self, Sized};
 use crate::harness::{each, Spread};
-use crate::inputs::{tiles, tiles_of_records, wide, Doc, Order, ORDERS};
-use crate::library::{self, WORDS};
+use crate::inputs::{odd_shapes, payloads, tiles, tiles_of_records, wide, Doc, Order, ORDERS};
+use crate::library;
 use crate::markdown::{self, grouped};
-use crate::read::{odd_shapes, payloads, tile_counts};
-use crate::Bench;
+use crate::{quartz, Bench};
 use std::hint::black_box;
-use std::io::Cursor;
 
 pub fn section(bench: &mut Bench) {
     markdown::section("Writing", "write");
     markdown::caption("Documents:");
     head();
-    for n in tile_counts(bench) {
+    for n in [10, 1_000, bench.plan.size(50_000, 5_000)] {
         let what = format!("tiles, {}", grouped(n));
         let ratios = row(bench, &what, &tiles(n));
         bench.goals.note(Goal::WriteTiles, ratios.hash, &format!("{what}, HashMap"));
         bench.goals.note(Goal::WriteTiles, ratios.index, &format!("{what}, IndexMap"));
     }
     for (what, doc) in payloads() {
-        let ratios = row(bench, &what, &doc);
+        let ratios = row(bench, what, &doc);
         if what.contains("arrays") {
-            bench.goals.note(Goal::WriteArrays, ratios.copy, &what);
+            bench.goals.note(Goal::WriteArrays, ratios.copy, what);
         }
     }
     markdown::caption("Hostile documents:");
@@ -34,14 +32,14 @@ pub fn section(bench: &mut Bench) {
 }
 
 fn hostile(bench: &mut Bench) {
-    let most = if bench.plan.quick { 10_000 } else { 100_000 };
+    let most = bench.plan.size(100_000, 10_000);
     for (before, n) in [(0, 1_000), (0, 100_000), (200, 10_000)] {
         for order in ORDERS.into_iter().filter(|_| n <= most) {
             let what = if before == 0 { "names of 7 bytes".into() } else { format!("{before} bytes before in common") };
             row(bench, &format!("one compound, {what}, {}, {}", order.name(), grouped(n)), &wide(n, before, 0, order));
         }
     }
-    for (what, doc) in odd_shapes(bench) {
+    for (what, doc) in odd_shapes(bench.plan.size(1_000_000, 100_000)) {
         row(bench, &what, &doc);
     }
 }
@@ -67,21 +65,13 @@ struct Ratios {
     copy: Spread,
 }
 
-/// The table that reading fills.
-pub fn table_of(doc: &Doc) -> Vec<u32> {
-    let mut table = vec![0; WORDS * doc.tags];
-    let answer = library::read(&doc.bytes, &mut table);
-    assert_eq!((answer[0], answer[2], answer[3]), (0, doc.bytes.len() as u64, doc.tags as u64));
-    table
-}
-
 fn row(bench: &mut Bench, what: &str, d: &Doc) -> Ratios {
-    let (mut table, mut out) = (table_of(d), vec![0u8; d.bytes.len()]);
+    let (mut table, mut out) = (d.table(), vec![0u8; d.bytes.len()]);
     assert_eq!(library::write(&d.bytes, &mut table, &mut out)[..3], [0, 0, out.len() as u64], "{what}");
     assert!(out == d.bytes, "{what}");
     let checked = table.clone();
     assert_eq!(library::is_table(&d.bytes, &checked)[..3], [0, 0, 1], "{what}");
-    let (mut by_hash, mut by_index, mut copy) = (hash_writer(d), index_writer(d), out.clone());
+    let (mut by_hash, mut by_index, mut copy) = (quartz::hash::writer(&d.bytes), quartz::index::writer(&d.bytes), out.clone());
     let times = bench.plan.measure(&mut [
         &mut || assert_eq!(library::write(black_box(&d.bytes), &mut table, &mut out)[0], 0),
         &mut || assert_eq!(library::is_table(black_box(&d.bytes), &checked)[0], 0),
@@ -105,26 +95,6 @@ fn row(bench: &mut Bench, what: &str, d: &Doc) -> Ratios {
     ratios
 }
 
-/// The crate's two builds have the same names and different types.
-macro_rules! writer {
-    ($name:ident, $quartz:ident) => {
-        fn $name(d: &Doc) -> impl FnMut() {
-            use $quartz::io::{read_nbt, write_nbt, Flavor};
-            let (tree, name) = read_nbt(&mut Cursor::new(&d.bytes), Flavor::Uncompressed).unwrap();
-            let mut out: Vec<u8> = Vec::with_capacity(d.bytes.len());
-            let bytes = d.bytes.len();
-            move || {
-                out.clear();
-                write_nbt(&mut out, Some(&name), black_box(&tree), Flavor::Uncompressed).unwrap();
-                assert_eq!(black_box(&out).len(), bytes);
-            }
-        }
-    };
-}
-
-writer!(hash_writer, quartz_hash);
-writer!(index_writer, quartz_index);
-
 fn growing(bench: &mut Bench) {
     markdown::caption("Growth, ns a record:");
     let sizes = growth::sizes(bench, 6);
@@ -142,11 +112,11 @@ fn grows(bench: &mut Bench, what: &str, sizes: &[usize], make: impl Fn(usize) ->
 }
 
 fn writing(doc: Doc) -> Sized<'static> {
-    let (mut table, mut out) = (table_of(&doc), vec![0u8; doc.bytes.len()]);
+    let (mut table, mut out) = (doc.table(), vec![0u8; doc.bytes.len()]);
     Sized { pieces: doc.tags, call: Box::new(move || assert_eq!(library::write(black_box(&doc.bytes), &mut table, &mut out)[0], 0)) }
 }
 
 fn checking(doc: Doc) -> Sized<'static> {
-    let table = table_of(&doc);
+    let table = doc.table();
     Sized { pieces: doc.tags, call: Box::new(move || assert_eq!(library::is_table(black_box(&doc.bytes), &table)[2], 1)) }
 }
