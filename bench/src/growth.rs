@@ -3,15 +3,15 @@ use crate::goals::Goal;
 use crate::harness::each;
 use crate::{markdown, Bench};
 
-/// An input with the call on it, and the records, keys or bytes that the call's time is divided by.
-pub struct Sized<'a> {
+/// A call on one input, and the records or bytes that its time is divided by.
+pub struct Call {
     pub pieces: usize,
-    pub call: Box<dyn FnMut() + 'a>,
+    pub call: Box<dyn FnMut()>,
 }
 
-/// 10^3, 10^4 and so on up to the exponent given, one less in a quick run.
-pub fn sizes(bench: &Bench, most: u32) -> Vec<usize> {
-    let last = if bench.plan.quick { most.min(5) } else { most };
+/// How many records there are, from 10^3 to 10^6, or to 10^5 in a quick run.
+pub fn sizes(bench: &Bench) -> Vec<usize> {
+    let last = if bench.plan.quick { 5 } else { 6 };
     (3..=last).map(|e| 10usize.pow(e)).collect()
 }
 
@@ -22,14 +22,14 @@ pub fn head(what: &str, sizes: &[usize]) {
     markdown::head(&columns.iter().map(String::as_str).collect::<Vec<_>>());
 }
 
-/// One row; where the sizes go as far as the goal asks, the factor is noted for it.
-pub fn row(bench: &mut Bench, what: &str, mut inputs: Vec<Sized>, goal: Option<Goal>) {
-    let mut calls: Vec<&mut dyn FnMut()> = Vec::new();
-    let pieces: Vec<usize> = inputs.iter().map(|input| input.pieces).collect();
-    for input in &mut inputs {
-        calls.push(&mut *input.call);
+/// One row, whose factor is noted for the goal.
+pub fn row(bench: &mut Bench, what: &str, mut calls: Vec<Call>, goal: Option<Goal>) {
+    let pieces: Vec<usize> = calls.iter().map(|c| c.pieces).collect();
+    let mut sides: Vec<&mut dyn FnMut()> = Vec::new();
+    for c in &mut calls {
+        sides.push(&mut *c.call);
     }
-    let times = bench.plan.measure(&mut calls);
+    let times = bench.plan.measure(&mut sides);
     let last = pieces.len() - 1;
     let factor = times.ratio(last, 0).times(pieces[0] as f64 / pieces[last] as f64);
     let mut cells = vec![what.to_string()];

@@ -23,7 +23,9 @@ pub struct Bench {
     pub goals: Goals,
 }
 
-const SECTIONS: [(&str, fn(&mut Bench)); 7] = [
+type Section = (&'static str, fn(&mut Bench));
+
+const SECTIONS: [Section; 7] = [
     ("strings", strings::section),
     ("read", read::section),
     ("write", write::section),

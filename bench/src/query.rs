@@ -1,6 +1,6 @@
 //! Queries: a plain one as tables grow, and those that cost most. The crate has no query, so nothing stands beside them.
 use crate::goals::Goal;
-use crate::growth::{self, Sized};
+use crate::growth::{self, Call};
 use crate::harness::{each, Plan};
 use crate::inputs::{tiles_of_records, wide, Doc, Order};
 use crate::library::{self, WORDS};
@@ -15,7 +15,7 @@ pub fn section(bench: &mut Bench) {
 
 fn growing(bench: &mut Bench) {
     markdown::caption("Growth, ns a record, of `root/**/name`, which is 04, 01 name:");
-    let sizes = growth::sizes(bench, 6);
+    let sizes = growth::sizes(bench);
     growth::head("records", &sizes);
     let name = |s: &str| [&[4, 1, 0, s.len() as u8], s.as_bytes()].concat();
     for (what, make, query) in [
@@ -27,9 +27,9 @@ fn growing(bench: &mut Bench) {
     }
 }
 
-fn asking(doc: Doc, query: Vec<u8>) -> Sized<'static> {
+fn asking(doc: Doc, query: Vec<u8>) -> Call {
     let (table, mut list) = (doc.table(), vec![0; doc.tags]);
-    Sized { pieces: doc.tags, call: Box::new(move || assert_eq!(library::query(black_box(&doc.bytes), &table, &query, &mut list)[0], 0)) }
+    Call { pieces: doc.tags, call: Box::new(move || assert_eq!(library::query(black_box(&doc.bytes), &table, &query, &mut list)[0], 0)) }
 }
 
 const DEPTH: usize = 512;

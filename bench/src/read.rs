@@ -1,6 +1,6 @@
 //! Reading beside the crate's read_nbt. Ours lends a table that is used again; theirs builds its tree and drops it.
 use crate::goals::Goal;
-use crate::growth::{self, Sized};
+use crate::growth::{self, Call};
 use crate::harness::{each, Spread};
 use crate::inputs::{list_of, odd_shapes, payloads, tiles, tiles_of_records, wide, Doc, Order, ORDERS};
 use crate::library::{self, MOST_RECORDS, WORDS};
@@ -98,7 +98,7 @@ fn row(bench: &mut Bench, what: &str, d: &Doc, table: &mut [u32]) -> [(&'static 
 
 fn growing(bench: &mut Bench) {
     markdown::caption("Growth, ns a record:");
-    let sizes = growth::sizes(bench, 6);
+    let sizes = growth::sizes(bench);
     growth::head("records", &sizes);
     let one = |order: Order| move |n: usize| wide(n - 1, 0, 0, order);
     grows(bench, "tiles", &sizes, tiles_of_records, None);
@@ -108,11 +108,12 @@ fn growing(bench: &mut Bench) {
 }
 
 fn grows(bench: &mut Bench, what: &str, sizes: &[usize], make: impl Fn(usize) -> Doc, goal: Option<Goal>) {
-    let inputs = sizes.iter().map(|&n| {
+    let calls = sizes.iter().map(|&n| {
         let doc = make(n);
         let mut table = vec![0; WORDS * doc.tags];
-        Sized { pieces: doc.tags, call: Box::new(move || assert_eq!(library::read(black_box(&doc.bytes), &mut table)[0], 0)) }
+        Call { pieces: doc.tags, call: Box::new(move || assert_eq!(library::read(black_box(&doc.bytes), &mut table)[0], 0)) }
     });
+    // the goals speak of 10^6 records
     let whole = sizes.last() == Some(&1_000_000);
-    growth::row(bench, what, inputs.collect(), goal.filter(|_| whole));
+    growth::row(bench, what, calls.collect(), goal.filter(|_| whole));
 }

@@ -1,6 +1,6 @@
 //! Texts beside the crate's parse_and_size. Ours writes a document into memory that is used again; theirs makes a tree and drops it.
 use crate::goals::Goal;
-use crate::growth::{self, Sized};
+use crate::growth::{self, Call};
 use crate::harness::{each, Spread};
 use crate::inputs::{around, keys_text, list_text, tile_text, ORDERS};
 use crate::library;
@@ -103,9 +103,9 @@ fn growing(bench: &mut Bench) {
 }
 
 fn grows(bench: &mut Bench, what: &str, texts: [String; 3]) {
-    let inputs = texts.into_iter().map(|text| {
+    let calls = texts.into_iter().map(|text| {
         let mut out = room(&text);
-        Sized { pieces: text.len(), call: Box::new(move || assert_eq!(library::parse(black_box(&text), &mut out)[0], 0)) }
+        Call { pieces: text.len(), call: Box::new(move || assert_eq!(library::parse(black_box(&text), &mut out)[0], 0)) }
     });
-    growth::row(bench, what, inputs.collect(), Some(Goal::TextGrowth));
+    growth::row(bench, what, calls.collect(), Some(Goal::TextGrowth));
 }

@@ -1,7 +1,7 @@
 //! Writing beside the crate's write_nbt. Each side has read the document before, ours into a table, theirs into its tree, and writes into memory
 //! that is used again. Ours checks the table at each call; the check by itself has a column.
 use crate::goals::Goal;
-use crate::growth::{self, Sized};
+use crate::growth::{self, Call};
 use crate::harness::{each, Spread};
 use crate::inputs::{odd_shapes, payloads, tiles, tiles_of_records, wide, Doc, Order, ORDERS};
 use crate::library;
@@ -97,7 +97,7 @@ fn row(bench: &mut Bench, what: &str, d: &Doc) -> Ratios {
 
 fn growing(bench: &mut Bench) {
     markdown::caption("Growth, ns a record:");
-    let sizes = growth::sizes(bench, 6);
+    let sizes = growth::sizes(bench);
     growth::head("records", &sizes);
     for order in ORDERS {
         grows(bench, &format!("writing one compound, {}", order.name()), &sizes, |n| wide(n - 1, 0, 0, order), writing);
@@ -107,16 +107,16 @@ fn growing(bench: &mut Bench) {
     grows(bench, "the check, one compound", &sizes, |n| wide(n - 1, 0, 0, Order::Sorted), checking);
 }
 
-fn grows(bench: &mut Bench, what: &str, sizes: &[usize], make: impl Fn(usize) -> Doc, call: fn(Doc) -> Sized<'static>) {
+fn grows(bench: &mut Bench, what: &str, sizes: &[usize], make: impl Fn(usize) -> Doc, call: fn(Doc) -> Call) {
     growth::row(bench, what, sizes.iter().map(|&n| call(make(n))).collect(), None);
 }
 
-fn writing(doc: Doc) -> Sized<'static> {
+fn writing(doc: Doc) -> Call {
     let (mut table, mut out) = (doc.table(), vec![0u8; doc.bytes.len()]);
-    Sized { pieces: doc.tags, call: Box::new(move || assert_eq!(library::write(black_box(&doc.bytes), &mut table, &mut out)[0], 0)) }
+    Call { pieces: doc.tags, call: Box::new(move || assert_eq!(library::write(black_box(&doc.bytes), &mut table, &mut out)[0], 0)) }
 }
 
-fn checking(doc: Doc) -> Sized<'static> {
+fn checking(doc: Doc) -> Call {
     let table = doc.table();
-    Sized { pieces: doc.tags, call: Box::new(move || assert_eq!(library::is_table(black_box(&doc.bytes), &table)[2], 1)) }
+    Call { pieces: doc.tags, call: Box::new(move || assert_eq!(library::is_table(black_box(&doc.bytes), &table)[2], 1)) }
 }
