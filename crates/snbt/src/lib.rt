@@ -844,7 +844,17 @@ fn root(text: &[u8], out: &mut [u8], keys: &mut [u32], buffer: &mut [u8]) -> Don
     }
 }
 
-// Texts up to 4,096 bytes, with so much scratch.
+// Texts up to 512 bytes, with so much scratch.
+fn tiny(text: &[u8], out: &mut [u8]) -> Done
+    requires { ⌜ length (now text) ≤ 512 ⌝ }
+    ensures { λ r. ⌜ RootIs (rootOf (now (text .entry)) (length (now (out .entry)))) (now (out .entry)) r (now (out .exit)) ⌝ }
+{
+    let mut keys: [u32; 171] = [0; 171];
+    let mut buffer: [u8; 1024] = [0; 1024];
+    root(text, out, &mut keys, &mut buffer)
+}
+
+// Texts up to 4,096 bytes.
 fn small(text: &[u8], out: &mut [u8]) -> Done
     requires { ⌜ length (now text) ≤ 4096 ⌝ }
     ensures { λ r. ⌜ RootIs (rootOf (now (text .entry)) (length (now (out .entry)))) (now (out .entry)) r (now (out .exit)) ⌝ }
@@ -854,12 +864,22 @@ fn small(text: &[u8], out: &mut [u8]) -> Done
     root(text, out, &mut keys, &mut buffer)
 }
 
-// Texts up to 65,536 bytes.
+// Texts up to 32,768 bytes.
 fn middle(text: &[u8], out: &mut [u8]) -> Done
-    requires { ⌜ length (now text) ≤ 65536 ⌝ }
+    requires { ⌜ length (now text) ≤ 32768 ⌝ }
     ensures { λ r. ⌜ RootIs (rootOf (now (text .entry)) (length (now (out .entry)))) (now (out .entry)) r (now (out .exit)) ⌝ }
 {
-    let mut keys: [u32; 21846] = [0; 21846];
+    let mut keys: [u32; 10923] = [0; 10923];
+    let mut buffer: [u8; 65535] = [0; 65535];
+    root(text, out, &mut keys, &mut buffer)
+}
+
+// Texts up to 262,144 bytes.
+fn wide(text: &[u8], out: &mut [u8]) -> Done
+    requires { ⌜ length (now text) ≤ 262144 ⌝ }
+    ensures { λ r. ⌜ RootIs (rootOf (now (text .entry)) (length (now (out .entry)))) (now (out .entry)) r (now (out .exit)) ⌝ }
+{
+    let mut keys: [u32; 87382] = [0; 87382];
     let mut buffer: [u8; 65535] = [0; 65535];
     root(text, out, &mut keys, &mut buffer)
 }
@@ -874,6 +894,30 @@ fn large(text: &[u8], out: &mut [u8]) -> Done
     root(text, out, &mut keys, &mut buffer)
 }
 
+// The text in the least scratch that holds it: eight times as much at each step. A compiler keeps the scratch of each step in a frame
+// of its own, since it puts none into a function that calls itself.
+fn stepped(text: &[u8], out: &mut [u8], limit: usize) -> Done
+    requires { ⌜ (length (now text) ≤ 1048576) × (0 < limit) ⌝ }
+    ensures { λ r. ⌜ RootIs (rootOf (now (text .entry)) (length (now (out .entry)))) (now (out .entry)) r (now (out .exit)) ⌝ }
+{
+    if limit < text.len() {
+        return stepped(text, out, limit * 8);
+    }
+    if limit <= 512 {
+        return tiny(text, out);
+    }
+    if limit <= 4096 {
+        return small(text, out);
+    }
+    if limit <= 32768 {
+        return middle(text, out);
+    }
+    if limit <= 262144 {
+        return wide(text, out);
+    }
+    large(text, out)
+}
+
 // A document from a text: refusals 9 and 15 first.
 fn judged(text: &[u8], out: &mut [u8]) -> Done
     ensures { λ r. ⌜ RootIs (parsed (now (text .entry)) (length (now (out .entry)))) (now (out .entry)) r (now (out .exit)) ⌝ }
@@ -881,13 +925,7 @@ fn judged(text: &[u8], out: &mut [u8]) -> Done
     if let Text::Refused { number } = quotes::judged_text(text) {
         return Done::No { number, place: 0 };
     }
-    if text.len() <= 4096 {
-        return small(text, out);
-    }
-    if text.len() <= 65536 {
-        return middle(text, out);
-    }
-    large(text, out)
+    stepped(text, out, 512)
 }
 
 // Zero bytes throughout.

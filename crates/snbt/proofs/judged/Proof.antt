@@ -1,11 +1,7 @@
 -- The text is judged first.
-use Prim.Native.Nat.{ℕ, suc, _+_, _-_, _*_, _≤_, _<_}
-use mathlib.Core.Path.{_≡_, refl, sym, ap, subst, _∙_}
-use mathlib.Core.Bool.{true, false}
-use mathlib.Core.List.{[], _∷_, _++_}
+use mathlib.Core.Path.{_≡_, sym, ap, subst, _∙_}
 use native.Mathlib.Omega.{arith}
-use borrow.Author.Tests.{lt-ltb, le-ltb, le-leb, lt-leb, eq-eqb, ne-eqb}
-use lib.ListN.{length, length-set, take, drop, set, getD, replicate}
+use lib.ListN.{length}
 use Rattle.form.specs.Answer.{Out}
 use Rattle.text_form.specs.Text.{Block}
 use Rattle.quotes.specs.Answers.{textOut}
@@ -17,60 +13,40 @@ use Rattle.snbt.proofs.judged.Tie as tie
 use Rattle.snbt.proofs.judged.Reads as reads
 use Rattle.snbt.proofs.judged.Lts as lts
 use Rattle.quotes.proofs.judged_text.Reads as judged-text-reads
-use Rattle.snbt.proofs.large.Reads as large-reads
-use Rattle.snbt.proofs.middle.Reads as middle-reads
-use Rattle.snbt.proofs.small.Reads as small-reads
+use Rattle.snbt.proofs.stepped.Reads as stepped-reads
 
--- src/lib.rt:792:39
 judged-text-requires : tie.Need-judged-text-requires
 judged-text-requires c κs = search needs
 
--- src/lib.rt:792:28
 enum-known-number : tie.Need-enum-known-number
 enum-known-number c = search needs
 
--- src/lib.rt:793:9
 returns : tie.Need-returns
-returns c = parsed-no (c .before .before .before .before .before .before .args .text .now) (length (c .before .before .before .before .before .before .args .out .now)) _ _ (sym (c .before .before .before .judged-text .ensures) ∙ ap textOut (c .before .number .given .1))
+returns c =
+    let j = c .before .before .before in
+    let a = j .before .before .before .args in
+    parsed-no (a .text .now) (length (a .out .now)) _ _ (sym (j .judged-text .ensures) ∙ ap textOut (c .before .number .given .1))
 
 enum-told : tie.Need-enum-told
 enum-told c = search needs
 
--- src/lib.rt:796:9
-small-requires : tie.Need-small-requires
-small-requires c κs = search needs
+stepped-requires : tie.Need-stepped-requires
+stepped-requires c κs =
+    let j = c .before .before .before in
+    let a = j .before .before .before .args in
+    (judged-within (a .text .now) (sym (j .judged-text .ensures) ∙ ap textOut (c .before .enum-told .given .1)), omega arith)
 
--- src/lib.rt:796:9
 same-length : tie.Need-same-length
 same-length c = search needs
 
--- src/lib.rt:796:9
 returns-2 : tie.Need-returns-2
-returns-2 c = subst (λ (x : Out Block). RootIs x (c .before .before .before .before .before .before .before .before .before .before .args .out .now) (c .before .before .small .result) (c .before .before .small .last .1 .0)) (sym (parsed-on (c .before .before .before .before .before .before .before .before .before .before .args .text .now) (length (c .before .before .before .before .before .before .before .before .before .before .args .out .now)) (sym (c .before .before .before .before .before .before .before .judged-text .ensures) ∙ ap textOut (c .before .before .before .before .before .enum-told .given .1)))) (c .before .before .small .ensures)
-
--- src/lib.rt:799:9
-middle-requires : tie.Need-middle-requires
-middle-requires c κs = search needs
-
--- src/lib.rt:799:9
-same-length-2 : tie.Need-same-length-2
-same-length-2 c = search needs
-
--- src/lib.rt:799:9
-returns-3 : tie.Need-returns-3
-returns-3 c = subst (λ (x : Out Block). RootIs x (c .before .before .before .before .before .before .before .before .before .before .before .args .out .now) (c .before .before .middle .result) (c .before .before .middle .last .1 .0)) (sym (parsed-on (c .before .before .before .before .before .before .before .before .before .before .before .args .text .now) (length (c .before .before .before .before .before .before .before .before .before .before .before .args .out .now)) (sym (c .before .before .before .before .before .before .before .before .judged-text .ensures) ∙ ap textOut (c .before .before .before .before .before .before .enum-told .given .1)))) (c .before .before .middle .ensures)
-
--- src/lib.rt:801:5
-large-requires : tie.Need-large-requires
-large-requires c κs = judged-within (c .before .before .before .before .before .before .before .before .args .text .now) (sym (c .before .before .before .before .before .judged-text .ensures) ∙ ap textOut (c .before .before .before .enum-told .given .1))
-
--- src/lib.rt:789:1
-same-length-3 : tie.Need-same-length-3
-same-length-3 c = search needs
-
--- src/lib.rt:789:1
-returns-4 : tie.Need-returns-4
-returns-4 c = subst (λ (x : Out Block). RootIs x (c .before .before .before .before .before .before .before .before .before .before .before .args .out .now) (c .before .before .large .result) (c .before .before .large .last .1 .0)) (sym (parsed-on (c .before .before .before .before .before .before .before .before .before .before .before .args .text .now) (length (c .before .before .before .before .before .before .before .before .before .before .before .args .out .now)) (sym (c .before .before .before .before .before .before .before .before .judged-text .ensures) ∙ ap textOut (c .before .before .before .before .before .before .enum-told .given .1)))) (c .before .before .large .ensures)
+returns-2 c =
+    let s = c .before .before in
+    let t = s .before .before in
+    let j = t .before .before in
+    let a = j .before .before .before .args in
+    subst (λ (x : Out Block). RootIs x (a .out .now) (s .stepped .result) (s .stepped .last .1 .0))
+    (sym (parsed-on (a .text .now) (length (a .out .now)) (sym (j .judged-text .ensures) ∙ ap textOut (t .enum-told .given .1)))) (s .stepped .ensures)
 
 pub judged-spec : {M : Type 1} → statement M
 judged-spec =
@@ -80,12 +56,6 @@ judged-spec =
     enum-known-number
     returns
     enum-told
-    small-requires
+    stepped-requires
     same-length
-    returns-2
-    middle-requires
-    same-length-2
-    returns-3
-    large-requires
-    same-length-3
-    returns-4)
+    returns-2)
