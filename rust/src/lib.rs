@@ -2,8 +2,8 @@
 //!
 //! Every answer comes from `libnbt.a`, whose functions are proved to answer as its rules say on every input, to touch no memory that they
 //! weren't lent, and to return. This crate wraps its C calls: the one module with `unsafe` is `ffi`, and nothing here crashes on any
-//! input, on a stack of 512 KiB or more, which documents 512 deep come near. (A thread of Rust's has 2 MiB unless told otherwise.)
-//! [`parse`] takes a thread of its own for its stack, and panics where the system gives none.
+//! input, on a stack of 1 MiB or more, which queries of documents 512 deep come near. (A thread of Rust's has 2 MiB unless told otherwise.)
+//! [`parse`] takes a thread of its own for the stack of a long or deep text, and panics where the system gives none.
 //!
 //! ```
 //! use tikfazrul::{read, Kind, Query};

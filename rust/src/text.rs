@@ -142,8 +142,8 @@ pub struct Parsed {
     pub document: Vec<u8>,
 }
 
-/// The document that a text stands for. It is parsed on a thread of its own, for the stack that this takes; panics where the system gives
-/// none.
+/// The document that a text stands for. A long text or a deep one is parsed on a thread of its own, for the stack that this takes; panics
+/// where the system gives none.
 ///
 /// ```
 /// let parsed = tikfazrul::parse(b"{a:[1b,2b]}")?;
@@ -156,7 +156,7 @@ pub fn parse(text: &[u8]) -> Result<Parsed, Refusal> {
     let mut room = text.len().min(MAX_TEXT) * 3 + 64;
     loop {
         let mut out = vec![0; room];
-        let answer = on_a_deep_stack(text, &mut out);
+        let answer = if is_slight(text) { ffi::parse(text, &mut out) } else { on_a_deep_stack(text, &mut out) };
         match checked(&answer) {
             Ok(()) => {
                 out.truncate(answer[3] as usize);
@@ -168,8 +168,17 @@ pub fn parse(text: &[u8]) -> Result<Parsed, Refusal> {
     }
 }
 
-/// The parser keeps open keys on the stack and recurses with each level: between 1 and 2 MiB at the worst, more than a thread may have
-/// left. So it runs on a thread of its own.
+/// A short text with few braces takes little stack; a thread would cost it more than the parsing.
+const SHORT: usize = 4096;
+const FEW: usize = 16;
+
+/// No text is deeper than it has opening braces, those in its strings counted too.
+fn is_slight(text: &[u8]) -> bool {
+    text.len() <= SHORT && text.iter().filter(|&&b| b == b'{' || b == b'[').count() <= FEW
+}
+
+/// The parser keeps open keys on the stack and recurses with each level: some 2 MiB at the worst, more than a thread may have left. So
+/// other texts are parsed on a thread of their own.
 const STACK: usize = 8 << 20;
 
 fn on_a_deep_stack(text: &[u8], out: &mut [u8]) -> Answer {

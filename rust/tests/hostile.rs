@@ -191,15 +191,19 @@ fn deep(open: &[u8], innermost: &[u8], close: &[u8]) -> Vec<u8> {
     [b"\x0A\0\0", &*open.repeat(510), innermost, &*close.repeat(511)].concat()
 }
 
+/// The queries of sixteen steps are those that recurse most: a step and a level at each call.
 #[test]
-fn the_deepest_documents_on_a_stack_of_512_kib() {
+fn the_deepest_documents_on_a_stack_of_1_mib() {
     let compounds = deep(b"\x0A\0\0", b"\x0A\0\0\0", b"\0");
     let lists = [b"\x0A\0\0\x09\0\0", &*b"\x09\0\0\0\x01".repeat(510), &[0; 6]].concat();
     for doc in [compounds, lists] {
-        let small = std::thread::Builder::new().stack_size(512 << 10);
+        let small = std::thread::Builder::new().stack_size(1 << 20);
         let thread = small.spawn(move || {
             let mut table = read(&doc).unwrap();
             assert_eq!((table.len(), query(&doc, &table, &[4, 4, 4, 3, 4]).unwrap().len()), (512, 511));
+            assert_eq!(query(&doc, &table, &[4, 3].repeat(8)).unwrap().len(), 504);
+            assert_eq!(query(&doc, &table, &[4].repeat(16)).unwrap().len(), 512);
+            assert_eq!(query(&doc, &table, &[4, 1, 0, 1, b'y'].repeat(8)).unwrap().len(), 0);
             assert_eq!(write(&doc, &mut table).unwrap(), doc);
         });
         thread.unwrap().join().unwrap();

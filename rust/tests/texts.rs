@@ -149,7 +149,14 @@ fn texts_cut_anywhere_and_with_any_byte_changed() {
 fn deep_texts_on_a_small_stack() {
     let keys: Vec<String> = (0..60_000).map(|n| format!("k{n}:1b")).collect();
     let deep = |inner: &str| format!("{}{{{inner}}}{}", "{a:".repeat(511), "}".repeat(511));
-    for text in ["{}".to_owned(), deep(""), deep(&keys.join(",")), format!("{{a:{}{}}}", "[".repeat(511), "]".repeat(511))] {
+    // the longest and deepest that is parsed on the caller's stack, and one brace or byte more
+    let slight = |levels: usize, length: usize| {
+        let braces = format!("{}{{{}", "{a:".repeat(levels - 1), "}".repeat(levels));
+        format!("{}b:\"{}\",{}", &braces[..1], "x".repeat(length - braces.len() - 5), &braces[1..])
+    };
+    let edges = [slight(16, 4096), slight(17, 4096), slight(16, 4097)];
+    let whole = ["{}".to_owned(), deep(""), deep(&keys.join(",")), format!("{{a:{}{}}}", "[".repeat(511), "]".repeat(511))];
+    for text in whole.into_iter().chain(edges) {
         let small = std::thread::Builder::new().stack_size(128 << 10);
         let thread = small.spawn(move || parse(text.as_bytes()).map(|parsed| parsed.consumed == text.len()));
         assert_eq!(thread.unwrap().join().unwrap(), Ok(true));
