@@ -7,7 +7,8 @@
  *
  * and further words as each function says. Words that a function does not name are 0. A null pointer with the number 0 is an empty slice.
  * No function allocates, keeps a pointer or touches memory other than what it is lent, and each answers for every input. Slices that a
- * function is lent to write to must not overlap the others.
+ * function is lent to write to must not overlap the others. The stack that a function takes grows with the depth: 0.13 MB in reading and
+ * writing 512 levels, 0.85 MB in asking, and up to 2.1 MB in parsing, which says more below.
  *
  * The refusals that the functions below give:
  *
@@ -134,8 +135,9 @@ void tikfazrul_content(const uint8_t *text, size_t text_len, size_t start, size_
 
 /* The document that a text (SNBT, UTF-8) means, with an empty root name. Accepted: [2] is the number of bytes of the text consumed, through the
  * root's `}`, [3] the document's length, from out[0] on; no other byte changes. What stands behind the root is asked for 9 and 15 only.
- * Refused (9, 15, then at the first token that breaks a rule): every byte of the output is 0. It wants 1.5 MB
- * of stack, and 2.1 MB where a text is 512 deep: more than some threads have. */
+ * Refused (9, 15, then at the first token that breaks a rule): every byte of the output is 0. It takes stack by the text's
+ * length: 6 kB for 512 bytes of text, 18 kB for 4,096, 0.12 MB for 32,768, 0.42 MB for 262,144, else 1.5 MB; and 1.3 kB more for each
+ * level, which is 0.7 MB where a text is 512 deep. */
 void tikfazrul_parse(const uint8_t *text, size_t text_len, uint8_t *out, size_t out_len, uint64_t answer[8]);
 
 /* Whether bytes are modified UTF-8 (java.io.DataInput) of Unicode scalar values. Refused: 4, at the offset where the first sequence that
