@@ -1,7 +1,7 @@
 -- The first byte that passes a test: what stands before it, what stands behind it, and whether there is one.
 -- Assumes nothing.
 use mathlib.Core.Path.{_≡_, refl, sym, ap, _∙_, subst}
-use mathlib.Core.List.{List, [], _∷_}
+use mathlib.Core.List.{List, [], _∷_, _++_}
 use mathlib.Core.Bool.{Bool, true, false, _||_}
 use Prim.Native.Nat.{ℕ, zero, suc, _+_, _-_, _≤_, _<_}
 use native.Mathlib.Nat.{le-of-suc-le-suc, not-suc-le-zero}
@@ -13,7 +13,7 @@ use lib.Seq.{slice, length-slice}
 use Rattle.form.specs.Answer.{pick}
 use Rattle.text_form.specs.Numbers.{has, before, behind, isPoint}
 use Rattle.numbers.specs.Rows.{either, FirstAt}
-use Rattle.numbers.proofs.Slices.{slice-none, slice-first, slice-take, slice-drop}
+use Rattle.numbers.proofs.Slices.{slice-none, slice-first, slice-take, slice-drop, slice-split}
 
 -- ---- lists
 
@@ -74,6 +74,20 @@ module _ (t : ℕ → Bool) where
       go : (x : Bool) → (length l ≤ length (before t l) → has t l ≡ false) → suc (length l) ≤ length (pick x [] (b ∷ before t l)) → (x || has t l) ≡ false
       go true ih h = absurd (not-suc-le-zero h)
       go false ih h = ih (le-of-suc-le-suc h)
+
+  pub has-append : (a b : List ℕ) → has t (a ++ b) ≡ (has t a || has t b)
+  unfolding has
+  has-append [] b = refl
+  has-append (x ∷ a) b = ap (λ (y : Bool). t x || y) (has-append a b) ∙ or-assoc (t x) (has t a) (has t b)
+    where
+      or-assoc : (x y z : Bool) → (x || (y || z)) ≡ ((x || y) || z)
+      or-assoc true y z = refl
+      or-assoc false y z = refl
+
+  -- behind bytes none of which passes
+  pub has-behind : (f m e : ℕ) (b : Bool) (s : List ℕ) → f ≤ m → m ≤ e → e ≤ length s → has t (slice f m s) ≡ false → has t (slice m e s) ≡ b → has t (slice f e s) ≡ b
+  has-behind f m e b s h g k n q =
+      ap (has t) (slice-split f m e s h g k) ∙ has-append (slice f m s) (slice m e s) ∙ ap (λ (x : Bool). x || has t (slice m e s)) n ∙ q
 
 -- ---- parts of a text
 

@@ -25,7 +25,7 @@ use Rattle.numbers.specs.declared.decimals.Ending.{Ending}
 use Rattle.numbers.specs.declared.decimals.Ending.the-variants.{Float as EndsFloat, Double as EndsDouble, Digit as EndsDigit, Other as EndsOther}
 use Rattle.numbers.proofs.Slices.{slice-none, slice-from}
 use Rattle.numbers.proofs.Tokens.{last-byte, but-last}
-use Rattle.numbers.proofs.Firsts.{part-before, part-behind, part-has, part-lacks, the-point}
+use Rattle.numbers.proofs.Firsts.{has-behind, part-before, part-behind, part-has, part-lacks, the-point}
 use Rattle.numbers.proofs.Powers.{digits-capped, exponent-capped}
 
 -- ---- an exponent that was counted gives the definition's value
@@ -177,20 +177,26 @@ no-decimal f t place s h = ap (λ (l : List ℕ). decimalNumber l place) (sym (s
 
 -- ---- a token, by whether it has a point
 
-module _ (f t r place : ℕ) (s : List ℕ) (p : FirstAt 46 46 s f t r) (h : f ≤ t) (k : t ≤ length s) where
-  point-is : (b : Bool) → has (either 46 46) (slice f t s) ≡ b → has isPoint (take (t - f) (drop f s)) ≡ b
-  point-is b e = ap (has isPoint) (sym (slice-from f t s h)) ∙ ap (λ (q : ℕ → Bool). has q (slice f t s)) (sym the-point) ∙ e
-
-  pub number-with : r < t → decimalNumber (slice f t s) place ≡ number (take (t - f) (drop f s)) place
+module _ (f t place : ℕ) (s : List ℕ) (h : f ≤ t) (k : t ≤ length s) where
+  pub number-with : has isPoint (slice f t s) ≡ true → decimalNumber (slice f t s) place ≡ number (take (t - f) (drop f s)) place
   unfolding number
   number-with g =
-      let l = take (t - f) (drop f s) in
-      ap (λ (x : List ℕ). decimalNumber x place) (slice-from f t s h)
-      ∙ ap (λ (b : Bool). pick b (decimalNumber l place) (wholeNumber l place)) (sym (point-is true (part-has 46 46 s f t r p k g)))
+      ap (λ (b : Bool). pick b (decimalNumber (slice f t s) place) (wholeNumber (slice f t s) place)) (sym g)
+      ∙ ap (λ (l : List ℕ). number l place) (slice-from f t s h)
 
-  pub number-without : t ≤ r → wholeNumber (slice f t s) place ≡ number (take (t - f) (drop f s)) place
+  pub number-without : has isPoint (slice f t s) ≡ false → wholeNumber (slice f t s) place ≡ number (take (t - f) (drop f s)) place
   unfolding number
   number-without g =
-      let l = take (t - f) (drop f s) in
-      ap (λ (x : List ℕ). wholeNumber x place) (slice-from f t s h)
-      ∙ ap (λ (b : Bool). pick b (decimalNumber l place) (wholeNumber l place)) (sym (point-is false (part-lacks 46 46 s f t r p k g)))
+      ap (λ (b : Bool). pick b (decimalNumber (slice f t s) place) (wholeNumber (slice f t s) place)) (sym g)
+      ∙ ap (λ (l : List ℕ). number l place) (slice-from f t s h)
+
+  -- a point that is looked for behind bytes that are none
+  module _ (m r : ℕ) (p : FirstAt 46 46 s m t r) (l : f ≤ m) (n : has isPoint (slice f m s) ≡ false) where
+    found : (b : Bool) → has (either 46 46) (slice m t s) ≡ b → has isPoint (slice f t s) ≡ b
+    found b e = has-behind isPoint f m t b s l (le-trans (p .low) (p .high)) k n (ap (λ (q : ℕ → Bool). has q (slice m t s)) (sym the-point) ∙ e)
+
+    pub point-behind : r < t → has isPoint (slice f t s) ≡ true
+    point-behind g = found true (part-has 46 46 s m t r p k g)
+
+    pub no-point-behind : t ≤ r → has isPoint (slice f t s) ≡ false
+    no-point-behind g = found false (part-lacks 46 46 s m t r p k g)

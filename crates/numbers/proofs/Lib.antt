@@ -4,4 +4,5 @@ pub mod Tokens
 pub mod Firsts
 pub mod Powers
 pub mod Grammar
+pub mod OnePass
 pub mod NoNan

@@ -71,7 +71,7 @@ digits-end n h = ap Value (sure n h)
 
 -- ---- two rows as one
 
-digits-append : (a b : List ℕ) → digits (a ++ b) ≡ (digits a && digits b)
+pub digits-append : (a b : List ℕ) → digits (a ++ b) ≡ (digits a && digits b)
 unfolding digits
 digits-append [] b = refl
 digits-append (x ∷ a) b = ap (λ (t : Bool). isDigit x && t) (digits-append a b) ∙ and-assoc (isDigit x) (digits a) (digits b)
@@ -80,7 +80,7 @@ digits-append (x ∷ a) b = ap (λ (t : Bool). isDigit x && t) (digits-append a 
     and-assoc true y z = refl
     and-assoc false y z = refl
 
-worth-append : (n : ℕ) (a b : List ℕ) → worth n (a ++ b) ≡ worth (worth n a) b
+pub worth-append : (n : ℕ) (a b : List ℕ) → worth n (a ++ b) ≡ worth (worth n a) b
 unfolding worth
 worth-append n [] b = refl
 worth-append n (x ∷ a) b = worth-append (n * 10 + (x - 48)) a b

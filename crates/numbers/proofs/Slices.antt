@@ -1,12 +1,12 @@
 -- Parts of a text between two places: none, one byte more, a part of a part, the last byte.
 -- Assumes nothing.
 use mathlib.Core.Path.{_≡_, refl, sym, ap, _∙_, subst}
-use mathlib.Core.List.{List, [], _∷_}
+use mathlib.Core.List.{List, [], _∷_, _++_}
 use Prim.Native.Nat.{ℕ, zero, suc, _+_, _-_, _≤_, _<_}
 use native.Mathlib.Numerals.{add-one}
 use native.Mathlib.Omega.{arith}
-use lib.ListN.{length, getD, take, drop, length-take, drop-of-length-le}
-use lib.Seq.{slice, slice-cons, length-slice, drop-drop, take-take, take-nil, getD-drop, getD-take, length-take-le}
+use lib.ListN.{length, getD, take, drop, length-take, take-append-drop, drop-of-length-le}
+use lib.Seq.{slice, slice-cons, length-slice, drop-drop, drop-append-le, take-take, take-nil, getD-drop, getD-take, length-take-le}
 
 -- nothing lies between a place and one that is not behind it
 pub slice-none : (f t : ℕ) (l : List ℕ) → t ≤ f → slice f t l ≡ []
@@ -42,3 +42,17 @@ slice-from f t l h = ap (λ (k : ℕ). slice f k l) (whole f t h) ∙ sym (take-
   where
     whole : (f t : ℕ) → f ≤ t → t ≡ f + (t - f)
     whole f t h = omega arith
+
+-- a part in two
+pub slice-split : (f m t : ℕ) (l : List ℕ) → f ≤ m → m ≤ t → t ≤ length l → slice f t l ≡ slice f m l ++ slice m t l
+slice-split f m t l h g k =
+    ap (drop f) (sym (take-append-drop m (take t l)) ∙ ap (λ (x : List ℕ). x ++ slice m t l) (take-take m t l g))
+    ∙ drop-append-le f (take m l) (slice m t l) (omega (arith, length-take m l))
+
+-- one byte alone
+pub slice-one : (f : ℕ) (l : List ℕ) → f < length l → slice f (f + 1) l ≡ getD l f 0 ∷ []
+slice-one f l h = slice-first f (f + 1) l (omega arith) (omega arith) ∙ ap (λ (x : List ℕ). getD l f 0 ∷ x) (slice-none (f + 1) (f + 1) l (omega arith))
+
+-- a part with the byte behind it
+pub slice-last : (f t : ℕ) (l : List ℕ) → f ≤ t → t < length l → slice f (t + 1) l ≡ slice f t l ++ (getD l t 0 ∷ [])
+slice-last f t l h k = slice-split f t (t + 1) l h (omega arith) (omega arith) ∙ ap (λ (x : List ℕ). slice f t l ++ x) (slice-one t l k)

@@ -1,6 +1,6 @@
 -- What the inner functions promise: rows of digits counted up to nineteen nines, and the place of a first byte.
 -- Assumes nothing.
-use Prim.Native.Nat.{ℕ, _+_, _-_, _^_, _≤_, min}
+use Prim.Native.Nat.{ℕ, _+_, _-_, _^_, _≤_, _<_, min}
 use mathlib.Core.Path.{_≡_}
 use mathlib.Core.Bool.{Bool, true, false, not, _&&_, _||_}
 use mathlib.Core.List.{List, [], _∷_, _++_}
@@ -14,6 +14,7 @@ use Rattle.text_form.specs.Values.{signed, scaled}
 use Rattle.text_form.specs.Numbers.{isDigit, isLetter, empty, before, digits, worth}
 use Rattle.numbers.specs.declared.digits.Digits.{Digits}
 use Rattle.numbers.specs.declared.digits.Digits.the-variants.{Value, Bad}
+use Rattle.numbers.specs.declared.runs.Row.{Row}
 use Rattle.numbers.specs.declared.decimals.Exponent.{Exponent}
 use Rattle.numbers.specs.declared.decimals.Exponent.the-variants.{Power, Wrong}
 use Rattle.numbers.specs.declared.decimals.Ending.{Ending}
@@ -40,6 +41,14 @@ pub record FirstAt (x y : ℕ) (s : List ℕ) (at to r : ℕ) : Type 0 where
   pub is : r ≡ at + length (before (either x y) (slice at to s))
   pub low : at ≤ r
   pub high : r ≤ to
+
+-- Digits from at on, behind those of first, and none beyond to: where they end, and their number, which 18 digits at most keep small.
+pub record RunAt (s : List ℕ) (first at to : ℕ) (r : Row) : Type 0 where
+  pub low : at ≤ r .end
+  pub high : r .end ≤ to
+  pub row : digits (slice at (r .end) s) ≡ true
+  pub is : r .value ≡ worth first (slice at (r .end) s)
+  pub small : r .value < 10 ^ (18 - (to - r .end))
 
 -- The power of a row that was counted.
 abbrev pub counted : Bool → Digits → Exponent

@@ -2,14 +2,15 @@
 // of what it answers are `raw::bits_of`, the double's own, and `floats::single::f32_bits`.
 pub mod decimals;
 pub mod digits;
+pub mod runs;
 pub mod wholes;
 
 ghost use mathlib.Core.Path.{_≡_};
-ghost use mathlib.Core.Bool.{Bool};
+ghost use mathlib.Core.Bool.{Bool, false};
 ghost use Prim.Native.Nat.{_+_, _-_, _≤_, _<_};
 ghost use lib.ListN.{length, take, drop};
 ghost use lib.Seq.{slice};
-ghost use Rattle.text_form.specs.Numbers.{isPoint, number};
+ghost use Rattle.text_form.specs.Numbers.{isPoint, has, number};
 ghost use Rattle.numbers.specs.Answers.{numberOut};
 
 // A number token, or the number and the place of its refusal.
@@ -23,12 +24,41 @@ pub enum Number {
     Refused { number: u8, place: usize },
 }
 
-// The number of the bytes from start up to end (rule 13); a refusal's place is the token's start.
+// The number of the bytes from start up to end (rule 13); a refusal's place is the token's start. A whole number of up to 18
+// digits is read in one pass.
 pub fn number_at(text: &[u8], start: usize, end: usize) -> Number
     requires { ⌜ (start ≤ end) × (end ≤ length (now text)) ⌝ }
     ensures { λ r. ⌜ numberOut r ≡ number (take (end - start) (drop start (now (text .entry)))) start ⌝ }
 {
-    let point = decimals::first_of(text, start, end, 46, 46);
+    let negative = digits::minus_at(text, start, end);
+    let from = digits::behind_minus(negative, start);
+    if 18 < end - from {
+        return any_number(text, start, start, end);
+    }
+    let row = runs::run_from(text, 0, from, end);
+    let value = row.value;
+    let to = row.end;
+    if to <= from {
+        return any_number(text, start, start, end);
+    }
+    if to == end {
+        return Number::Int(wholes::signed_i64(negative, value));
+    }
+    if to + 1 == end {
+        let last = text[to];
+        if wholes::is_suffix(last) {
+            return wholes::suffixed_number(last, negative, value);
+        }
+    }
+    any_number(text, start, to, end)
+}
+
+// The number of any token (rule 13), whose point, if it has one, is looked for from at on.
+fn any_number(text: &[u8], start: usize, at: usize, end: usize) -> Number
+    requires { ⌜ (start ≤ at) × (at ≤ end) × (end ≤ length (now text)) × (has isPoint (slice start at (now text)) ≡ false) ⌝ }
+    ensures { λ r. ⌜ numberOut r ≡ number (take (end - start) (drop start (now (text .entry)))) start ⌝ }
+{
+    let point = decimals::first_of(text, at, end, 46, 46);
     if point < end {
         return decimals::decimal_number(text, start, end);
     }

@@ -55,7 +55,7 @@ pub fn whole_at(text: &[u8], negative: bool, from: usize, to: usize) -> Digits
 }
 
 // Whether a byte is one of the suffixes b s l f d, of either case (rule 13).
-fn is_suffix(b: u8) -> bool
+pub fn is_suffix(b: u8) -> bool
     ensures { λ r. ⌜ r ≡ isSuffix b ⌝ }
 {
     match b {
@@ -69,7 +69,7 @@ fn is_suffix(b: u8) -> bool
 }
 
 // What a whole number becomes by its suffix (rule 13): with f or d the nearest double, with none an int.
-fn suffixed_number(b: u8, negative: bool, m: u64) -> Number
+pub fn suffixed_number(b: u8, negative: bool, m: u64) -> Number
     requires { ⌜ leb m (pick negative (2 ^ 63) (2 ^ 63 - 1)) ≡ true ⌝ }
     ensures { λ r. ⌜ numberOut r ≡ got (suffixed b (signed negative m)) ⌝ }
 {

@@ -1,33 +1,137 @@
--- `number_at` meets its contract: a token has a point where the first one stands before its end.
+-- `number_at` meets its contract: digits to the end are an int, digits and a suffix what the suffix says; `any_number` answers for all others.
 -- Assumes nothing.
 use borrow.Author.Needs.{needs}
-use mathlib.Core.Path.{_≡_, _∙_}
-use Rattle.numbers.proofs.Grammar.{number-with, number-without}
+use mathlib.Core.Path.{_≡_, sym, ap, _∙_}
+use mathlib.Core.Bool.{true}
+use Prim.Native.Nat.{_^_, _-_, _≤_}
+use native.Mathlib.Nat.{le-refl}
+use native.Mathlib.Omega.{arith}
+use lib.Dec.{leb}
+use lib.IntN.{ℤ}
+use mir.Syntax.{w64}
+use mir.ValLaws.{toZ-ofZ}
+use Rattle.form.specs.Answer.{got, pick}
+use Rattle.floats.proofs.Operations.{ten-pos}
+use Rattle.text_form.specs.Numbers.{int}
+use Rattle.numbers.proofs.OnePass.{in-range, none-no-point, from-le, run-no-point, run-small, short-int, short-suffixed}
 use Rattle.numbers.proofs.number_at.Statement.{statement}
 use Rattle.numbers.proofs.number_at.Tie as tie
 
-first-of-requires : tie.Need-first-of-requires
-first-of-requires c κs = search needs
+minus-at-requires : tie.Need-minus-at-requires
+minus-at-requires c κs = search needs
 
-decimal-number-requires : tie.Need-decimal-number-requires
-decimal-number-requires c κs = search needs
+behind-minus-requires : tie.Need-behind-minus-requires
+behind-minus-requires c κs = search needs
+
+-- the digits start in the token
+starts : (c : tie.After-behind-minus) → let a = c .before .before .before .args in (a .start ≤ c .behind-minus .result) × (c .behind-minus .result ≤ a .end)
+starts c =
+    let z = c .before .before .before in
+    from-le (z .args .start) (z .args .end) (c .behind-minus .result) (c .before .minus-at .result) (z .args .text .now) (z .pre .0) (z .pre .1) (c .before .minus-at .ensures) (c .behind-minus .ensures)
+
+sub-if1 : tie.Need-sub-if1
+sub-if1 c = starts c .1
+
+any-number-requires : tie.Need-any-number-requires
+any-number-requires c κs =
+    let z = c .before .before .before .before in
+    (le-refl (z .args .start), z .pre .0, z .pre .1, none-no-point (z .args .start) (z .args .text .now))
 
 returns : tie.Need-returns
-returns c =
-    let p = c .before .before in
-    let z = p .before .before in
-    let a = z .args in
-    c .decimal-number .ensures ∙ number-with (a .start) (a .end) (p .first-of .result) (a .start) (a .text .now) (p .first-of .ensures) (z .pre .0) (z .pre .1) (c .before .if1 .taken)
+returns c = search needs
 
-whole-number-requires : tie.Need-whole-number-requires
-whole-number-requires c κs = search needs
+run-from-requires : tie.Need-run-from-requires
+run-from-requires c κs =
+    let f = c .before in
+    let z = f .before .before .before in
+    (starts f .1, z .pre .1, omega (arith, c .if1 .left, starts f .1), ten-pos (18 - (z .args .end - f .behind-minus .result)))
+
+any-number-requires-2 : tie.Need-any-number-requires-2
+any-number-requires-2 c κs =
+    let z = c .before .before .before .before .before .before in
+    (le-refl (z .args .start), z .pre .0, z .pre .1, none-no-point (z .args .start) (z .args .text .now))
+
+-- the number of the digits is one of an i64
+fits : (c : tie.After-run-from) → leb (c .run-from .result .value) (pick (c .before .before .before .minus-at .result) (2 ^ 63) (2 ^ 63 - 1)) ≡ true
+fits c =
+    let f = c .before .before in
+    let z = f .before .before .before in
+    in-range (f .before .minus-at .result) (c .run-from .result .value)
+    (run-small (z .args .start) (z .args .end) (f .behind-minus .result) (f .before .minus-at .result) (z .args .text .now) (z .pre .0) (z .pre .1) (f .before .minus-at .ensures) (f .behind-minus .ensures) (c .run-from .result) (c .run-from .ensures))
 
 returns-2 : tie.Need-returns-2
-returns-2 c =
-    let p = c .before .before in
-    let z = p .before .before in
-    let a = z .args in
-    c .whole-number .ensures ∙ number-without (a .start) (a .end) (p .first-of .result) (a .start) (a .text .now) (p .first-of .ensures) (z .pre .0) (z .pre .1) (c .before .if1 .left)
+returns-2 c = search needs
+
+signed-i64-requires : tie.Need-signed-i64-requires
+signed-i64-requires c κs = fits (c .before .before)
+
+returns-3 : tie.Need-returns-3
+returns-3 c =
+    let t = c .before in
+    let r = t .before .before in
+    let f = r .before .before in
+    let z = f .before .before .before in
+    ap (λ (n : ℤ). got (int n)) (toZ-ofZ w64 (c .signed-i64 .result) (record { sfits = c .signed-i64 .ok }) ∙ c .signed-i64 .ensures)
+    ∙ short-int (z .args .start) (z .args .end) (f .behind-minus .result) (f .before .minus-at .result) (z .args .text .now) (z .pre .0) (z .pre .1) (f .before .minus-at .ensures) (f .behind-minus .ensures) (r .run-from .result) (r .run-from .ensures)
+    (t .before .if2 .left) (t .if3 .taken)
+
+add-if4 : tie.Need-add-if4
+add-if4 c = search needs
+
+shared-slice-read-last : tie.Need-shared-slice-read-last
+shared-slice-read-last c = search needs
+
+is-suffix-requires : tie.Need-is-suffix-requires
+is-suffix-requires c κs = search needs
+
+suffixed-number-requires : tie.Need-suffixed-number-requires
+suffixed-number-requires c κs = fits (c .before .before .before .before .before .before)
+
+returns-4 : tie.Need-returns-4
+returns-4 c =
+    let x = c .before .before in
+    let t = x .before .before in
+    let e = t .before .before in
+    let r = e .before in
+    let f = r .before .before in
+    let z = f .before .before .before in
+    c .suffixed-number .ensures
+    ∙ short-suffixed (z .args .start) (z .args .end) (f .behind-minus .result) (f .before .minus-at .result) (z .args .text .now) (z .pre .0) (z .pre .1) (f .before .minus-at .ensures) (f .behind-minus .ensures) (r .run-from .result) (r .run-from .ensures)
+    (e .if2 .left) (t .if4 .taken) (sym (x .is-suffix .ensures) ∙ c .before .if5 .taken)
+
+any-number-requires-3 : tie.Need-any-number-requires-3
+any-number-requires-3 c κs =
+    let r = c .before .before .before in
+    let f = r .before .before in
+    let z = f .before .before .before in
+    let p = r .run-from .ensures in (
+      omega (arith, p .low, starts f .0),
+      p .high,
+      z .pre .1,
+      run-no-point (z .args .start) (z .args .end) (f .behind-minus .result) (f .before .minus-at .result) (z .args .text .now) (z .pre .0) (z .pre .1) (f .before .minus-at .ensures) (f .behind-minus .ensures) (r .run-from .result) p,
+    )
+
+returns-5 : tie.Need-returns-5
+returns-5 c = search needs
 
 pub number-at-spec : {M : Type 1} → statement M
-number-at-spec = tie.close (tie.spec first-of-requires decimal-number-requires returns whole-number-requires returns-2)
+number-at-spec =
+    tie.close
+    (tie.spec
+    minus-at-requires
+    behind-minus-requires
+    sub-if1
+    any-number-requires
+    returns
+    run-from-requires
+    any-number-requires-2
+    returns-2
+    signed-i64-requires
+    returns-3
+    add-if4
+    shared-slice-read-last
+    is-suffix-requires
+    suffixed-number-requires
+    returns-4
+    any-number-requires-3
+    returns-5)

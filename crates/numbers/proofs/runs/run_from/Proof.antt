@@ -1,0 +1,100 @@
+-- `runs::run_from` meets its contract. The loop's invariant: the bytes up to i are digits, and n is their number.
+-- Assumes nothing.
+use mathlib.Core.Path.{_≡_, subst}
+use mathlib.Core.Bool.{true}
+use Prim.Native.Nat.{ℕ, suc, _+_, _-_, _*_, _^_, _≤_, _<_}
+use native.Mathlib.Omega.{arith}
+use lib.ListN.{getD}
+use lib.Seq.{slice}
+use Rattle.text_form.specs.Numbers.{digits, worth}
+use Rattle.numbers.proofs.Rows.{is-digit}
+use Rattle.numbers.proofs.OnePass.{row-more, row-none, ten-more, ten-most}
+use Rattle.numbers.proofs.runs.run_from.Statement.{statement}
+use Rattle.numbers.proofs.runs.run_from.Tie as tie
+
+abbrev Inv-loop : tie.InvT-loop
+Inv-loop text first at to n₀ i₀ n i = (at ≤ i) × (i ≤ to) × (digits (slice at i text) ≡ true) × (n ≡ worth first (slice at i text)) × (n < 10 ^ (18 - (to - i)))
+
+abbrev μ-loop : tie.MeasureT-loop
+μ-loop text first at to n₀ i₀ n i = to - i
+
+-- the number with one digit more
+grown : (n d at to i : ℕ) → at ≤ i → i < to → to ≤ at + 18 → n < 10 ^ (18 - (to - i)) → d ≤ 9 → n * 10 + d < 10 ^ (18 - (to - (i + 1)))
+grown n d at to i h g r l e = subst (λ (k : ℕ). n * 10 + d < 10 ^ k) (place at to i h g r) (ten-more n d (18 - (to - i)) l e)
+  where
+    place : (at to i : ℕ) → at ≤ i → i < to → to ≤ at + 18 → suc (18 - (to - i)) ≡ 18 - (to - (i + 1))
+    place at to i h g r = omega arith
+
+loop-holds : tie.Need-loop-holds Inv-loop μ-loop
+loop-holds c =
+    let w = row-none (c .args .first) (c .args .at) (c .args .text .now) in
+    (omega arith, c .pre .0, w .0, w .1, c .pre .3)
+
+shared-slice-read-b : tie.Need-shared-slice-read-b Inv-loop μ-loop
+shared-slice-read-b c = omega arith
+
+returns : tie.Need-returns Inv-loop μ-loop
+returns c = let v = c .before .before .before .loop .inv in record { low = v .0; high = v .1; row = v .2; is = v .3; small = v .4 }
+
+returns-2 : tie.Need-returns-2 Inv-loop μ-loop
+returns-2 c = let v = c .before .before .before .before .loop .inv in record { low = v .0; high = v .1; row = v .2; is = v .3; small = v .4 }
+
+-- one digit more keeps below 18 digits
+bound : (c : tie.Else2 Inv-loop μ-loop) → let l = c .before .before .before .before .loop in
+    let a = c .before .before .before .before .before .args in
+    l .n * 10 + (getD (a .text .now) (l .i) 0 - 48) < 10 ^ (18 - (a .to - (l .i + 1)))
+bound c =
+    let z = c .before .before .before .before .before in
+    let l = c .before .before .before .before .loop in
+    grown (l .n) (getD (z .args .text .now) (l .i) 0 - 48) (z .args .at) (z .args .to) (l .i) (l .inv .0) (c .before .before .before .loop-test .taken) (z .pre .2) (l .inv .4) (omega (arith, c .if2 .left))
+
+most : (c : tie.Else2 Inv-loop μ-loop) → let l = c .before .before .before .before .loop in
+    l .n * 10 + (getD (c .before .before .before .before .before .args .text .now) (l .i) 0 - 48) < 10 ^ 18
+most c =
+    let z = c .before .before .before .before .before in
+    let l = c .before .before .before .before .loop in
+    ten-most (l .n * 10 + (getD (z .args .text .now) (l .i) 0 - 48)) (18 - (z .args .to - (l .i + 1))) (bound c) (omega arith)
+
+mul-n : tie.Need-mul-n Inv-loop μ-loop
+mul-n c = omega (arith, most c)
+
+cast-n : tie.Need-cast-n Inv-loop μ-loop
+cast-n c = omega (arith, c .if2 .left)
+
+add-n : tie.Need-add-n Inv-loop μ-loop
+add-n c = omega (arith, most c)
+
+add-i : tie.Need-add-i Inv-loop μ-loop
+add-i c = omega arith
+
+loop-less : tie.Need-loop-less Inv-loop μ-loop
+loop-less c = omega arith
+
+loop-again : tie.Need-loop-again Inv-loop μ-loop
+loop-again c =
+    let l = c .before .before .before .before .loop in
+    let z = c .before .before .before .before .before in
+    let b = getD (z .args .text .now) (l .i) 0 in
+    let w = row-more (z .args .first) (z .args .at) (l .i) (l .n) (z .args .text .now) (l .inv .0) (omega arith) (is-digit b (c .before .if1 .left) (c .if2 .left)) (l .inv .2) (l .inv .3) in
+    (omega arith, omega arith, w .0, w .1, bound c)
+
+returns-3 : tie.Need-returns-3 Inv-loop μ-loop
+returns-3 c = let v = c .before .loop .inv in record { low = v .0; high = v .1; row = v .2; is = v .3; small = v .4 }
+
+pub run-from-spec : {M : Type 1} → statement M
+run-from-spec =
+    tie.close
+    (tie.spec
+    Inv-loop
+    μ-loop
+    loop-holds
+    shared-slice-read-b
+    returns
+    returns-2
+    mul-n
+    cast-n
+    add-n
+    add-i
+    loop-less
+    loop-again
+    returns-3)
