@@ -61,16 +61,12 @@ pub fn first_byte(b: u8) -> usize
 fn is_ordinary(b: u8) -> bool
     ensures { λ r. ⌜ (r ≡ true → Ordinary b) ⌝ }
 {
-    if 94 <= b {
-        return b <= 122;
+    match b {
+        45..=57 => true,
+        60..=90 => true,
+        94..=122 => true,
+        _ => false,
     }
-    if 60 <= b {
-        return b <= 90;
-    }
-    if 57 < b {
-        return false;
-    }
-    45 <= b
 }
 
 // The first place from a place on at which no such byte stands.

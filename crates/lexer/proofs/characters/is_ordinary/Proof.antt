@@ -3,7 +3,6 @@
 use Prim.Native.Nat.{ℕ}
 use mathlib.Core.Path.{_≡_}
 use native.Mathlib.Omega.{arith}
-use borrow.Author.Tests.{leb-true}
 use Rattle.lexer.proofs.characters.is_ordinary.Statement.{statement}
 use Rattle.lexer.proofs.characters.is_ordinary.Tie as tie
 
@@ -11,9 +10,7 @@ pub is-ordinary-spec : {M : Type 1} → statement M
 is-ordinary-spec =
     tie.close
     (tie.spec
-    (λ c e.
-    let k = leb-true (c .before .args .b) 122 e in
-    record {
+    (λ c e. record {
       low = omega arith;
       high = omega arith;
       colon = λ z. omega arith;
@@ -22,9 +19,16 @@ is-ordinary-spec =
       backslash = λ z. omega arith;
       closing = λ z. omega arith;
     })
-    (λ c e.
-    let k = leb-true (c .before .before .args .b) 90 e in
-    record {
+    (λ c e. record {
+      low = omega arith;
+      high = omega arith;
+      colon = λ z. omega arith;
+      semicolon = λ z. omega arith;
+      opening = λ z. omega arith;
+      backslash = λ z. omega arith;
+      closing = λ z. omega arith;
+    })
+    (λ c e. record {
       low = omega arith;
       high = omega arith;
       colon = λ z. omega arith;
@@ -34,14 +38,6 @@ is-ordinary-spec =
       closing = λ z. omega arith;
     })
     (λ c e. let z : _≡_ {A = ℕ} 0 1 = cc in absurd (omega arith))
-    (λ c e.
-    let k = leb-true 45 (c .before .before .before .args .b) e in
-    record {
-      low = omega arith;
-      high = omega arith;
-      colon = λ z. omega arith;
-      semicolon = λ z. omega arith;
-      opening = λ z. omega arith;
-      backslash = λ z. omega arith;
-      closing = λ z. omega arith;
-    }))
+    (λ c e. let z : _≡_ {A = ℕ} 0 1 = cc in absurd (omega arith))
+    (λ c e. let z : _≡_ {A = ℕ} 0 1 = cc in absurd (omega arith))
+    (λ c e. let z : _≡_ {A = ℕ} 0 1 = cc in absurd (omega arith)))
