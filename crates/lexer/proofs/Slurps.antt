@@ -12,7 +12,7 @@ use lib.Dec.{ltb, eqb}
 use lib.ListN.{length, getD, drop, drop-of-length-le}
 use Rattle.form.specs.Answer.{pick}
 use Rattle.form.proofs.Drops.{drop1}
-use Rattle.text_form.specs.Lexing.{Stops, default, key, value, first, later, Scan, among, blank, begins, stopSet, within, stops, level, grown, after, wordOf, slurp, begun, word, skipBy, skip}
+use Rattle.text_form.specs.Lexing.{Stops, default, key, value, first, later, Scan, among, blank, begins, stopSet, within, stops, level, grown, after, Word, wordOf, slurp, begun, word, skipBy, skip}
 use Rattle.text_form.proofs.Moves.{either-way}
 use Rattle.lexer.specs.Runs.{Ordinary, Run, Bounded, extended}
 
@@ -185,6 +185,19 @@ module _ (set : Stops) (t : List ℕ) where
     pub going-end : (i : ℕ) (s : Scan) → length t ≤ i → Going s i → wordOf s i ≡ word set t start
     unfolding slurp
     going-end i s h g = rw (drop-of-length-le t {i = i} h) at g
+
+    -- a run behind the first character that a stop character ends is the whole token
+    pub word-run : (j : ℕ) → Run t (start + 1) j → j < length t → among (stopSet set) (getD t j 0) ≡ true
+        → _≡_ {A = Word} (record { end = j; width = j - start; next = j }) (word set t start)
+    word-run j r h e = go (eq-or-lt-of-le (r .low))
+      where
+        -- the width, counted from the first character and from the run
+        widths : (m n : ℕ) → m ≡ n → _≡_ {A = Word} (record { end = j; width = m; next = j }) (record { end = j; width = n; next = j })
+        widths m n z = ap (λ (w : ℕ). record { end = j; width = w; next = j }) z
+
+        go : (start + 1 ≡ j) ⊎ (start + 1 < j) → _≡_ {A = Word} (record { end = j; width = j - start; next = j }) (word set t start)
+        go (inl z) = widths (j - start) 1 (omega (arith, z)) ∙ going-stop j (record { curly = 0; square = 0; single = false; double = false; escape = false; end = j; width = 1 }) h e (rw (← z) going-start)
+        go (inr z) = widths (j - start) (1 + (j - (start + 1))) (omega (arith, z)) ∙ going-stop j (extended (begun start) (j - (start + 1)) j) h e (going-run (start + 1) j (begun start) z r going-start)
 
 -- ---- blanks
 

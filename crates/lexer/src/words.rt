@@ -146,8 +146,8 @@ fn after_run(st: State, i: usize, j: usize) -> State
     n
 }
 
-// The unquoted token at a place, its first character unexamined (rule 11).
-pub fn word_at(text: &[u8], start: usize, set: Stops) -> Word
+// The unquoted token at a place, its first character unexamined, run by run and byte by byte (rule 11).
+fn word_from(text: &[u8], start: usize, set: Stops) -> Word
     requires { ⌜ start < length (now text) ⌝ }
     ensures { λ r. ⌜ wordIs r ≡ word (stopsIs set) (now (text .entry)) start ⌝ }
 {
@@ -184,4 +184,22 @@ pub fn word_at(text: &[u8], start: usize, set: Stops) -> Word
         width: st.width,
         next: i,
     }
+}
+
+// The same; a run of ordinary characters that a stop character ends at once is the whole token, and most tokens are of this sort.
+pub fn word_at(text: &[u8], start: usize, set: Stops) -> Word
+    requires { ⌜ start < length (now text) ⌝ }
+    ensures { λ r. ⌜ wordIs r ≡ word (stopsIs set) (now (text .entry)) start ⌝ }
+{
+    let end = run_end(text, start + 1);
+    if end < text.len() {
+        if is_stop(set, text[end]) {
+            return Word {
+                end,
+                width: end - start,
+                next: end,
+            };
+        }
+    }
+    word_from(text, start, set)
 }

@@ -1,4 +1,4 @@
--- `word_at` meets its contract: from each place that the loop comes to, rule 11's walk gives the same token.
+-- `word_from` meets its contract: from each place that the loop comes to, rule 11's walk gives the same token.
 -- Assumes nothing.
 use Prim.Native.Nat.{_-_, _≤_}
 use mathlib.Core.Path.{sym, _∙_}
@@ -9,8 +9,8 @@ use Rattle.tokens.specs.Answers.{stopsIs}
 use Rattle.lexer.specs.Answers.{scanOf}
 use Rattle.lexer.specs.Runs.{Bounded}
 use Rattle.lexer.proofs.Slurps.{Going, going-start, going-run, going-on, going-stop, going-end, after-kept, run-kept}
-use Rattle.lexer.proofs.words.word_at.Statement.{statement}
-use Rattle.lexer.proofs.words.word_at.Tie as tie
+use Rattle.lexer.proofs.words.word_from.Statement.{statement}
+use Rattle.lexer.proofs.words.word_from.Tie as tie
 
 abbrev Inv-loop : tie.InvT-loop
 Inv-loop text start set i₀ st₀ i st = (i ≤ length text) × Bounded (scanOf st) i × Going (stopsIs set) text start (scanOf st) i
@@ -18,8 +18,8 @@ Inv-loop text start set i₀ st₀ i st = (i ≤ length text) × Bounded (scanOf
 abbrev μ-loop : tie.MeasureT-loop
 μ-loop text start set i₀ st₀ i st = length text - i
 
-pub word-at-spec : {M : Type 1} → statement M
-word-at-spec =
+pub word-from-spec : {M : Type 1} → statement M
+word-from-spec =
     tie.close
     (tie.spec
     Inv-loop
