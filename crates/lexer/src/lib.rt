@@ -22,7 +22,13 @@ ghost use Rattle.text_form.specs.Numbers.{isDigit};
 ghost use Rattle.text_form.specs.Lexing.{made, unquotedAt, quotedAt, tokenBy, tokenAt, lexed};
 ghost use Rattle.numbers.specs.Answers.{numberOut};
 ghost use Rattle.tokens.specs.Answers.{tokenIs, lexedOut, stopsIs};
-ghost use Rattle.lexer.specs.Answers.{numeralAt};
+ghost use Rattle.lexer.specs.Answers.{numeralAt, FrontIs};
+
+// A byte and its place.
+pub struct Front {
+    pub byte: u8,
+    pub place: usize,
+}
 
 // A token at i of some width, and the next place (rule 10).
 fn found(token: Token, i: usize, width: usize, next: usize) -> Lexed
@@ -124,6 +130,20 @@ fn token_by(text: &[u8], i: usize, set: Stops, b: u8) -> Lexed
         34 | 39 => quoted_found(text, i),
         _ => unquoted_at(text, i, set),
     }
+}
+
+// The first byte from a place on that is not blank, and its place: a sign's where the next token is that sign (rule 10). 0 at the end.
+pub fn front_at(text: &[u8], start: usize) -> Front
+    ensures { λ r. ⌜ FrontIs (now (text .entry)) start r ⌝ }
+{
+    let place = characters::skip_blank(text, start);
+    if place < text.len() {
+        return Front {
+            byte: text[place],
+            place,
+        };
+    }
+    Front { byte: 0, place }
 }
 
 // The next token from a place on, or the end, in a text that was judged (rules 10 to 13): the parser asks this.
