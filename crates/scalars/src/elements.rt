@@ -105,32 +105,29 @@ pub fn element(
     requires { ⌜ (place ≤ length (now text)) × Wide width ⌝ }
     ensures { λ r. ⌜ TurnIs (now (text .entry)) width brace last place used (now (out .entry)) r (now (out .exit)) ⌝ }
 {
+    let front = lexer::front_at(text, place);
+    let here = front.place;
+    if front.byte == b',' {
+        return Turn::Comma {
+            index: here,
+            next: here + 1,
+        };
+    }
+    if front.byte == b']' {
+        if last == 0 {
+            return Turn::End { next: here + 1 };
+        }
+        return Turn::No {
+            number: form::TRAILING_COMMA,
+            place: last,
+        };
+    }
     match lexer::token_at(text, place, Stops::Later) {
         Lexed::Refused { number, place } => Turn::No { number, place },
         Lexed::Ended { place: _ } => Turn::No {
             number: form::UNMATCHED_BRACE,
             place: brace,
         },
-        Lexed::Found { data, next } => {
-            let token = data.token;
-            let sign = tokens::sign(token);
-            if sign == b',' {
-                let index = data.index;
-                return Turn::Comma {
-                    index: index.0,
-                    next,
-                };
-            }
-            if sign == b']' {
-                if last == 0 {
-                    return Turn::End { next };
-                }
-                return Turn::No {
-                    number: form::TRAILING_COMMA,
-                    place: last,
-                };
-            }
-            put_element(data, width, next, out, used)
-        }
+        Lexed::Found { data, next } => put_element(data, width, next, out, used),
     }
 }
