@@ -4,6 +4,7 @@ pub mod Sizes
 pub mod Steps
 pub mod Bytes
 pub mod Opening
+pub mod Fronts
 pub mod Quiet
 pub mod Values
 pub mod Loops

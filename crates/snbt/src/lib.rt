@@ -8,6 +8,7 @@ use tokens::Stops;
 use tokens::Token;
 use tokens::TokenData;
 ghost use mathlib.Core.Path.{_≡_};
+ghost use mathlib.Core.Logic.{_⊎_};
 ghost use mathlib.Core.List.{[], _∷_, _++_};
 ghost use Prim.Native.Nat.{ℕ, suc, _+_, _-_, _*_, _≤_, _<_};
 ghost use lib.ListN.{length, take, replicate};
@@ -130,28 +131,31 @@ fn due_at(text: &[u8], place: usize, set: Stops, number: u8, brace: usize) -> Du
     }
 }
 
-// A comma or the closing brace behind an element or an entry; any other token is refusal 19.
+// A comma or the closing brace behind an element or an entry, known by its character: only what is refused (19) is read as a token.
 fn following(text: &[u8], place: usize, closing: u8, number: u8, brace: usize) -> After
-    requires { ⌜ place ≤ length (now text) ⌝ }
+    requires { ⌜ (place ≤ length (now text)) × ((closing ≡ 93) ⊎ (closing ≡ 125)) ⌝ }
     ensures { λ r. ⌜ AfterIs (now (text .entry)) closing place number brace r ⌝ }
 {
+    let front = lexer::front_at(text, place);
+    let b = front.byte;
+    let here = front.place;
+    if b == b',' {
+        return After::Comma {
+            place: here,
+            next: here + 1,
+        };
+    }
+    if b == closing {
+        return After::Close {
+            place: here,
+            next: here + 1,
+        };
+    }
     match due_at(text, place, Stops::Default, number, brace) {
-        Due::Is { td, next } => {
-            let token = td.token;
-            let index = td.index;
-            let here = index.0;
-            let sign = tokens::sign(token);
-            if sign == b',' {
-                return After::Comma { place: here, next };
-            }
-            if sign == closing {
-                return After::Close { place: here, next };
-            }
-            After::No {
-                number: form::UNEXPECTED_TOKEN,
-                place: here,
-            }
-        }
+        Due::Is { td: _, next: _ } => After::No {
+            number: form::UNEXPECTED_TOKEN,
+            place: here,
+        },
         Due::No {
             number: n,
             place: p,
@@ -327,24 +331,22 @@ fn empty(out: &mut [u8], at: usize, next: usize) -> Done
 
 // ---- compounds (rule 15)
 
-// The `:` behind a key, and its value's token.
+// The `:` behind a key, known by its character, and its value's token; any other token is refusal 19.
 fn behind_key(text: &[u8], place: usize, brace: usize) -> Due
     requires { ⌜ place ≤ length (now text) ⌝ }
     ensures { λ r. ⌜ ColonIs (now (text .entry)) brace place r ⌝ }
 {
+    let front = lexer::front_at(text, place);
+    let here = front.place;
+    if front.byte == b':' {
+        return due_at(text, here + 1, Stops::Value, form::TEXT_ENDS, text.len());
+    }
     match due_at(text, place, Stops::Default, form::UNMATCHED_BRACE, brace) {
+        Due::Is { td: _, next: _ } => Due::No {
+            number: form::UNEXPECTED_TOKEN,
+            place: here,
+        },
         Due::No { number, place: p } => Due::No { number, place: p },
-        Due::Is { td, next } => {
-            let token = td.token;
-            let index = td.index;
-            if tokens::sign(token) != b':' {
-                return Due::No {
-                    number: form::UNEXPECTED_TOKEN,
-                    place: index.0,
-                };
-            }
-            due_at(text, next, Stops::Value, form::TEXT_ENDS, text.len())
-        }
     }
 }
 

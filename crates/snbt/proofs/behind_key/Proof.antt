@@ -1,64 +1,66 @@
--- The colon, then what is due behind it.
-use Prim.Native.Nat.{ℕ, suc, _+_, _-_, _*_, _≤_, _<_}
-use mathlib.Core.Path.{_≡_, refl, sym, ap, subst, _∙_}
-use mathlib.Core.Bool.{true, false}
-use mathlib.Core.List.{[], _∷_, _++_}
+-- The colon in front, then what is due behind it; any other token is refused.
+-- Assumes nothing.
 use native.Mathlib.Omega.{arith}
-use borrow.Author.Tests.{lt-ltb, le-ltb, le-leb, lt-leb, eq-eqb, ne-eqb}
-use lib.ListN.{length, length-set, take, drop, set, getD, replicate}
-use Rattle.text_form.proofs.Moves.{token-moves}
-use Rattle.snbt.proofs.Reading.{colon-no}
-use Rattle.snbt.proofs.Steps.{colon-none}
-use Rattle.snbt.proofs.Opening.{colon-then}
 use borrow.Author.Needs.{needs}
+use Rattle.text_form.specs.Lexing.{colon}
+use Rattle.snbt.proofs.Reading.{colon-no}
+use Rattle.snbt.proofs.Fronts.{sign-within, front-colon, front-none}
 use Rattle.snbt.proofs.behind_key.Statement.{statement}
 use Rattle.snbt.proofs.behind_key.Tie as tie
-use Rattle.snbt.proofs.behind_key.Reads as reads
-use Rattle.snbt.proofs.behind_key.Lts as lts
-use Rattle.snbt.proofs.due_at.Reads as due-at-reads
-use Rattle.tokens.proofs.sign.Reads as sign-reads
 
--- src/lib.rt:322:11
+front-at-requires : tie.Need-front-at-requires
+front-at-requires c κs = search needs
+
+add-due-at : tie.Need-add-due-at
+add-due-at c =
+    let f = c .before .before in
+    let b = f .before .before in
+    omega (arith, sign-within (b .args .text .now) (b .args .place) (f .front-at .result) (f .front-at .ensures) (b .pre) colon (omega arith) (c .if1 .taken))
+
 due-at-requires : tie.Need-due-at-requires
-due-at-requires c κs = search needs
+due-at-requires c κs =
+    let f = c .before .before in
+    let b = f .before .before in
+    sign-within (b .args .text .now) (b .args .place) (f .front-at .result) (f .front-at .ensures) (b .pre) colon (omega arith) (c .if1 .taken)
 
--- src/lib.rt:323:19
+returns : tie.Need-returns
+returns c =
+    let f = c .before .before .before in
+    let b = f .before .before in
+    front-colon (b .args .text .now) (b .args .place) (f .front-at .result) (f .front-at .ensures) (b .pre) (b .args .brace) (c .before .if1 .taken) (c .due-at .result) (c .due-at .ensures)
+
+due-at-requires-2 : tie.Need-due-at-requires-2
+due-at-requires-2 c κs = search needs
+
+enum-told : tie.Need-enum-told
+enum-told c = search needs
+
 enum-known-number : tie.Need-enum-known-number
 enum-known-number c = search needs
 
--- src/lib.rt:324:19
-enum-known-td : tie.Need-enum-known-td
-enum-known-td c = search needs
-
--- src/lib.rt:327:16
-sign-requires : tie.Need-sign-requires
-sign-requires c κs = search needs
-
--- src/lib.rt:328:17
-returns : tie.Need-returns
-returns c = colon-none (c .before .before .before .before .before .before .before .before .args .text .now) (c .before .before .before .before .before .before .before .before .args .brace) (c .before .before .before .before .before .before .before .before .args .place) _ _ (rw (c .before .before .before .before .td .given .1) at (c .before .before .before .before .before .before .due-at .ensures)) (c .before .before .before .before .before .before .before .before .pre) (λ e. c .if1 .taken (c .before .sign .ensures ∙ e))
-
--- src/lib.rt:333:13
-due-at-requires-2 : tie.Need-due-at-requires-2
-due-at-requires-2 c κs = token-moves _ (c .before .before .before .before .before .before .before .before .args .text .now) (c .before .before .before .before .before .before .before .before .args .place) _ _ (rw (c .before .before .before .before .td .given .1) at (c .before .before .before .before .before .before .due-at .ensures)) (c .before .before .before .before .before .before .before .before .pre) .2
-
--- src/lib.rt:318:1
 returns-2 : tie.Need-returns-2
-returns-2 c = λ room. colon-no (c .before .before .before .before .before .args .text .now) room (c .before .before .before .before .before .args .brace) (c .before .before .before .before .before .args .place) _ _ ((rw (c .before .number .given .1) at (c .before .before .before .due-at .ensures)) room)
+returns-2 c =
+    let l = c .before .before .before in
+    let f = l .before .before in
+    let b = f .before .before in
+    front-none (b .args .text .now) (b .args .place) (f .front-at .result) (f .front-at .ensures) (b .pre) (b .args .brace) (l .if1 .left) _ _ (rw (c .enum-told .given .1) at (c .before .before .due-at2 .ensures))
 
--- src/lib.rt:318:1
 returns-3 : tie.Need-returns-3
-returns-3 c = colon-then (c .before .before .before .before .before .before .before .before .before .args .text .now) (c .before .before .before .before .before .before .before .before .before .args .brace) (c .before .before .before .before .before .before .before .before .before .args .place) _ _ (c .due-at2 .result) (rw (c .before .before .before .before .before .td .given .1) at (c .before .before .before .before .before .before .before .due-at .ensures)) (c .before .before .before .before .before .before .before .before .before .pre) (sym (c .before .before .sign .ensures) ∙ c .before .if1 .left) (c .due-at2 .ensures)
+returns-3 c =
+    let d = c .before .before .before in
+    let b = d .before .before .before .before .before in
+    λ room. colon-no (b .args .text .now) room (b .args .brace) (b .args .place) _ _ ((rw (c .before .number .given .1) at (d .due-at2 .ensures)) room)
 
 pub behind-key-spec : {M : Type 1} → statement M
 behind-key-spec =
     tie.close
     (tie.spec
+    front-at-requires
+    add-due-at
     due-at-requires
-    enum-known-number
-    enum-known-td
-    sign-requires
     returns
     due-at-requires-2
+    enum-told
+    enum-known-number
     returns-2
     returns-3)

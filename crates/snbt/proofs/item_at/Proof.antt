@@ -2,6 +2,7 @@
 use Prim.Native.Nat.{ℕ, suc, _+_, _-_, _*_, _≤_, _<_}
 use mathlib.Core.Path.{_≡_, refl, sym, ap, subst, _∙_}
 use mathlib.Core.Bool.{true, false}
+use mathlib.Core.Logic.{inl}
 use mathlib.Core.List.{[], _∷_, _++_}
 use native.Mathlib.Omega.{arith}
 use borrow.Author.Tests.{lt-ltb, le-ltb, le-leb, lt-leb, eq-eqb, ne-eqb}
@@ -18,7 +19,7 @@ use Rattle.snbt.proofs.following.Reads as following-reads
 
 -- src/lib.rt:159:11
 following-requires : tie.Need-following-requires
-following-requires c κs = search needs
+following-requires c κs = (omega arith, inl refl)
 
 -- src/lib.rt:160:34
 enum-known-next : tie.Need-enum-known-next

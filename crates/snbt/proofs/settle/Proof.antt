@@ -2,6 +2,7 @@
 use Prim.Native.Nat.{ℕ, suc, _+_, _-_, _*_, _≤_, _<_}
 use mathlib.Core.Path.{_≡_, refl, sym, ap, subst, _∙_}
 use mathlib.Core.Bool.{true, false}
+use mathlib.Core.Logic.{inr}
 use mathlib.Core.List.{[], _∷_, _++_}
 use native.Mathlib.Omega.{arith}
 use borrow.Author.Tests.{lt-ltb, le-ltb, le-leb, lt-leb, eq-eqb, ne-eqb}
@@ -33,7 +34,7 @@ put-in-requires c κs = search needs
 
 -- src/lib.rt:456:11
 following-requires : tie.Need-following-requires
-following-requires c κs = search needs
+following-requires c κs = (omega arith, inr refl)
 
 -- src/lib.rt:457:31
 enum-known-p : tie.Need-enum-known-p

@@ -1,0 +1,69 @@
+-- What the byte in front of a token leads to: a sign by its character, any other token by what it is not.
+-- Assumes nothing.
+use Prim.Native.Nat.{ℕ, _+_, _≤_, _<_}
+use mathlib.Core.Path.{_≡_, refl, sym, subst, _∙_}
+use mathlib.Core.Logic.{_⊎_, inl, inr}
+use mathlib.Core.List.{List}
+use native.Mathlib.Omega.{arith}
+use lib.ListN.{length}
+use Rattle.form.specs.Answer.{got, no, _>>=_, textEnds, unexpectedToken}
+use Rattle.text_form.specs.Lexing.{default, value, Token, comma, colon, closedSquare, closedCurly, TokenData, found, tokenAt}
+use Rattle.text_form.specs.Text.{signOf, due, following, colonAt}
+use Rattle.text_form.proofs.Moves.{token-moves}
+use Rattle.lexer.specs.Answers.{FrontIs}
+use Rattle.lexer.specs.declared.Front.{Front}
+use Rattle.snbt.specs.declared.After.{After}
+use Rattle.snbt.specs.declared.Due.{Due}
+use Rattle.snbt.specs.Steps.{DueIs, AfterIs, ColonIs}
+use Rattle.snbt.proofs.Steps.{after-comma, after-close, after-other, colon-none}
+use Rattle.snbt.proofs.Opening.{colon-then}
+
+module _ (t : List ℕ) (p : ℕ) (f : Front) (is : FrontIs t p f) (h : p ≤ length t) where
+  -- the sign in front as a token
+  abbrev ahead : Token → TokenData
+  ahead k = record { token = k; index = f .place; width = 1 }
+
+  -- behind a sign the text goes on or ends
+  pub sign-within : (k : Token) → 0 < signOf k → f .byte ≡ signOf k → f .place + 1 ≤ length t
+  sign-within k z e = token-moves default t p (ahead k) (f .place + 1) (is .sign default k z e) h .2
+
+  -- ---- what follows an element or an entry
+
+  module _ (closing n q : ℕ) where
+    pub front-comma : f .byte ≡ 44 → AfterIs t closing p n q (After.Comma (f .place) (f .place + 1))
+    front-comma e = after-comma t closing p n q (ahead comma) (f .place + 1) (is .sign default comma (omega arith) e) h refl
+
+    closed : (k : Token) → 0 < signOf k → (signOf k ≡ 44 → ⊥) → closing ≡ signOf k → f .byte ≡ closing → AfterIs t closing p n q (After.Close (f .place) (f .place + 1))
+    closed k z g s e = after-close t closing p n q (ahead k) (f .place + 1) (is .sign default k z (e ∙ s)) h g (sym s)
+
+    pub front-close : (closing ≡ 93) ⊎ (closing ≡ 125) → f .byte ≡ closing → AfterIs t closing p n q (After.Close (f .place) (f .place + 1))
+    front-close (inl s) e = closed closedSquare (omega arith) (λ z. omega (arith, z)) s e
+    front-close (inr s) e = closed closedCurly (omega arith) (λ z. omega (arith, z)) s e
+
+    pub close-within : (closing ≡ 93) ⊎ (closing ≡ 125) → f .byte ≡ closing → f .place + 1 ≤ length t
+    close-within (inl s) e = sign-within closedSquare (omega arith) (e ∙ s)
+    close-within (inr s) e = sign-within closedCurly (omega arith) (e ∙ s)
+
+    positive : (closing ≡ 93) ⊎ (closing ≡ 125) → 0 < closing
+    positive (inl s) = omega (arith, s)
+    positive (inr s) = omega (arith, s)
+
+    pub front-other : (closing ≡ 93) ⊎ (closing ≡ 125) → (f .byte ≡ 44 → ⊥) → (f .byte ≡ closing → ⊥) → (d : TokenData) (m : ℕ) → tokenAt default t p ≡ got (found d m)
+        → (room : ℕ) → following t room closing p n q ≡ no unexpectedToken (f .place)
+    front-other x g s d m e room =
+        let z = is .token default d m e in
+        subst (λ (i : ℕ). following t room closing p n q ≡ no unexpectedToken i) (z .0)
+        (after-other t closing p n q d m e h (λ y. g (z .1 (omega (arith, y)) ∙ y)) (λ y. s (z .1 (omega (arith, y, positive x)) ∙ y)) room)
+
+  -- ---- the colon
+
+  module _ (brace : ℕ) where
+    pub front-colon : f .byte ≡ 58 → (r : Due) → DueIs t value (f .place + 1) textEnds (length t) r → ColonIs t brace p r
+    front-colon e r g = colon-then t brace p (ahead colon) (f .place + 1) r (is .sign default colon (omega arith) e) h refl g
+
+    pub front-none : (f .byte ≡ 58 → ⊥) → (d : TokenData) (m : ℕ) → tokenAt default t p ≡ got (found d m)
+        → (room : ℕ) → (colonAt t room brace p >>= (λ q. due t room value q textEnds (length t))) ≡ no unexpectedToken (f .place)
+    front-none g d m e room =
+        let z = is .token default d m e in
+        subst (λ (i : ℕ). (colonAt t room brace p >>= (λ q. due t room value q textEnds (length t))) ≡ no unexpectedToken i) (z .0)
+        (colon-none t brace p d m e h (λ y. g (z .1 (omega (arith, y)) ∙ y)) room)
