@@ -27,7 +27,7 @@ use Rattle.quotes.specs.declared.Front.{Front as Told}
 use Rattle.quotes.specs.declared.Front.the-variants.{Is, Refused}
 use Rattle.quotes.specs.Answers.{frontOut}
 use Rattle.quotes.specs.Runs.{IsPlain, Plain}
-use Rattle.quotes.specs.Puts.{Ready, PutIs}
+use Rattle.quotes.specs.Puts.{Ready, PutIs, Verbatim}
 use Rattle.quotes.proofs.Fronts.{front-told}
 use Rattle.quotes.proofs.Parts.{part-none, part-first, part-cons, part-drop}
 use Rattle.quotes.proofs.Escapes.{EscapeFits, escape-fits}
@@ -216,6 +216,13 @@ module _ (t : List ℕ) (quoted : Bool) (start e : ℕ) where
       go : (x : Out (List ℕ)) → got bytes ≡ after done x → length done ≤ length bytes
       go (got bs) q = let z : bytes ≡ done ++ bs = cc in rw (z, length-append done bs) (omega arith)
       go (no n p) q = let z : _≡_ {A = ℕ} 0 1 = cc in absurd (omega arith)
+
+-- a short span that is plain is its own content
+pub verbatim : (t : List ℕ) (start e : ℕ) → start ≤ e → e ≤ length t → e < start + 64 → Plain 92 t start e → Verbatim t start e
+verbatim t start e h k l p = record {
+  short = l;
+  is = λ quoted. sofar-end t quoted start e (part t start (e - start)) e (omega arith) (sofar-plain t quoted start e start e [] h (omega arith) k p (sofar-start t quoted start e));
+}
 
 -- ---- the loop that measures
 

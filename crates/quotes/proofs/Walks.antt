@@ -44,8 +44,9 @@ plain-none q t i j h = record { each = λ k m n. absurd (omega arith) }
 pub plain-more : (q : ℕ) (t : List ℕ) (i j : ℕ) → Plain q t i j → IsPlain q (getD t j 0) → Plain q t i (j + 1)
 plain-more q t i j p b = record { each = λ k h m. ⊎-elim (λ l. p .each k h l) (λ l. let e : k ≡ j = omega arith in rw e b) (lt-or k j) }
 
-pub plain-join : (q : ℕ) (t : List ℕ) (i j k : ℕ) → Plain q t i j → Plain q t j k → Plain q t i k
-plain-join q t i j k a b = record { each = λ n h m. ⊎-elim (λ l. a .each n h l) (λ l. b .each n l m) (lt-or n j) }
+-- two runs that overlap or meet
+pub plain-join : (q : ℕ) (t : List ℕ) (i j m k : ℕ) → m ≤ j → Plain q t i j → Plain q t m k → Plain q t i k
+plain-join q t i j m k o a b = record { each = λ n h z. ⊎-elim (λ l. a .each n h l) (λ l. b .each n (omega arith) z) (lt-or n j) }
 
 -- ---- what a call told of an escape
 

@@ -14,7 +14,7 @@ ghost use Rattle.form.specs.Writing.{lengthOf, Gives};
 ghost use Rattle.text_form.specs.Lexing.{begins, hexOf, hexes, stands, unicode, escapeOf, quoted, judgedText, onCharacter, escaped, written, frontOf, contentOf, content as single};
 ghost use Rattle.quotes.specs.Answers.{hexOut, escapeIs, quotedOut, textOut, frontOut, contentOut};
 ghost use Rattle.quotes.specs.Runs.{IsPlain, Plain};
-ghost use Rattle.quotes.specs.Puts.{Ready, PutIs, fitted};
+ghost use Rattle.quotes.specs.Puts.{Ready, PutIs, Verbatim, fitted};
 
 // The number of four hexadecimal digits, or a refusal.
 enum Digits {
@@ -218,14 +218,14 @@ fn raise(top: u8, x: u8) -> u8
     if top < x { x } else { top }
 }
 
-// Whether sixteen bytes from a place on are plain. No branch for each byte, so that the compiler takes them at once.
-fn all_plain(q: u8, text: &[u8], at: usize) -> bool
-    requires { ⌜ at + 16 ≤ length (now text) ⌝ }
-    ensures { λ r. ⌜ (r ≡ true → Plain q (now (text .entry)) at (at + 16)) ⌝ }
+// Whether n bytes from a place on are plain. No branch for each byte, so that the compiler takes them at once where n is a literal.
+fn all_plain(q: u8, text: &[u8], at: usize, n: usize) -> bool
+    requires { ⌜ at + n ≤ length (now text) ⌝ }
+    ensures { λ r. ⌜ (r ≡ true → Plain q (now (text .entry)) at (at + n)) ⌝ }
 {
     let mut top: u8 = 0;
     let mut k: usize = 0;
-    while k < 16 {
+    while k < n {
         top = raise(top, unplain(q, text[at + k]));
         k = k + 1;
     }
@@ -239,7 +239,7 @@ fn plain_blocks(q: u8, text: &[u8], at: usize, end: usize) -> usize
 {
     let mut i = at;
     while 16 <= end - i {
-        if all_plain(q, text, i) {
+        if all_plain(q, text, i, 16) {
             i = i + 16;
             continue;
         }
@@ -402,6 +402,41 @@ fn front_at(text: &[u8], at: usize, end: usize, quoted: bool) -> Front
     written_at(text, at, end)
 }
 
+// Whether a span is plain, by its first n bytes and its last n, which overlap or meet.
+fn both_plain(text: &[u8], start: usize, end: usize, n: usize) -> bool
+    requires { ⌜ (start + n ≤ end) × (end ≤ start + n + n) × (end ≤ length (now text)) ⌝ }
+    ensures { λ r. ⌜ (r ≡ true → Plain 92 (now (text .entry)) start end) ⌝ }
+{
+    if all_plain(92, text, start, n) {
+        return all_plain(92, text, end - n, n);
+    }
+    false
+}
+
+// Whether a span is short and plain, as most are: it is then its own content, within quotes or not (rules 2 and 12).
+pub fn is_plain(text: &[u8], start: usize, end: usize) -> bool
+    requires { ⌜ (start ≤ end) × (end ≤ length (now text)) ⌝ }
+    ensures { λ r. ⌜ (r ≡ true → Verbatim (now (text .entry)) start end) ⌝ }
+{
+    let size = end - start;
+    if size < 4 {
+        return all_plain(92, text, start, size);
+    }
+    if size < 8 {
+        return both_plain(text, start, end, 4);
+    }
+    if size < 16 {
+        return both_plain(text, start, end, 8);
+    }
+    if size < 32 {
+        return both_plain(text, start, end, 16);
+    }
+    if size < 64 {
+        return both_plain(text, start, end, 32);
+    }
+    false
+}
+
 // The length of a string token's content in rule 2's form, or an escape's refusal (rule 12).
 pub fn content_length(text: &[u8], start: usize, end: usize, quoted: bool) -> Contents
     requires { ⌜ (start ≤ end) × (end ≤ length (now text)) ⌝ }
@@ -430,7 +465,7 @@ pub fn content_length(text: &[u8], start: usize, end: usize, quoted: bool) -> Co
 }
 
 // Copies a span of the text to the output, byte by byte, which the compiler makes wide.
-fn copy(text: &[u8], start: usize, size: usize, out: &mut [u8], at: usize)
+pub fn copy(text: &[u8], start: usize, size: usize, out: &mut [u8], at: usize)
     requires { ⌜ (start + size ≤ length (now text)) × (at + size ≤ length (now out)) ⌝ }
     ensures { λ _. ⌜ now (out .exit) ≡ over (now (out .entry)) at (part (now (text .entry)) start size) ⌝ }
 {

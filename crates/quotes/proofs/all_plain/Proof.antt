@@ -10,10 +10,10 @@ use Rattle.quotes.proofs.all_plain.Statement.{statement}
 use Rattle.quotes.proofs.all_plain.Tie as tie
 
 abbrev Inv-loop : tie.InvT-loop
-Inv-loop q text at top₀ k₀ top k = (k ≤ 16) × (top ≡ 0 → Plain q text at (at + k))
+Inv-loop q text at n top₀ k₀ top k = (k ≤ n) × (top ≡ 0 → Plain q text at (at + k))
 
 abbrev μ-loop : tie.MeasureT-loop
-μ-loop q text at top₀ k₀ top k = 16 - k
+μ-loop q text at n top₀ k₀ top k = n - k
 
 pub all-plain-spec : {M : Type 1} → statement M
 all-plain-spec =
@@ -33,5 +33,5 @@ all-plain-spec =
       λ h. let e : at + (l .k + 1) ≡ at + l .k + 1 = omega arith in
           rw e (plain-more _ _ _ _ (l .inv .1 (omega (arith, c .raise .ensures))) (c .before .unplain .ensures (omega (arith, c .raise .ensures)))),
     ))  -- loop-again
-    (λ c. λ _. let e : c .before .before .loop .k ≡ 16 = omega arith in rw e at (c .before .before .loop .inv .1 (c .if1 .taken)))  -- returns
+    (λ c. λ _. let e : c .before .before .loop .k ≡ c .before .before .before .before .args .n = omega arith in rw e at (c .before .before .loop .inv .1 (c .if1 .taken)))  -- returns
     (λ c. λ e. absurd (false-true e)))  -- returns-2

@@ -24,6 +24,6 @@ plain-blocks-spec =
     (λ c κs. omega arith)  -- all-plain-requires
     (λ c. omega arith)  -- add-i
     (λ c. omega arith)  -- loop-less
-    (λ c. (omega arith, omega arith, plain-join _ _ _ _ _ (c .before .before .before .loop .inv .2) (c .before .all-plain .ensures (c .if1 .taken))))  -- loop-again
+    (λ c. (omega arith, omega arith, plain-join _ _ _ _ _ _ (omega arith) (c .before .before .before .loop .inv .2) (c .before .all-plain .ensures (c .if1 .taken))))  -- loop-again
     (λ c. c .before .before .before .loop .inv)  -- returns
     (λ c. c .before .loop .inv))  -- returns-2
