@@ -1,6 +1,6 @@
 -- Laws of a value whose tag is known: what its kind, its room and its bytes in the output make of it, over its width.
 -- Assumes nothing.
-use Prim.Native.Nat.{ℕ, _+_, _≤_, _<_}
+use Prim.Native.Nat.{ℕ, _+_, _-_, _≤_, _<_}
 use mathlib.Core.Bool.{Bool, true, false, _||_}
 use mathlib.Core.Logic.{inl, inr}
 use mathlib.Core.List.{List}
@@ -12,7 +12,7 @@ use lib.IntN.{ℤ}
 use lib.ListN.{length, take, length-append}
 use Rattle.form.specs.Answer.{Out, got, no, _>>=_, _>>_, guard, pick, unexpectedToken, mixedList, longString, outputFull}
 use Rattle.form.specs.Numbers.{digits, bytesOf, bitsOf}
-use Rattle.form.specs.Spans.{over}
+use Rattle.form.specs.Spans.{part, over}
 use Rattle.form.specs.Writing.{lengthOf}
 use Rattle.form.specs.Tree as tree
 use Rattle.form.specs.Tree.{Tag, kindOf}
@@ -20,12 +20,13 @@ use Rattle.form.specs.Layout.{payload, intBytes, stringBytes}
 use Rattle.form.proofs.Answer.{got-no, bind-got, guard-got}
 use Rattle.form.proofs.Digits.{digits-length, digits-narrow}
 use Rattle.form.proofs.Places.{part-over}
+use Rattle.form.proofs.Spans.{part-length}
 use Rattle.form.proofs.Table.{over-over}
 use Rattle.text_form.specs.Numbers.{Number}
 use Rattle.text_form.specs.Lexing.{Token, TokenData, string, numeral, contentOf}
 use Rattle.text_form.specs.Text.{Value, inRange, ranged, numberTag, stringOf, scalarTag, scalarValue, keyOf, arrayAt}
 use Rattle.numbers.proofs.NoNan.{noNan}
-use Rattle.quotes.specs.Puts.{PutIs}
+use Rattle.quotes.specs.Puts.{PutIs, Verbatim}
 use Rattle.scalars.specs.declared.Done.{Done}
 use Rattle.scalars.specs.Done.{TokenFits, Spanned, Did, Agrees, barredBy, placed, wholePlaced, stringPlaced, KeyRoom, KeyIn}
 use Rattle.scalars.proofs.Bounds.{content-bounded}
@@ -250,6 +251,17 @@ module _ (t : List ℕ) (q : Bool) (a e want p n u size : ℕ) (o : List ℕ) (c
         let d = placed-did o want p n u 8 (2 + size) (stringBytes s) wide (tree.string s) (string-kind s) (string-payload s) x y w in
         subst (λ (res : Out Value). Did res o u n used 8 o₂) as-placed
         (subst (λ (m : ℕ). Did (placed (length o) want (tree.string s) p n u) o u n m 8 o₂) (omega (arith, k .0, c .2)) d)
+
+-- ---- a span that is its own content
+
+module _ (t : List ℕ) (a e : ℕ) (h : a ≤ e) (k : e ≤ length t) (v : Verbatim t a e) (q : Bool) where
+  -- Its length is the span's.
+  pub verbatim-is : (s : List ℕ) × (contentOf t q a e ≡ got s) × (e - a ≡ length s)
+  verbatim-is = (part t a (e - a), v .is q, sym (part-length t a (e - a) (omega arith)))
+
+  -- The span was copied.
+  pub verbatim-put : (o : List ℕ) (u r : ℕ) (o′ : List ℕ) → r ≡ u + (e - a) → o′ ≡ over o u (part t a (e - a)) → PutIs (contentOf t q a e) o u r o′
+  verbatim-put o u r o′ z w = rw (v .is q) (z ∙ ap (λ (m : ℕ). u + m) (sym (part-length t a (e - a) (omega arith))), w)
 
 -- ---- a key
 

@@ -8,6 +8,7 @@ use quotes::Contents;
 use tokens::Token;
 use tokens::TokenData;
 ghost use mathlib.Core.Path.{_≡_};
+ghost use mathlib.Core.Bool.{Bool};
 ghost use mathlib.Core.List.{List};
 ghost use Prim.Native.Nat.{ℕ, _+_, _≤_, _<_};
 ghost use lib.ListN.{length};
@@ -17,6 +18,7 @@ ghost use Rattle.form.specs.Tree.{Tag, kindOf};
 ghost use Rattle.form.specs.Layout.{payload, intBytes};
 ghost use Rattle.text_form.specs.Text.{stringOf, scalarValue, keyOf, arrayAt, arrayTag};
 ghost use Rattle.tokens.specs.Answers.{dataIs};
+ghost use Rattle.quotes.specs.Puts.{Verbatim};
 ghost use Rattle.scalars.specs.Done.{Spanned, Agrees, Ahead, placed, wholePlaced, stringPlaced, KeyRoom, KeyAgrees};
 ghost use Rattle.scalars.specs.Turns.{Wide};
 
@@ -76,8 +78,30 @@ fn put_whole(v: i64, width: usize, kind: u8, spot: Spot, out: &mut [u8]) -> Done
     }
 }
 
-// A string's length and its content: its own refusals (12 among them), its kind (refusal 11), its room (refusal 13).
-fn put_string(
+// A string that is its own content, and too short for refusal 12: its kind (refusal 11), its room (refusal 13), its length and its bytes.
+fn put_plain(text: &[u8], start: usize, end: usize, spot: Spot, out: &mut [u8]) -> Done
+    requires { ⌜ (start ≤ end) × (end ≤ length (now text)) × Verbatim (now text) start end ⌝ }
+    ensures { λ r. ⌜ ((quoted : Bool) → Agrees (stringPlaced (now (text .entry)) quoted start end (length (now (out .entry))) (spot .want) (spot .place) (spot .next) (spot .at))
+        (now (out .entry)) (spot .at) r (now (out .exit))) ⌝ }
+{
+    let place = spot.place;
+    let at = spot.at;
+    let length = end - start;
+    let number = ranges::barred(spot.want, 8, out.len(), at, 2 + length);
+    if number == 0 {
+        raw::put_number(out, at, 2, length as u64);
+        quotes::copy(text, start, length, out, at + 2);
+        return Done::To {
+            next: spot.next,
+            used: at + 2 + length,
+            kind: 8,
+        };
+    }
+    Done::No { number, place }
+}
+
+// A string that is measured first: its content's own refusals and 12, its kind (refusal 11), its room (refusal 13).
+fn put_measured(
     text: &[u8],
     quoted: bool,
     start: usize,
@@ -113,6 +137,25 @@ fn put_string(
             Done::No { number, place }
         }
     }
+}
+
+// A string's length and its content: its own refusals (12 among them), its kind (refusal 11), its room (refusal 13).
+fn put_string(
+    text: &[u8],
+    quoted: bool,
+    start: usize,
+    end: usize,
+    spot: Spot,
+    out: &mut [u8],
+) -> Done
+    requires { ⌜ (start ≤ end) × (end ≤ length (now text)) ⌝ }
+    ensures { λ r. ⌜ Agrees (stringPlaced (now (text .entry)) quoted start end (length (now (out .entry))) (spot .want) (spot .place) (spot .next) (spot .at))
+        (now (out .entry)) (spot .at) r (now (out .exit)) ⌝ }
+{
+    if quotes::is_plain(text, start, end) {
+        return put_plain(text, start, end, spot, out);
+    }
+    put_measured(text, quoted, start, end, spot, out)
 }
 
 // A scalar value that begins with a token that was read (rule 15): its own checks (19, 12), then its kind (11), then its room (13).
@@ -216,8 +259,8 @@ pub fn array(text: &[u8], width: u8, brace: usize, start: usize, out: &mut [u8],
     }
 }
 
-// A string token's content at the buffer's start: its own refusals, 12 among them.
-fn put_key(
+// A string token's content at the buffer's start, measured first: its own refusals, 12 among them.
+fn key_measured(
     text: &[u8],
     quoted: bool,
     start: usize,
@@ -241,6 +284,26 @@ fn put_key(
             Key::Is { length: used }
         }
     }
+}
+
+// A string token's content at the buffer's start: its own refusals, 12 among them. One that is its own content is copied.
+fn put_key(
+    text: &[u8],
+    quoted: bool,
+    start: usize,
+    end: usize,
+    place: usize,
+    buffer: &mut [u8],
+) -> Key
+    requires { ⌜ (start ≤ end) × (end ≤ length (now text)) × KeyRoom (length (now text)) (length (now buffer)) ⌝ }
+    ensures { λ r. ⌜ ((room : ℕ) → KeyAgrees (stringOf (now (text .entry)) room quoted start end place) r (now (buffer .exit))) ⌝ }
+{
+    if quotes::is_plain(text, start, end) {
+        let length = end - start;
+        quotes::copy(text, start, length, buffer, 0);
+        return Key::Is { length };
+    }
+    key_measured(text, quoted, start, end, place, buffer)
 }
 
 // A key's content into a lent buffer (rule 15): a string token (19) of at most 65,535 bytes (12).

@@ -1,73 +1,51 @@
--- `put_key` meets its contract: its content is the definition's, and stands at the buffer's start.
+-- `put_key` meets its contract: a span that is its own content is copied to the buffer's start, any other is measured first.
 -- Assumes nothing.
 use borrow.Author.Needs.{needs}
-use mathlib.Core.Path.{_≡_, sym, ap, _∙_}
-use mathlib.Core.List.{List}
+use Prim.Native.Nat.{_+_, _-_, _≤_}
+use mathlib.Core.Path.{_≡_}
 use native.Mathlib.Omega.{arith}
 use lib.ListN.{length}
-use Rattle.form.specs.Answer.{got}
-use Rattle.text_form.specs.Lexing.{contentOf}
-use Rattle.quotes.specs.Answers.{contentOut}
-use Rattle.scalars.proofs.Placing.{content-is, content-no, string-no, string-long, key-room, key-in}
+use Rattle.quotes.specs.Puts.{Verbatim}
+use Rattle.scalars.proofs.Placing.{verbatim-is, verbatim-put, key-room, key-in}
 use Rattle.scalars.proofs.put_key.Statement.{statement}
 use Rattle.scalars.proofs.put_key.Tie as tie
 
--- The content whose length was measured.
-measured : (c : tie.After-length) → (s : List _) × (contentOf (c .before .before .before .before .before .args .text .now) (c .before .before .before .before .before .args .quoted) (c .before .before .before .before .before .args .start) (c .before .before .before .before .before .args .end) ≡ got s) × (c .length .given .0 .0 ≡ length s)
-measured c = content-is _ _ (sym (ap contentOut (c .length .given .1)) ∙ c .before .before .content-length .ensures)
+-- The span is its own content.
+plain : (c : tie.Then1) → let a = c .before .before .before .before .args in Verbatim (a .text .now) (a .start) (a .end)
+plain c = c .before .is-plain .ensures (c .if1 .taken)
 
-content-length-requires : tie.Need-content-length-requires
-content-length-requires c κs = search needs
+-- The buffer has room for it.
+room : (c : tie.Then1) → let a = c .before .before .before .before .args in a .end - a .start ≤ length (a .buffer .now)
+room c =
+    let s = c .before .before .before .before in
+    let a = s .args in
+    let m = verbatim-is (a .text .now) (a .start) (a .end) (s .pre .0) (s .pre .1) (plain c) (a .quoted) in
+    let r = key-room (a .text .now) (a .quoted) (a .start) (a .end) (a .place) 0 (m .0) (s .pre .2) (s .pre .0) (s .pre .1) (m .1) (omega (arith, plain c .short, m .2)) in
+    omega (arith, r, m .2)
 
-enum-known-number : tie.Need-enum-known-number
-enum-known-number c = search needs
-
-enum-known-length : tie.Need-enum-known-length
-enum-known-length c = search needs
+copy-requires : tie.Need-copy-requires
+copy-requires c κs = let p = c .before .before .before .before .before .pre in (omega (arith, p .0, p .1), omega (arith, room (c .before)))
 
 returns : tie.Need-returns
 returns c =
-    λ room.
-    let a = c .before .before .before .before .before .before .before .args in
-    let m = measured (c .before .before) in
-    string-long (a .text .now) (a .quoted) (a .start) (a .end) (a .place) room (m .0) (m .1) (omega (arith, c .if1 .taken, m .2))
-
-put-content-requires : tie.Need-put-content-requires
-put-content-requires c κs =
-    let b = c .before .before .before .before .before .before .before .before in
-    let a = b .args in
-    let m = measured (c .before .before .before) in
-    let r = key-room (a .text .now) (a .quoted) (a .start) (a .end) (a .place) 0 (m .0) (b .pre .2) (b .pre .0) (b .pre .1) (m .1) (omega (arith, c .before .if1 .left, m .2)) in
-    record { bytes = m .0; is = m .1; within = (b .pre .0, b .pre .1); fits = omega (arith, r) }
-
-returns-2 : tie.Need-returns-2
-returns-2 c =
-    λ room.
-    let a = c .before .before .before .before .before .before .args in
-    string-no (a .text .now) (a .quoted) (a .start) (a .end) (a .place) room _ _
-    (content-no _ _ _ (sym (ap contentOut (c .before .number .given .1)) ∙ c .before .before .before .content-length .ensures))
-
-same-length : tie.Need-same-length
-same-length c = search needs
-
-returns-3 : tie.Need-returns-3
-returns-3 c =
-    λ room.
-    let b = c .before .before .before .before .before .before .before .before .before .before .before in
-    let a = b .args in
-    let m = measured (c .before .before .before .before .before .before) in
-    key-in (a .text .now) (a .quoted) (a .start) (a .end) (a .place) room (m .0) (a .buffer .now) (c .before .before .put-content .result) (c .before .before .put-content .last .1 .1 .1 .1 .0) (m .1) (omega (arith, c .before .before .before .before .if1 .left, m .2))
-    (key-room (a .text .now) (a .quoted) (a .start) (a .end) (a .place) room (m .0) (b .pre .2) (b .pre .0) (b .pre .1) (m .1) (omega (arith, c .before .before .before .before .if1 .left, m .2))) (c .before .before .put-content .ensures)
+    λ room₀.
+    let t = c .before .before .before .before in
+    let s = c .before .before .before .before .before .before .before .before in
+    let a = s .args in
+    let m = verbatim-is (a .text .now) (a .start) (a .end) (s .pre .0) (s .pre .1) (plain t) (a .quoted) in
+    key-in (a .text .now) (a .quoted) (a .start) (a .end) (a .place) room₀ (m .0) (a .buffer .now) (a .end - a .start) (c .before .before .copy .last .1 .1 .1 .0) (m .1)
+    (omega (arith, plain t .short, m .2)) (omega (arith, room t, m .2))
+    (verbatim-put (a .text .now) (a .start) (a .end) (s .pre .0) (s .pre .1) (plain t) (a .quoted) _ _ _ _ (omega arith) (c .before .before .copy .ensures))
 
 pub put-key-spec : {M : Type 1} → statement M
 put-key-spec =
     tie.close
     (tie.spec
-    content-length-requires
-    enum-known-number
-    enum-known-length
+    (λ c κs. search needs)  -- is-plain-requires
+    (λ c. search needs)  -- sub-length
+    copy-requires
+    (λ c. search needs)  -- same-length
     returns
-    put-content-requires
-    returns-2
-    same-length
-    returns-3)
+    (λ c κs. search needs)  -- key-measured-requires
+    (λ c. search needs)  -- same-length-2
+    (λ c. search needs))  -- returns-2
