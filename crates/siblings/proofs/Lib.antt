@@ -13,4 +13,5 @@ pub mod Deferred
 pub mod Kept
 pub mod Orders
 pub mod Cells
+pub mod Classes
 pub mod Ascents

@@ -44,6 +44,22 @@ markOf xs = markBy xs (length xs)
 abbrev pub markAt : List ℕ → List ℕ → ℕ → ℕ
 markAt doc t i = markOf (nameOf doc t i)
 
+-- the class of n bytes, of 128, by their number, the first, the middle and the last
+unfoldable pub classBy : List ℕ → ℕ → ℕ
+classBy xs n = (n % 8 * 16 + getD xs 0 0 * 5 + getD xs (n / 2) 0 * 7 + getD xs (n - 1) 0 * 3) % 128
+
+-- the class of a name
+unfoldable pub classOf : List ℕ → ℕ
+classOf xs = classBy xs (length xs)
+
+-- the class of a record's name
+abbrev pub classAt : List ℕ → List ℕ → ℕ → ℕ
+classAt doc t i = classOf (nameOf doc t i)
+
+-- no record before record i has its class
+unfoldable pub Fresh : List ℕ → List ℕ → ℕ → ℕ → ℕ → Type 0
+Fresh doc t first stop i = (w : ℕ) → Mem w (siblings t stop stop first) → w < i → classAt doc t w ≡ classAt doc t i → ⊥
+
 -- the first cell for a mark, of those from `first` up to `last`; an eighth of them are left after it
 abbrev pub homeOf : ℕ → ℕ → ℕ → ℕ
 homeOf first last mark = first + mark / 2 % (last - first - (last - first) / 8)

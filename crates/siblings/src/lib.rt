@@ -1,8 +1,8 @@
-// The first of the records side by side whose name an earlier one has (refusal 6). A few records are compared each with those before it. Of more,
-// each goes to a cell that its name gives; the cells are the records' free words, which are 0 before and after. Where cells do not do, the records
-// are sorted as a list through the same words.
+// The first of the records side by side whose name an earlier one has (refusal 6). Of a few, each is compared with those before it, if one of them
+// has a name of the same class. Of more, each goes to a cell that its name gives; the cells are the records' free words, which are 0 before and
+// after. Where cells do not do, the records are sorted as a list through the same words.
 ghost use mathlib.Core.Path.{_≡_};
-ghost use mathlib.Core.Bool.{not};
+ghost use mathlib.Core.Bool.{false, not};
 ghost use Prim.Native.Nat.{ℕ, suc, _+_, _-_, _*_, _≤_, _<_};
 ghost use mathlib.Core.Logic.{_⊎_};
 ghost use lib.ListN.{length, getD};
@@ -13,7 +13,7 @@ ghost use Rattle.siblings.specs.Links.{be, fourOf, eightOf, num, rank, s
 ghost use Rattle.siblings.specs.Lists.{Told, Alike, Lowered, Picked, Two, Lists, Row, Sorts, Chained, Unlinked, Least, Taken, Family, foundOf, Climbs, Rises};
 ghost use Rattle.siblings.specs.Forests.{placeOut, refusalOf};
 ghost use Rattle.siblings.specs.Orders.{Ordered};
-ghost use Rattle.siblings.specs.Cells.{blend, turn, stirOf, markOf, markAt, homeOf, Blank, Blanked, Wiped, Cells, Probed, PlacedBy, Halved, lesserOf, Joined, Ready};
+ghost use Rattle.siblings.specs.Cells.{blend, turn, stirOf, markOf, markAt, classOf, classAt, Fresh, homeOf, Blank, Blanked, Wiped, Cells, Probed, PlacedBy, Halved, lesserOf, Joined, Ready};
 
 // The number of a record, or nothing.
 pub enum Found {
@@ -331,16 +331,56 @@ fn taken(doc: &[u8], table: &[u32], first: usize, stop: usize, i: usize) -> bool
     false
 }
 
-// The first of a few records, each compared with those before it.
+// The class of the n bytes at a, of 128: the same for the same bytes.
+fn class_span(doc: &[u8], a: usize, n: usize) -> usize
+    requires { ⌜ a + n ≤ length (now doc) ⌝ }
+    ensures { λ r. ⌜ (r ≡ classOf (part (now (doc .entry)) a n)) × (r < 128) ⌝ }
+{
+    if n == 0 {
+        return 0;
+    }
+    let x = byte(doc[a]);
+    let y = byte(doc[a + n / 2]);
+    let z = byte(doc[a + n - 1]);
+    (n % 8 * 16 + x * 5 + y * 7 + z * 3) % 128
+}
+
+// The class of a record's name.
+fn class_of(doc: &[u8], table: &[u32], i: usize) -> usize
+    requires { ⌜ Fit (now doc) (now table) i ⌝ }
+    ensures { λ r. ⌜ (r ≡ classAt (now (doc .entry)) (now (table .entry)) i) × (r < 128) ⌝ }
+{
+    class_span(
+        doc,
+        table::word(table, i, table::NAME),
+        table::word(table, i, table::NAME_LENGTH),
+    )
+}
+
+// The same, where it is known whether the class of record i was seen: if not, no name is compared.
+fn taken_in(doc: &[u8], table: &[u32], first: usize, stop: usize, i: usize, seen: bool) -> bool
+    requires { ⌜ (Family (now doc) (now table) first stop) × (Mem i (siblings (now table) stop stop first)) × (seen ≡ false → Fresh (now doc) (now table) first stop i) ⌝ }
+    ensures { λ r. ⌜ Taken (now (doc .entry)) (now (table .entry)) first stop i r ⌝ }
+{
+    if seen {
+        return taken(doc, table, first, stop, i);
+    }
+    false
+}
+
+// The first of a few records, each compared with those before it where its class was seen among them.
 fn plain(doc: &[u8], table: &[u32], first: usize, stop: usize) -> usize
     requires { ⌜ Family (now doc) (now table) first stop ⌝ }
     ensures { λ r. ⌜ Least (now (doc .entry)) (now (table .entry)) (λ z. Mem z (siblings (now (table .entry)) stop stop first)) stop r ⌝ }
 {
+    let mut seen: [bool; 128] = [false; 128];
     let mut i = first;
     while i < stop {
-        if taken(doc, table, first, stop, i) {
+        let c = class_of(doc, table, i);
+        if taken_in(doc, table, first, stop, i, seen[c]) {
             return i;
         }
+        seen[c] = true;
         i = table::word(table, i, table::END);
     }
     stop
@@ -688,7 +728,7 @@ pub fn first_repeat(doc: &[u8], table: &mut [u32], first: usize, stop: usize) ->
     ensures { λ r. ⌜ now (table .exit) ≡ now (table .entry) ⌝ }
 {
     let n = count(table, first, stop);
-    if n < 17 {
+    if n < 32 {
         return below(plain(doc, table, first, stop), stop);
     }
     below(many(doc, table, first, stop, n), stop)
