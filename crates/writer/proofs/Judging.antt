@@ -245,3 +245,15 @@ module _ (doc t : List ℕ) (left : ℕ) (list : Bool) (k : ℕ) (twice : Bool) 
               one-inner doc left list k n (o .head) twice (o .inner) (fine-is fine) ∙ x .0,
               omega (arith, size-is is, x .1, size-held doc (o .head) list (o .inner) name-in (held-kind (o .head .kind) f)),
             )
+
+      -- It is empty.
+      pub one-empty : end ≡ n + 1 → Sized (oneJudged doc left list k twice n (o .head) (o .inner)) (laid doc list (node (o .head) (o .inner) none)) (Size.Is own)
+      one-empty q =
+          let w = one-whole {b = eqb (word t n 0) 9} refl {j = word t n 6} refl (Size.Is 0) (λ p. nothing (p .forest) (p .rows)) refl in
+          (w .0, omega (arith, w .1))
+        where
+          nothing : (f : Forest) → Rows doc t (eqb (word t n 0) 9) (n + 1) end f
+              → Sized (judged doc (left - 1) (eqb (word t n 0) 9) (word t n 6) none (n + 1) f) (laid doc (eqb (word t n 0) 9) f) (Size.Is 0)
+          nothing f r =
+              let z : f ≡ none = rows-none doc t (eqb (word t n 0) 9) (n + 1) end f r (omega arith) in
+              rw z (judged-none doc (left - 1) (eqb (word t n 0) 9) (word t n 6) none (n + 1), sym (ap length (laid-none doc (eqb (word t n 0) 9))))

@@ -216,7 +216,7 @@ fn judged(
     Size::Is(total)
 }
 
-// Record n, which ends at `end`, and those in it.
+// Record n, which ends at `end`, and those in it; an empty container is done with no second walk.
 fn one_judged(
     doc: &[u8],
     table: &mut [u32],
@@ -236,6 +236,9 @@ fn one_judged(
             let own = own_size(table, n, list);
             let kind = table::word(table, n, table::KIND);
             if !table::is_container(kind) {
+                return Size::Is(own);
+            }
+            if end == n + 1 {
                 return Size::Is(own);
             }
             let inner = table::word(table, n, table::LIST_KIND);

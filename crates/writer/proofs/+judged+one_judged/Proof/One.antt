@@ -13,7 +13,7 @@ use Rattle.form.specs.Table.{none, node, word as wordOf, holds}
 use Rattle.writer.specs.Pieces.{headOf, ownFine}
 use Rattle.writer.specs.Steps.{fineOut, Placed}
 use Rattle.writer.proofs.Rows.{rows-placed}
-use Rattle.writer.proofs.Judging.{rows-bound, one-refused, one-alone, one-depth, one-some, one-within, one-whole}
+use Rattle.writer.proofs.Judging.{rows-bound, one-refused, one-alone, one-depth, one-some, one-within, one-whole, one-empty}
 use Rattle.writer.proofs.judged.Reads as judged
 use Rattle.writer.proofs.one_judged.Reads as one-judged
 use Rattle.writer.proofs.one_judged.Kinds as kinds
@@ -45,8 +45,8 @@ module _ (t : ℕ) where
   word-requires c κs = (placed (c .before .before .before .before .before .before .before .before .before) .room, omega arith)
 
   -- it is refused by itself
-  pub returns-2 : On t lts.Need-returns-2
-  returns-2 c = (λ p. one-refused _ _ _ _ _ _ _ _ p (sym (c .before .before .before .own-fine .ensures) ∙ ap fineOut (c .before .number .given .1)), refl)
+  pub returns-3 : On t lts.Need-returns-3
+  returns-3 c = (λ p. one-refused _ _ _ _ _ _ _ _ p (sym (c .before .before .before .own-fine .ensures) ∙ ap fineOut (c .before .number .given .1)), refl)
 
   -- ---- it passes by itself
 
@@ -71,54 +71,66 @@ module _ (t : ℕ) where
   held : (c : On t lts.Else1) → holds (wordOf (start-of (c .before) .args .table .now) (start-of (c .before) .args .n) 0) ≡ true
   held c = sym (kind (c .before)) ∙ not-false _ (c .if1 .left)
 
+  pub add-if2 : On t lts.Need-add-if2
+  add-if2 c =
+      let s = start-of (c .before) in
+      omega (arith, placed s .room, s .pre .1 .small .words)
+
+  -- it holds none
+  pub returns-2 : On t lts.Need-returns-2
+  returns-2 c =
+      let e = c .before in
+      let q = e .before in
+      (λ p. one-empty _ _ _ _ _ _ _ _ p (fine q) (q .before .before .before .own-size .ensures) (held e) (c .if2 .taken), refl)
+
   pub word-requires-2 : On t lts.Need-word-requires-2
-  word-requires-2 c κs = (placed (start-of (c .before .before)) .room, omega arith)
+  word-requires-2 c κs = (placed (start-of (c .before .before .before)) .room, omega arith)
 
   pub add-judged : On t lts.Need-add-judged
   add-judged c =
-      let s = start-of (c .before .before .before .before) in
+      let s = start-of (c .before .before .before .before .before) in
       omega (arith, placed s .room, s .pre .1 .small .words)
 
   pub sub-judged : On t lts.Need-sub-judged
   sub-judged c =
-      let q = c .before .before .before .before in
-      omega (arith, one-depth _ _ _ _ _ _ _ _ (start-of q .pre .1) (fine q) (q .before .before .before .own-size .ensures) (held (c .before .before .before)))
+      let q = c .before .before .before .before .before in
+      omega (arith, one-depth _ _ _ _ _ _ _ _ (start-of q .pre .1) (fine q) (q .before .before .before .own-size .ensures) (held (c .before .before .before .before)))
 
   pub judged-requires : On t lts.Need-judged-requires
   judged-requires c κs =
-      let q = c .before .before .before .before in
+      let q = c .before .before .before .before .before in
       let p = start-of q .pre in
-      let d = one-depth _ _ _ _ _ _ _ _ (p .1) (fine q) (q .before .before .before .own-size .ensures) (held (c .before .before .before)) in
-      (omega (arith, p .0, d), one-some _ _ _ _ _ _ _ _ (p .1) (fine q) (q .before .before .before .own-size .ensures) (held (c .before .before .before)) (ap (λ x. eqb x 9) (q .before .word .ensures)))
+      let d = one-depth _ _ _ _ _ _ _ _ (p .1) (fine q) (q .before .before .before .own-size .ensures) (held (c .before .before .before .before)) in
+      (omega (arith, p .0, d), one-some _ _ _ _ _ _ _ _ (p .1) (fine q) (q .before .before .before .own-size .ensures) (held (c .before .before .before .before)) (ap (λ x. eqb x 9) (q .before .word .ensures)))
 
-  pub same-length-3 : On t lts.Need-same-length-3
-  same-length-3 c = ap length (c .before .before .before .before .before .judged .ensures .1)
+  pub same-length-4 : On t lts.Need-same-length-4
+  same-length-4 c = ap length (c .before .before .before .before .before .judged .ensures .1)
 
-  pub returns-3 : On t lts.Need-returns-3
-  returns-3 c =
+  pub returns-4 : On t lts.Need-returns-4
+  returns-4 c =
       let j = c .before .before .before .before .before in
-      let e = j .before .before .before .before in
+      let e = j .before .before .before .before .before in
       let q = e .before in (
         λ p. one-within _ _ _ _ _ _ _ _ p (fine q) (q .before .before .before .own-size .ensures) (held e) (ap (λ x. eqb x 9) (q .before .word .ensures)) (j .before .before .word2 .ensures) (j .judged .result) (j .judged .ensures .0) (c .before .number2 .given .1),
         j .judged .ensures .1,
       )
 
-  pub same-length-4 : On t lts.Need-same-length-4
-  same-length-4 c = ap length (c .before .before .before .before .before .judged .ensures .1)
+  pub same-length-5 : On t lts.Need-same-length-5
+  same-length-5 c = ap length (c .before .before .before .before .before .judged .ensures .1)
 
   pub add-whole : On t lts.Need-add-t35
   add-whole c =
       let j = c .before .before .before .before .before in
-      let e = j .before .before .before .before in
+      let e = j .before .before .before .before .before in
       let q = e .before in
       let p = start-of q .pre .1 in
       let w = one-whole _ _ _ _ _ _ _ _ p (fine q) (q .before .before .before .own-size .ensures) (held e) (ap (λ x. eqb x 9) (q .before .word .ensures)) (j .before .before .word2 .ensures) (j .judged .result) (j .judged .ensures .0) (c .before .size .given .1) in
       omega (arith, w .1, rows-bound _ _ _ _ _ (node (p .head) (p .inner) none) (p .small) (p .rows))
 
-  pub returns-4 : On t lts.Need-returns-4
-  returns-4 c =
+  pub returns-5 : On t lts.Need-returns-5
+  returns-5 c =
       let j = c .before .before .before .before .before in
-      let e = j .before .before .before .before in
+      let e = j .before .before .before .before .before in
       let q = e .before in (
         λ p. one-whole _ _ _ _ _ _ _ _ p (fine q) (q .before .before .before .own-size .ensures) (held e) (ap (λ x. eqb x 9) (q .before .word .ensures)) (j .before .before .word2 .ensures) (j .judged .result) (j .judged .ensures .0) (c .before .size .given .1),
         j .judged .ensures .1,
