@@ -9,3 +9,4 @@ pub mod Quiet
 pub mod Values
 pub mod Loops
 pub mod Tops
+pub mod Words

@@ -7,12 +7,12 @@ use mathlib.Core.List.{List, [], _∷_, _++_}
 use lib.Dec.{eqb}
 use lib.ListN.{length, take}
 use Rattle.form.specs.Answer.{Out, got, no, _>>=_, _>>_, guard, tooDeep, unexpectedToken, textEnds, trailingComma, unmatchedBrace, depthLimit}
-use Rattle.form.specs.Spans.{over}
+use Rattle.form.specs.Spans.{part, over}
 use Rattle.form.specs.Tree as tree
 use Rattle.form.specs.Tree.{Tag, Tags, Entries, kindOf, many, entry}
 use Rattle.form.specs.Layout.{payload, elementBytes, stringBytes, layout}
 use Rattle.scalars.specs.Done.{KeyRoom}
-use Rattle.text_form.specs.Lexing.{Stops, default, key, TokenData, found, tokenAt}
+use Rattle.text_form.specs.Lexing.{Stops, default, key, string, colon, TokenData, found, skip, made, tokenAt, contentOf}
 use Rattle.text_form.specs.Text.{Value, Row, Block, Next, Then, goesOn, closes, Reads, signOf, due, following, alike, entryAt, compoundAt, valueAt, documentOf}
 
 -- ---- the scratch and the tokens
@@ -29,6 +29,20 @@ pub record Met (t : List ℕ) (d : TokenData) (n : ℕ) : Type 0 where
   pub from : ℕ
   pub within : from ≤ length t
   pub is : tokenAt set t from ≡ got (found d n)
+
+-- The token of an unquoted string from i up to j, of ASCII characters only.
+abbrev pub wordData : ℕ → ℕ → TokenData
+wordData i j = record { token = string false i j; index = i; width = j - i }
+
+-- Where a key is due at i, which is not blank, that token stands with its `:` right behind it; it is its own content, and not over 65,535 bytes.
+pub record Worded (t : List ℕ) (i j : ℕ) : Type 0 where
+  pub order : i ≤ j
+  pub within : j < length t
+  pub short : j - i ≤ 65535
+  pub here : skip t i ≡ i
+  pub token : tokenAt key t i ≡ got (found (wordData i j) j)
+  pub behind : tokenAt default t j ≡ got (made colon j 1 (j + 1))
+  pub content : contentOf t false i j ≡ got (part t i (j - i))
 
 -- Elements of a list were read: on to `next`, their bytes stand from `at` up to `used`, and all else is as it was.
 pub record Ran (res : Out Row) (o : List ℕ) (at next used count : ℕ) (o′ : List ℕ) : Type 0 where

@@ -22,7 +22,7 @@ ghost use Rattle.form.specs.Tree.{list, nil};
 ghost use Rattle.keys.specs.Keys.{Kept, namesIn, putIn};
 ghost use Rattle.scalars.specs.Done.{Agrees, Spanned, KeyRoom};
 ghost use Rattle.snbt.specs.Answers.{parsedOut};
-ghost use Rattle.snbt.specs.Turns.{Ready, Met, entryTurn, inner, blockValue, rootOf};
+ghost use Rattle.snbt.specs.Turns.{Ready, Met, wordData, Worded, entryTurn, inner, blockValue, rootOf};
 ghost use Rattle.snbt.specs.Steps.{DueIs, AfterIs, ItemIs, LetterIs, BarredIs, ListedIs, UnmatchedIs, OpenedIs, ColonIs, NamedIs, KeyedIs, SettledIs, CloseIs, TurnIs, ValueIs, RunIs, heldDone, RootIs};
 
 // The answer of a parse: the bytes of the text consumed and the length of the document, or the number and the place of the refusal.
@@ -393,8 +393,8 @@ fn named(
     }
 }
 
-// Where a key is due: the `}`, refused with 21 behind a comma, or an entry up to its value's token.
-fn key_at(
+// Where any key is due: the `}`, refused with 21 behind a comma, or an entry up to its value's token.
+fn any_key(
     text: &[u8],
     place: usize,
     comma: usize,
@@ -428,6 +428,88 @@ fn key_at(
             named(text, td, next, brace, out, keys, base, top, buffer)
         }
     }
+}
+
+// The end of the usual key of a text: a word of ordinary characters, no number, with its colon right behind it. 0 where the key is
+// none such, or longer than 65,535 bytes (12): it then goes by its token.
+fn word_end(text: &[u8], i: usize) -> usize
+    ensures { λ r. ⌜ ((r ≡ 0 → ⊥) → Worded (now (text .entry)) i r) ⌝ }
+{
+    if text.len() <= i {
+        return 0;
+    }
+    if text[i] < 60 {
+        return 0;
+    }
+    let j = lexer::characters::run_end(text, i);
+    if text.len() <= j {
+        return 0;
+    }
+    if text[j] != b':' {
+        return 0;
+    }
+    if 65535 < j - i {
+        return 0;
+    }
+    j
+}
+
+// An entry with such a key from i up to j, up to its value's token, without a token for the key: whether it is there already (6).
+fn worded(
+    text: &[u8],
+    i: usize,
+    j: usize,
+    out: &[u8],
+    keys: &[u32],
+    base: usize,
+    top: usize,
+    buffer: &mut [u8],
+) -> Key
+    requires { ⌜ (Worded (now text) i j) × (Kept (now out) (now keys) base top (length (now out))) × (KeyRoom (length (now text)) (length (now buffer))) ⌝ }
+    ensures { λ r. ⌜ ((brace : ℕ) → NamedIs (now (text .entry)) (wordData i j) j brace (now (out .entry)) (now (keys .entry)) base top (now (buffer .exit)) r) ⌝ }
+{
+    let size = j - i;
+    copy(&text[i..j], size, buffer, 0);
+    match keys::spot_of(out, keys, base, top, buffer, size) {
+        Spot::Taken => Key::No {
+            number: form::NAME_TWICE,
+            place: i,
+        },
+        Spot::Free { index } => {
+            match due_at(text, j + 1, Stops::Value, form::TEXT_ENDS, text.len()) {
+                Due::No { number, place } => Key::No { number, place },
+                Due::Is { td, next } => Key::Is {
+                    size,
+                    index,
+                    td,
+                    next,
+                },
+            }
+        }
+    }
+}
+
+// Where a key is due: the usual key by itself, since most are such, any other by its token.
+fn key_at(
+    text: &[u8],
+    place: usize,
+    comma: usize,
+    brace: usize,
+    out: &[u8],
+    keys: &[u32],
+    base: usize,
+    top: usize,
+    buffer: &mut [u8],
+) -> Key
+    requires { ⌜ (place ≤ length (now text)) × (Kept (now out) (now keys) base top (length (now out))) × (KeyRoom (length (now text)) (length (now buffer))) ⌝ }
+    ensures { λ r. ⌜ KeyedIs (now (text .entry)) brace comma place (now (out .entry)) (now (keys .entry)) base top (now (buffer .exit)) r ⌝ }
+{
+    let i = lexer::characters::skip_blank(text, place);
+    let j = word_end(text, i);
+    if j == 0 {
+        return any_key(text, place, comma, brace, out, keys, base, top, buffer);
+    }
+    worded(text, i, j, out, keys, base, top, buffer)
 }
 
 // Copies the first bytes of a buffer to the output.
