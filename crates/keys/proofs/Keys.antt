@@ -1,4 +1,4 @@
--- Laws of the kept keys, for the parser of compounds: none yet, the same after more was written behind them, and one more put in.
+-- Laws of a run of keys: none yet, the same after more was written behind them, and one more put in.
 -- Assumes nothing.
 use Prim.Native.Nat.{ℕ, zero, suc, _+_, _-_, _≤_, _<_}
 use mathlib.Core.List.{List, [], _∷_, _++_}
@@ -7,16 +7,16 @@ use mathlib.Core.Logic.{_⊎_, inl, inr}
 use mathlib.Core.Path.{_≡_, refl, sym, ap, _∙_}
 use native.Mathlib.Omega.{arith}
 use lib.ListN.{length, getD, take, drop, length-take, length-append}
-use lib.Seq.{take-take, take-add, drop-drop, take-at, drop-at, getD-take}
+use lib.Seq.{take-take, take-add, drop-drop, take-at, drop-at}
 use Rattle.form.specs.Numbers.{bytesOf, bigEndian}
 use Rattle.form.specs.Spans.{part, over, same}
 use Rattle.form.proofs.Digits.{digits-length, value-digits-below}
 use Rattle.form.proofs.Picks.{lt-or}
 use Rattle.form.proofs.Places.{part-over}
 use Rattle.text_form.specs.Text.{known}
-use Rattle.keys.proofs.Shifts.{put-before, put-here, put-behind, put-length}
-use Rattle.keys.proofs.Names.{names-alike, names-parts, names-first, names-none, known-parts, known-first}
-use Rattle.keys.specs.Keys.{sizeAt, nameAt, namesIn, below, Kept, Knows, FreeAt, putIn, Named}
+use Rattle.keys.proofs.Shifts.{place-front, put-before, put-here, put-behind, put-length}
+use Rattle.keys.proofs.Names.{names-alike, names-parts, names-first, known-parts, known-first}
+use Rattle.keys.specs.Keys.{sizeAt, nameAt, namesIn, below, Rising, FreeIn, putIn, Named}
 
 -- ---- what stands in front
 
@@ -38,13 +38,10 @@ module _ (o o′ : List ℕ) (at : ℕ) (front : take at o ≡ take at o′) whe
   unfolding nameAt
   name-front p h = rw (← size-front p (omega arith)) (part-front (p + 2) (sizeAt o p) (omega arith))
 
-  pub place-front : (i : ℕ) → i < at → getD o i 0 ≡ getD o′ i 0
-  place-front i h = sym (getD-take at o i 0 h) ∙ ap (λ l. getD l i 0) front ∙ getD-take at o′ i 0 h
-
 -- ---- no key yet
 
-pub kept-none : (o k : List ℕ) (base at : ℕ) → at ≤ length o → base ≤ length k → Kept o k base base at
-kept-none o k base at h l =
+pub rising-none : (o k : List ℕ) (base at : ℕ) → at ≤ length o → base ≤ length k → Rising o k base base at
+rising-none o k base at h l =
     record {
       within = h;
       low = omega arith;
@@ -55,34 +52,30 @@ kept-none o k base at h l =
 
 -- ---- the same keys, where more was written behind them
 
-module _ {o k : List ℕ} {base top at : ℕ} (kept : Kept o k base top at) (o′ k′ : List ℕ) (front : take at o ≡ take at o′) (places : take top k ≡ take top k′) where
+module _ {o k : List ℕ} {base top at : ℕ} (run : Rising o k base top at) (o′ k′ : List ℕ) (front : take at o ≡ take at o′) (places : take top k ≡ take top k′) where
   same-place : (i : ℕ) → i < top → getD k i 0 ≡ getD k′ i 0
   same-place i h = place-front k k′ top places i h
 
-  same-name : (i : ℕ) → base ≤ i → i < top → nameAt o (getD k i 0) ≡ nameAt o′ (getD k′ i 0)
-  same-name i h l = rw (← same-place i l) (name-front o o′ at front (getD k i 0) (kept .ends i h l))
+  pub same-name : (i : ℕ) → base ≤ i → i < top → nameAt o (getD k i 0) ≡ nameAt o′ (getD k′ i 0)
+  same-name i h l = rw (← same-place i l) (name-front o o′ at front (getD k i 0) (run .ends i h l))
 
-  pub kept-same : {at′ : ℕ} → at ≤ at′ → at′ ≤ length o′ → Kept o′ k′ base top at′
-  kept-same {at′} h l =
+  pub rising-same : {at′ : ℕ} → at ≤ at′ → at′ ≤ length o′ → Rising o′ k′ base top at′
+  rising-same {at′} h l =
       record {
         within = l;
-        low = kept .low;
-        high = omega (arith, kept .high, simp length-take at (ap length places));
+        low = run .low;
+        high = omega (arith, run .high, simp length-take at (ap length places));
         ends = λ i p q. ends i p q;
-        rise = λ i j p q r. rw (← same-name i p (omega arith), ← same-name j (omega arith) r) (kept .rise i j p q r);
+        rise = λ i j p q r. rw (← same-name i p (omega arith), ← same-name j (omega arith) r) (run .rise i j p q r);
       }
     where
       ends : (i : ℕ) → base ≤ i → i < top → getD k′ i 0 + (2 + sizeAt o′ (getD k′ i 0)) ≤ at′
       ends i p q =
-          let e = kept .ends i p q in
+          let e = run .ends i p q in
           rw (← same-place i q, ← size-front o o′ at front (getD k i 0) (omega arith)) (omega arith)
 
   pub names-same : namesIn o k base (top - base) ≡ namesIn o′ k′ base (top - base)
   names-same = names-alike o k base o′ k′ base (top - base) (λ i h. same-name (base + i) (omega arith) (omega arith))
-
--- the whole output may be looked at
-pub kept-whole : {o k : List ℕ} {base top at : ℕ} → Kept o k base top at → Kept o k base top (length o)
-kept-whole {o} {k} kept = kept-same kept o k refl refl (kept .within) (omega arith)
 
 -- ---- a name that was written with its length
 
@@ -106,16 +99,21 @@ named-over o p s h l =
     let long : length (bytesOf 2 (length s) ++ s) ≡ 2 + length s = length-append (bytesOf 2 (length s)) s ∙ ap (λ n. n + length s) (digits-length 2 (length s)) in
     named-put (over o p (bytesOf 2 (length s) ++ s)) p (p + (2 + length s)) s h (rw long at (part-over o p (bytesOf 2 (length s) ++ s) l)) (omega arith)
 
+-- what stands there
+pub named-name : {o : List ℕ} {p at : ℕ} {s : List ℕ} → Named o p at s → nameAt o p ≡ s
+unfolding nameAt
+named-name n = rw (n .size) (n .is)
+
 -- ---- one key more
 
-or-moved : (a b c : Bool) → (a || (c || b)) ≡ (c || (a || b))
+pub or-moved : (a b c : Bool) → (a || (c || b)) ≡ (c || (a || b))
 or-moved true b true = refl
 or-moved true b false = refl
 or-moved false b true = refl
 or-moved false b false = refl
 
 -- what holds before an index, at it, and at each index above it
-each : (P : ℕ → Type 0) (base i top : ℕ) → ((j : ℕ) → base ≤ j → j < i → P j) → P i → ((m : ℕ) → i ≤ m → m < top → P (m + 1))
+pub each : (P : ℕ → Type 0) (base i top : ℕ) → ((j : ℕ) → base ≤ j → j < i → P j) → P i → ((m : ℕ) → i ≤ m → m < top → P (m + 1))
     → (j : ℕ) → base ≤ j → j < top + 1 → P j
 each P base i top f x g j h l = go (lt-or j i) (lt-or i j)
   where
@@ -125,28 +123,28 @@ each P base i top f x g j h l = go (lt-or j i) (lt-or i j)
     go (inr p) (inl q) = let e : j ≡ j - 1 + 1 = omega arith in rw e (g (j - 1) (omega arith) (omega arith))
 
 -- The key s, which belongs at index i, stands at place p behind the others, and its place was put in.
-module _ {o k o′ k′ s : List ℕ} {base top at at′ i p : ℕ} (kept : Kept o k base top at) (free : FreeAt o k base top s i) (room : top < length k)
+module _ {o k o′ k′ s : List ℕ} {base top at at′ i p : ℕ} (run : Rising o k base top at) (free : FreeIn o k base top s i) (room : top < length k)
     (put : k′ ≡ putIn k top i p) (front : take at o ≡ take at o′) (name : Named o′ p at′ s) (behind : at ≤ p) (within : at′ ≤ length o′) where
-  place-before : (j : ℕ) → j < i → getD k′ j 0 ≡ getD k j 0
+  pub place-before : (j : ℕ) → j < i → getD k′ j 0 ≡ getD k j 0
   place-before j h = rw put (put-before k top room i p j (free .sides .high) h)
 
-  place-here : getD k′ i 0 ≡ p
+  pub place-here : getD k′ i 0 ≡ p
   place-here = rw put (put-here k top room i p (free .sides .high))
 
-  place-behind : (j : ℕ) → i ≤ j → j < top → getD k′ (j + 1) 0 ≡ getD k j 0
+  pub place-behind : (j : ℕ) → i ≤ j → j < top → getD k′ (j + 1) 0 ≡ getD k j 0
   place-behind j h l = rw put (put-behind k top room i p j h l)
 
   name-old : (j : ℕ) → base ≤ j → j < top → nameAt o′ (getD k j 0) ≡ nameAt o (getD k j 0)
-  name-old j h l = sym (name-front o o′ at front (getD k j 0) (kept .ends j h l))
+  name-old j h l = sym (name-front o o′ at front (getD k j 0) (run .ends j h l))
 
-  name-before : (j : ℕ) → base ≤ j → j < i → nameAt o′ (getD k′ j 0) ≡ nameAt o (getD k j 0)
+  pub name-before : (j : ℕ) → base ≤ j → j < i → nameAt o′ (getD k′ j 0) ≡ nameAt o (getD k j 0)
   name-before j h l = rw (place-before j l) (name-old j h (omega (arith, free .sides .high)))
 
-  name-here : nameAt o′ (getD k′ i 0) ≡ s
+  pub name-here : nameAt o′ (getD k′ i 0) ≡ s
   unfolding nameAt
-  name-here = rw (place-here, name .size) (name .is)
+  name-here = rw place-here (named-name name)
 
-  name-behind : (j : ℕ) → i ≤ j → j < top → nameAt o′ (getD k′ (j + 1) 0) ≡ nameAt o (getD k j 0)
+  pub name-behind : (j : ℕ) → i ≤ j → j < top → nameAt o′ (getD k′ (j + 1) 0) ≡ nameAt o (getD k j 0)
   name-behind j h l = rw (place-behind j h l) (name-old j (omega (arith, free .sides .low)) l)
 
   place-ends : (j : ℕ) → base ≤ j → j < top + 1 → getD k′ j 0 + (2 + sizeAt o′ (getD k′ j 0)) ≤ at′
@@ -158,7 +156,7 @@ module _ {o k o′ k′ s : List ℕ} {base top at at′ i p : ℕ} (kept : Kept
     where
       old : (j : ℕ) → base ≤ j → j < top → getD k j 0 + (2 + sizeAt o′ (getD k j 0)) ≤ at′
       old j h l =
-          let e = kept .ends j h l in
+          let e = run .ends j h l in
           rw (← size-front o o′ at front (getD k j 0) (omega arith)) (omega (arith, name .ends))
 
   place-rise : (a b : ℕ) → base ≤ a → a < b → b < top + 1 → below (nameAt o′ (getD k′ a 0)) (nameAt o′ (getD k′ b 0)) ≡ true
@@ -167,9 +165,9 @@ module _ {o k o′ k′ s : List ℕ} {base top at at′ i p : ℕ} (kept : Kept
       (λ a h q b l m.
       rw (name-before a h q)
       (each (λ b. a < b → below (nameAt o (getD k a 0)) (nameAt o′ (getD k′ b 0)) ≡ true) base i top
-      (λ b h′ q′ l′. rw (name-before b h′ q′) (kept .rise a b h l′ (omega (arith, free .sides .high))))
+      (λ b h′ q′ l′. rw (name-before b h′ q′) (run .rise a b h l′ (omega (arith, free .sides .high))))
       (λ l′. rw name-here (free .sides .before a h q))
-      (λ n p r l′. rw (name-behind n p r) (kept .rise a n h (omega arith) r))
+      (λ n p r l′. rw (name-behind n p r) (run .rise a n h (omega arith) r))
       b (omega arith) m l))
       (λ b l m.
       rw name-here
@@ -183,15 +181,15 @@ module _ {o k o′ k′ s : List ℕ} {base top at at′ i p : ℕ} (kept : Kept
       (each (λ b. n + 1 < b → below (nameAt o (getD k n 0)) (nameAt o′ (getD k′ b 0)) ≡ true) base i top
       (λ b h′ q′ l′. absurd (omega arith))
       (λ l′. absurd (omega arith))
-      (λ n′ p′ r′ l′. rw (name-behind n′ p′ r′) (kept .rise n n′ (omega (arith, free .sides .low)) (omega arith) r′))
+      (λ n′ p′ r′ l′. rw (name-behind n′ p′ r′) (run .rise n n′ (omega (arith, free .sides .low)) (omega arith) r′))
       b (omega (arith, free .sides .low)) m l))
       a h (omega arith) b l m
 
-  pub kept-more : Kept o′ k′ base (top + 1) at′
-  kept-more =
+  pub rising-more : Rising o′ k′ base (top + 1) at′
+  rising-more =
       record {
         within = within;
-        low = omega (arith, kept .low);
+        low = omega (arith, run .low);
         high = rw (ap length put, put-length k top room i p (free .sides .high)) (omega arith);
         ends = place-ends;
         rise = place-rise;
@@ -224,31 +222,3 @@ module _ {o k o′ k′ s : List ℕ} {base top at at′ i p : ℕ} (kept : Kept
         known-first x s (namesIn o k i (top - i)),
       )
       (or-moved (known x (namesIn o k base (i - base))) (known x (namesIn o k i (top - i))) (same s x))
-
--- ---- the names of the entries so far, as the definition has them
-
-pub knows-none : (o k : List ℕ) (base at : ℕ) → at ≤ length o → base ≤ length k → Knows o k base base at []
-knows-none o k base at h l = record { kept = kept-none o k base at h l; alike = λ x. rw (names-none o k base) refl }
-
-module _ {o k : List ℕ} {base top at : ℕ} {names : List (List ℕ)} (knows : Knows o k base top at names) where
-  -- a key that is taken is known to the definition, and one that is not taken is not
-  pub knows-taken : (s : List ℕ) → known s (namesIn o k base (top - base)) ≡ true → known s names ≡ true
-  knows-taken s e = sym (knows .alike s) ∙ e
-
-  pub knows-free : {s : List ℕ} {i : ℕ} → FreeAt o k base top s i → known s names ≡ false
-  knows-free {s} free = sym (knows .alike s) ∙ free .new
-
-  pub knows-same : (o′ k′ : List ℕ) {at′ : ℕ} → take at o ≡ take at o′ → take top k ≡ take top k′ → at ≤ at′ → at′ ≤ length o′ → Knows o′ k′ base top at′ names
-  knows-same o′ k′ front places h l =
-      record {
-        kept = kept-same (knows .kept) o′ k′ front places h l;
-        alike = λ x. rw (← names-same (knows .kept) o′ k′ front places) (knows .alike x);
-      }
-
-  pub knows-more : {o′ k′ s : List ℕ} {at′ i p : ℕ} → FreeAt o k base top s i → top < length k → k′ ≡ putIn k top i p → take at o ≡ take at o′ → Named o′ p at′ s
-      → at ≤ p → at′ ≤ length o′ → Knows o′ k′ base (top + 1) at′ (s ∷ names)
-  knows-more {s = s} free room put front name behind within =
-      record {
-        kept = kept-more (knows .kept) free room put front name behind within;
-        alike = λ x. known-more (knows .kept) free room put front name behind within x ∙ ap (λ t. same s x || t) (knows .alike x) ∙ sym (known-first x s names);
-      }

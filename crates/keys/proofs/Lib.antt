@@ -3,3 +3,5 @@ pub mod Shifts
 pub mod Names
 pub mod Sides
 pub mod Keys
+pub mod Runs
+pub mod Merges

@@ -3,13 +3,14 @@
 use Prim.Native.Nat.{ℕ, zero, suc, _+_, _-_, _≤_, _<_}
 use mathlib.Core.List.{List, [], _∷_, _++_}
 use mathlib.Core.Bool.{Bool, true, false, _||_}
-use mathlib.Core.Path.{_≡_, refl}
+use mathlib.Core.Path.{_≡_, refl, sym, _∙_}
 use native.Mathlib.Omega.{arith}
 use native.Mathlib.Numerals.{add-one}
-use lib.ListN.{getD}
+use lib.ListN.{length, getD, take, drop, length-take, length-drop}
+use lib.Seq.{take-take}
 use Rattle.form.specs.Spans.{part, same}
 use Rattle.text_form.specs.Text.{known}
-use Rattle.keys.proofs.Orders.{same-self}
+use Rattle.keys.proofs.Orders.{true-false, same-self, same-true}
 use Rattle.keys.specs.declared.Order.{Order}
 use Rattle.keys.specs.Keys.{sizeAt, nameAt, namesIn, OrderIs}
 
@@ -17,6 +18,15 @@ use Rattle.keys.specs.Keys.{sizeAt, nameAt, namesIn, OrderIs}
 pub order-named : (o : List ℕ) (p n : ℕ) (s : List ℕ) (r : Order) → n ≡ sizeAt o p → OrderIs (part o (p + 2) n) s r → OrderIs (nameAt o p) s r
 unfolding nameAt
 order-named o p n s r e h = rw e at h
+
+-- a name as a part of the output, by the length that was read
+module _ (o : List ℕ) (p n : ℕ) (e : n ≡ sizeAt o p) (h : p + (2 + sizeAt o p) ≤ length o) where
+  pub name-fits : n ≤ length (take (length o - (p + 2)) (drop (p + 2) o))
+  name-fits = simp (length-take, length-drop) (omega (arith, e))
+
+  pub name-part : take n (take (length o - (p + 2)) (drop (p + 2) o)) ≡ nameAt o p
+  unfolding nameAt
+  name-part = take-take n (length o - (p + 2)) (drop (p + 2) o) (omega (arith, e)) ∙ rw e refl
 
 -- ---- the names
 
@@ -96,3 +106,36 @@ unfolding namesIn known
 known-not o k a zero x h = refl
 known-not o k a (suc n) x h =
     rw (h a (omega arith) (omega arith)) (known-not o k (suc a) n x (λ i l m. h i (omega arith) (omega arith)))
+
+-- where it is not known, none of them is it
+pub known-each : (o k : List ℕ) (a b : ℕ) (x : List ℕ) → known x (namesIn o k a (b - a)) ≡ false → (i : ℕ) → a ≤ i → i < b → same (nameAt o (getD k i 0)) x ≡ false
+known-each o k a b x e i h l = go (same (nameAt o (getD k i 0)) x) refl
+  where
+    go : (t : Bool) → same (nameAt o (getD k i 0)) x ≡ t → t ≡ false
+    go false p = refl
+    go true p =
+        let f : a + (i - a) ≡ i = omega arith in
+        true-false (sym (known-here o k a (b - a) x (i - a) (omega arith) (rw f (same-true (nameAt o (getD k i 0)) x p))) ∙ e)
+
+-- in two parts, which meet at an index
+pub known-split : (o k : List ℕ) (a m b : ℕ) (x : List ℕ) → a ≤ m → m ≤ b → known x (namesIn o k a (b - a)) ≡ (known x (namesIn o k a (m - a)) || known x (namesIn o k m (b - m)))
+known-split o k a m b x h l =
+    let e : b - a ≡ (m - a) + (b - m) = omega arith in
+    let f : a + (m - a) ≡ m = omega arith in
+    rw (e, names-parts o k a (m - a) (b - m), f) (known-parts x (namesIn o k a (m - a)) (namesIn o k m (b - m)))
+
+or-left : (a b : Bool) → (a || b) ≡ false → a ≡ false
+or-left true b e = e
+or-left false b e = refl
+
+or-right : (a b : Bool) → (a || b) ≡ false → b ≡ false
+or-right true b e = true-false e
+or-right false b e = e
+
+-- known in neither part
+module _ (o k : List ℕ) (a m b : ℕ) (x : List ℕ) (h : a ≤ m) (l : m ≤ b) (e : known x (namesIn o k a (b - a)) ≡ false) where
+  pub unknown-left : known x (namesIn o k a (m - a)) ≡ false
+  unknown-left = or-left (known x (namesIn o k a (m - a))) (known x (namesIn o k m (b - m))) (sym (known-split o k a m b x h l) ∙ e)
+
+  pub unknown-right : known x (namesIn o k m (b - m)) ≡ false
+  unknown-right = or-right (known x (namesIn o k a (m - a))) (known x (namesIn o k m (b - m))) (sym (known-split o k a m b x h l) ∙ e)

@@ -15,7 +15,7 @@ use Rattle.form.proofs.Drops.{drop1}
 use Rattle.keys.specs.declared.Order.{Order}
 use Rattle.keys.specs.Keys.{below, OrderIs}
 
-true-false : {A : Type 0} → true ≡ false → A
+pub true-false : {A : Type 0} → true ≡ false → A
 true-false e = let z : _≡_ {A = ℕ} 0 1 = cc in absurd (omega arith)
 
 -- ---- below
@@ -67,7 +67,7 @@ unfolding same
 same-self [] = refl
 same-self (x ∷ xs) = rw (eq-eqb x x refl) (same-self xs)
 
-same-true : (xs ys : List ℕ) → same xs ys ≡ true → xs ≡ ys
+pub same-true : (xs ys : List ℕ) → same xs ys ≡ true → xs ≡ ys
 unfolding same
 same-true [] [] e = refl
 same-true [] (y ∷ ys) e = true-false (sym e)

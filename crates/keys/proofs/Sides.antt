@@ -12,14 +12,14 @@ use Rattle.form.specs.Spans.{same}
 use Rattle.text_form.specs.Text.{known}
 use Rattle.keys.proofs.Orders.{below-trans, below-apart, above-apart}
 use Rattle.keys.proofs.Names.{known-here, known-not}
-use Rattle.keys.specs.Keys.{nameAt, namesIn, below, Kept, Sides, FreeAt}
+use Rattle.keys.specs.Keys.{nameAt, namesIn, below, Rising, Sides, FreeIn}
 
-module _ {o k : List ℕ} {base top at : ℕ} (kept : Kept o k base top at) (s : List ℕ) where
+module _ {o k : List ℕ} {base top at : ℕ} (run : Rising o k base top at) (s : List ℕ) where
   pub sides-start : Sides o k base top s base top
   sides-start =
       record {
         low = omega arith;
-        order = kept .low;
+        order = run .low;
         high = omega arith;
         before = λ j h l. absurd (omega arith);
         behind = λ j h l. absurd (omega arith);
@@ -38,7 +38,7 @@ module _ {o k : List ℕ} {base top at : ℕ} (kept : Kept o k base top at) (s :
         }
       where
         go : (j : ℕ) → base ≤ j → (j < m) ⊎ (m ≤ j) → j < m + 1 → below (nameAt o (getD k j 0)) s ≡ true
-        go j h (inl p) l = below-trans (nameAt o (getD k j 0)) (nameAt o (getD k m 0)) s (kept .rise j m h p (omega arith)) e
+        go j h (inl p) l = below-trans (nameAt o (getD k j 0)) (nameAt o (getD k m 0)) s (run .rise j m h p (omega arith)) e
         go j h (inr p) l = let q : j ≡ m = omega arith in rw q e
 
     -- the key is below the name in the middle: and below those behind it
@@ -53,7 +53,7 @@ module _ {o k : List ℕ} {base top at : ℕ} (kept : Kept o k base top at) (s :
         }
       where
         go : (j : ℕ) → m ≤ j → (m < j) ⊎ (j ≤ m) → j < top → below s (nameAt o (getD k j 0)) ≡ true
-        go j h (inl p) l = below-trans s (nameAt o (getD k m 0)) (nameAt o (getD k j 0)) e (kept .rise m j (omega arith) p l)
+        go j h (inl p) l = below-trans s (nameAt o (getD k m 0)) (nameAt o (getD k j 0)) e (run .rise m j (omega arith) p l)
         go j h (inr p) l = let q : j ≡ m = omega arith in rw q e
 
     -- it is the key
@@ -63,7 +63,7 @@ module _ {o k : List ℕ} {base top at : ℕ} (kept : Kept o k base top at) (s :
         known-here o k base (top - base) s (m - base) (omega arith) (rw f e)
 
   -- nothing lies between
-  pub sides-free : {a b : ℕ} → Sides o k base top s a b → b ≤ a → FreeAt o k base top s a
+  pub sides-free : {a b : ℕ} → Sides o k base top s a b → b ≤ a → FreeIn o k base top s a
   sides-free {a} {b} sides h =
       record {
         new = known-not o k base (top - base) s (λ j l m. go j l (omega arith) (lt-or j a));

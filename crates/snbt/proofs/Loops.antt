@@ -15,7 +15,7 @@ use Rattle.form.proofs.Table.{over-none, over-length, over-over}
 use Rattle.text_form.specs.Lexing.{TokenData}
 use Rattle.text_form.specs.Text.{Value, Row, Block, Then, goesOn, closes, Reads, behind, closeAt, known, elementsBy, entriesBy, compoundAt, squareAt, valueAt}
 use Rattle.keys.specs.Keys.{Kept, namesIn}
-use Rattle.keys.proofs.Keys.{kept-none}
+use Rattle.keys.proofs.Runs.{kept-none}
 use Rattle.scalars.specs.declared.Done.{Done}
 use Rattle.scalars.specs.declared.Done.the-variants.{To, No}
 use Rattle.scalars.specs.Done.{Did, KeyRoom}
@@ -234,7 +234,7 @@ module _ (t o₀ k₀ : List ℕ) (val : Reads) (base at start brace : ℕ) wher
 
       wrote-on : o′ ≡ over o₀ at (laid (_and_ (s .done) (before (tr .entered) ended)))
       wrote-on =
-          tr .wrote ∙ rw (s .wrote, s .used-is) (over-over o₀ at (laid (s .done)) (omega (arith, s .used-is, s .kept .within, s .long)) (enteredBytes (tr .entered)))
+          tr .wrote ∙ rw (s .wrote, s .used-is) (over-over o₀ at (laid (s .done)) (omega (arith, s .used-is, s .kept .second .within, s .long)) (enteredBytes (tr .entered)))
           ∙ ap (over o₀ at) (sym (laid-before (s .done) (tr .entered)))
 
       long-on : length o′ ≡ length o₀

@@ -6,8 +6,8 @@ use mathlib.Core.Bool.{Bool, true, false, _||_}
 use mathlib.Core.List.{List, [], _∷_, _++_}
 use native.Mathlib.Omega.{arith}
 use lib.Dec.{eqb}
-use lib.ListN.{length, take, drop, length-append}
-use lib.Seq.{take-take, take-append-le, length-take-le}
+use lib.ListN.{length, take, length-append}
+use lib.Seq.{take-take}
 use Rattle.form.specs.Answer.{Out, got, no, _>>=_, _>>_, guard, unmatchedBrace}
 use Rattle.form.specs.Spans.{over, part, same}
 use Rattle.form.proofs.Places.{part-over}
@@ -19,8 +19,10 @@ use Rattle.form.proofs.Digits.{digits-length}
 use Rattle.form.proofs.Table.{over-none, over-length, over-over}
 use Rattle.text_form.specs.Lexing.{TokenData}
 use Rattle.text_form.specs.Text.{Value, Row, Then, goesOn, closes, Reads, signOf, following, squareAt, arrayAt, compoundAt, elementsBy, valueBy, valueAt, scalarValue, known}
-use Rattle.keys.specs.Keys.{Kept, FreeAt, namesIn, putIn, Named}
-use Rattle.keys.proofs.Keys.{kept-same, kept-more, known-more, named-put, names-same, place-front}
+use Rattle.keys.specs.Keys.{Kept, nameAt, namesIn, Named, Comes, Added}
+use Rattle.keys.proofs.Keys.{named-put, named-name}
+use Rattle.keys.proofs.Shifts.{take-less}
+use Rattle.keys.proofs.Runs.{kept-same, names-kept, free-same}
 use Rattle.scalars.specs.declared.Done.{Done}
 use Rattle.scalars.specs.declared.Done.the-variants.{To, No}
 use Rattle.snbt.specs.declared.Turn.{Turn}
@@ -148,27 +150,9 @@ named-within o at kind s ps h f =
     ∙ part-take y r (at + 1) (length (stringBytes s)) (omega arith) ∙ part-over (over o at (kind ∷ [])) (at + 1) (stringBytes s) (omega (arith, l)) in
     named-put (over o at (kind ∷ stringBytes s ++ ps)) (at + 1) (at + 3 + length s + length ps) s h (rw two at here) (omega arith)
 
--- a key that is free stays so where the keys above are changed
-free-same : {o k : List ℕ} {base top at : ℕ} {s : List ℕ} {i : ℕ} → Kept o k base top at → (k₂ : List ℕ) → take top k ≡ take top k₂ → FreeAt o k base top s i → FreeAt o k₂ base top s i
-free-same {o} {k} {base} {top} {at} {s} {i} kept k₂ e f = record {
-  new = rw (← names-same kept o k₂ refl e) (f .new);
-  sides = record {
-    low = f .sides .low;
-    order = f .sides .order;
-    high = f .sides .high;
-    before = λ j h l. rw (← place-front k k₂ top e j (omega (arith, l, f .sides .high))) (f .sides .before j h l);
-    behind = λ j h l. rw (← place-front k k₂ top e j l) (f .sides .behind j h l);
-  };
-}
-
 known-head : (x s : List ℕ) (ns : List (List ℕ)) → known x (s ∷ ns) ≡ (same s x || known x ns)
 unfolding known
 known-head x s ns = refl
-
-put-around : (k : List ℕ) (top i p base : ℕ) → base ≤ i → i ≤ length k → take base (putIn k top i p) ≡ take base k
-put-around k top i p base h l =
-    let m : length (take i k) ≡ i = length-take-le i k l in
-    take-append-le base (take i k) (p ∷ (part k i (top - i) ++ drop (top + 1) k)) (omega (arith, m)) ∙ take-take base i k h
 
 module _ (t o k : List ℕ) (base top at brace last p : ℕ) (left : ℕ) (buffer : List ℕ) (n i : ℕ) (d : TokenData) (m : ℕ)
     (kept : Kept o k base top at) (room : top < length k) (keyed : Keyed t brace last p o k base top buffer n i d m) (low : at ≤ 16 * p) where
@@ -184,10 +168,10 @@ module _ (t o k : List ℕ) (base top at brace last p : ℕ) (left : ℕ) (buffe
   pub entry-value-no : (o₁ : List ℕ) → length o₁ ≡ length o → (a b : ℕ) → valueAt t (length o₁) left 0 d m (at + 3 + n) ≡ no a b → turn ≡ no a b
   entry-value-no o₁ l a b e = begun ∙ rw (rw l at e) refl
 
-  module _ (o₁ o₂ o₃ k₂ k₃ : List ℕ) (q u kind : ℕ) (l : length o₁ ≡ length o) (l₂ : length k₂ ≡ length k)
+  module _ (o₁ o₂ o₃ k₂ : List ℕ) (q u kind : ℕ) (l : length o₁ ≡ length o) (l₂ : length k₂ ≡ length k)
       (wrote : at + 1 + 2 + n ≤ length o → o₁ ≡ over o (at + 1) (stringBytes (take n buffer)))
       (did : Did (valueAt t (length o₁) left 0 d m (at + 3 + n)) o₁ (at + 3 + n) q u kind o₂) (went : Went t k top m q u k₂)
-      (put : o₃ ≡ over o₂ at (kind ∷ [])) (put-key : k₃ ≡ putIn k₂ top i (at + 1)) where
+      (put : o₃ ≡ over o₂ at (kind ∷ [])) where
     abbrev s : List ℕ
     s = keyed .name
 
@@ -214,11 +198,6 @@ module _ (t o k : List ℕ) (base top at brace last p : ℕ) (left : ℕ) (buffe
       wrote = whole;
     }
 
-    around : take base k₃ ≡ take base k
-    around =
-        let f = keyed .fit .free .sides in
-        ap (take base) put-key ∙ put-around k₂ top i (at + 1) base (f .low) (omega (arith, f .high, room, l₂)) ∙ sym (take-take base top k₂ (kept .low)) ∙ ap (take base) (went .around) ∙ take-take base top k (kept .low)
-
     named : Named o₃ (at + 1) u s
     named =
         let z : u ≡ at + 3 + length s + length (payload (did .value .tag)) = omega (arith, did .size-is, keyed .fit .length-is) in
@@ -228,30 +207,42 @@ module _ (t o k : List ℕ) (base top at brace last p : ℕ) (left : ℕ) (buffe
     long = ap length whole ∙ over-length o at (kindOf (did .value .tag) ∷ stringBytes s ++ payload (did .value .tag)) (omega (arith, fits, entry-size s (did .value .tag)))
 
     front : take at o ≡ take at o₃
-    front = sym (ap (take at) whole ∙ take-over o at at (kindOf (did .value .tag) ∷ stringBytes s ++ payload (did .value .tag)) (omega arith) (kept .within))
+    front = sym (ap (take at) whole ∙ take-over o at at (kindOf (did .value .tag) ∷ stringBytes s ++ payload (did .value .tag)) (omega arith) (kept .second .within))
 
-    kept₂ : Kept o k₂ base top at
-    kept₂ = kept-same kept o k₂ refl (sym (went .around)) (omega arith) (kept .within)
+    name-is : nameAt o₃ (at + 1) ≡ s
+    name-is = named-name named
 
-    free₂ : FreeAt o k₂ base top s i
-    free₂ = free-same kept k₂ (sym (went .around)) (keyed .fit .free)
+    -- the key may be put among the others
+    pub entry-comes : Comes o₃ k₂ base top i (at + 1)
+    entry-comes =
+        let e = named .ends in
+        record {
+          kept = kept-same kept o₃ k₂ front (sym (went .around)) (omega arith) (omega (arith, long, fits));
+          room = omega (arith, room, l₂);
+          ends = omega (arith, named .size, e, did .fits, long, l);
+          free = rw name-is (free-same kept o₃ k₂ front (sym (went .around)) (keyed .fit .free));
+        }
 
-    grown : (c m′ : ℕ) → following t (length o) 125 q unmatchedBrace brace ≡ got (goesOn c m′) → q < m′ → m′ ≤ length t → Grown turn t o k base top at p c m′ u o₃ k₃
-    grown c m′ e h w = record {
-      turned = turned (goesOn c m′) e;
-      kept = kept-more kept₂ free₂ (omega (arith, room, l₂)) put-key front named (omega arith) (omega (arith, long, did .fits, l));
-      names = λ x. known-head x s (namesIn o k base (top - base)) ∙ ap (λ ns. same s x || known x ns) (names-same kept o k₂ refl (sym (went .around))) ∙ sym (known-more kept₂ free₂ (omega (arith, room, l₂)) put-key front named (omega arith) (omega (arith, long, did .fits, l)) x);
-      around = around;
-      far = omega (arith, keyed .fit .far, met-within (keyed .fit .met) .0, went .on, h);
-      within = w;
-      small = omega (arith, went .small, h);
-    }
+    module _ (k₃ : List ℕ) (added : Added o₃ k₂ base top (at + 1) k₃) where
+      around : take base k₃ ≡ take base k
+      around = added .around ∙ take-less base top k₂ k (omega (arith, kept .first .low, kept .second .low)) (went .around)
 
-    pub entry-settled : (r : Turn) → SettledIs t q u brace r → TurnIs turn t o k base top at p r o₃ k₃
-    entry-settled (Turn.More c m′ u′) (e, h, w, z) = rw z (grown c m′ (e (length o)) h w)
-    entry-settled (Turn.Last i′ m′ u′) (e, h, w, z) =
-        rw z (record { turned = turned (closes i′ m′) (e (length o)); around = around; far = omega (arith, keyed .fit .far, met-within (keyed .fit .met) .0, went .on, h); within = w; small = omega (arith, went .small, h) })
-    entry-settled (Turn.No a b) e = read ∙ rw (e (length o)) refl
+      grown : (c m′ : ℕ) → following t (length o) 125 q unmatchedBrace brace ≡ got (goesOn c m′) → q < m′ → m′ ≤ length t → Grown turn t o k base top at p c m′ u o₃ k₃
+      grown c m′ e h w = record {
+        turned = turned (goesOn c m′) e;
+        kept = kept-same (added .kept) o₃ k₃ refl refl (omega (arith, named .size, named .ends)) (omega (arith, long, did .fits, l));
+        names = λ x. known-head x s (namesIn o k base (top - base)) ∙ ap (λ ns. same s x || known x ns) (names-kept kept o₃ k₂ front (sym (went .around))) ∙ sym (rw name-is at (added .alike x));
+        around = around;
+        far = omega (arith, keyed .fit .far, met-within (keyed .fit .met) .0, went .on, h);
+        within = w;
+        small = omega (arith, went .small, h);
+      }
+
+      pub entry-settled : (r : Turn) → SettledIs t q u brace r → TurnIs turn t o k base top at p r o₃ k₃
+      entry-settled (Turn.More c m′ u′) (e, h, w, z) = rw z (grown c m′ (e (length o)) h w)
+      entry-settled (Turn.Last i′ m′ u′) (e, h, w, z) =
+          rw z (record { turned = turned (closes i′ m′) (e (length o)); around = around; far = omega (arith, keyed .fit .far, met-within (keyed .fit .met) .0, went .on, h); within = w; small = omega (arith, went .small, h) })
+      entry-settled (Turn.No a b) e = read ∙ rw (e (length o)) refl
 
 -- the `}` in the place of a key
 pub entry-closed : (t o k : List ℕ) (base top at brace p i m : ℕ) (res : Out Entered) → res ≡ got (stops i m) → p < m → m ≤ length t → at ≤ length o → at ≤ 16 * p → Closed res t o k base at p i m at o k

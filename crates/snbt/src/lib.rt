@@ -19,7 +19,7 @@ ghost use Rattle.text_form.specs.Text.{compoundAt, entriesBy, squareAt, element
 ghost use Rattle.tokens.specs.Answers.{dataIs, stopsIs};
 ghost use Rattle.form.specs.Answer.{got};
 ghost use Rattle.form.specs.Tree.{list, nil};
-ghost use Rattle.keys.specs.Keys.{Kept, namesIn, putIn};
+ghost use Rattle.keys.specs.Keys.{Kept, namesIn, Comes, Added};
 ghost use Rattle.scalars.specs.Done.{Agrees, Spanned, KeyRoom};
 ghost use Rattle.snbt.specs.Answers.{parsedOut};
 ghost use Rattle.snbt.specs.Turns.{Ready, Met, wordData, Worded, entryTurn, inner, blockValue, rootOf};
@@ -546,16 +546,17 @@ fn settle(
     out: &mut [u8],
     at: usize,
     keys: &mut [u32],
+    base: usize,
     top: usize,
     index: usize,
 ) -> Turn
-    requires { ⌜ (place ≤ length (now text)) × (at + 1 ≤ length (now out)) × (at ≤ 16777216) × (index ≤ top) × (top < length (now keys)) ⌝ }
+    requires { ⌜ (place ≤ length (now text)) × (at + 1 ≤ length (now out)) × (at ≤ 16777216) × (Comes (over (now out) at (kind ∷ [])) (now keys) base top index (at + 1)) ⌝ }
     ensures is { λ r. ⌜ SettledIs (now (text .entry)) place used brace r ⌝ }
     ensures wrote { λ r. ⌜ now (out .exit) ≡ over (now (out .entry)) at (kind ∷ []) ⌝ }
-    ensures put { λ r. ⌜ now (keys .exit) ≡ putIn (now (keys .entry)) top index (at + 1) ⌝ }
+    ensures put { λ r. ⌜ Added (now (out .exit)) (now (keys .entry)) base top (at + 1) (now (keys .exit)) ⌝ }
 {
     out[at] = kind;
-    keys::put_in(keys, top, index, (at + 1) as u32);
+    keys::add(out, keys, base, top, index, (at + 1) as u32);
     match following(text, place, b'}', form::UNMATCHED_BRACE, brace) {
         After::Comma { place: p, next } => Turn::More {
             comma: p,
@@ -874,7 +875,7 @@ fn entry(
                     next: n,
                     used,
                     kind,
-                } => { settle(text, n, used, kind, brace, out, at, keys, top, index) }
+                } => { settle(text, n, used, kind, brace, out, at, keys, base, top, index) }
             }
         }
     }

@@ -1,110 +1,56 @@
--- `keys::spot_of` meets its contract: the names before `low` are below the key, and the key is below those from `high` on.
+-- `keys::spot_of` meets its contract: a key is in the first run, or in the second, or belongs in the second.
 -- Assumes nothing.
 use borrow.Author.Needs.{needs}
 use native.Mathlib.Omega.{arith}
-use Prim.Native.Nat.{_+_, _-_, _/_}
 use lib.ListN.{take}
-use Rattle.keys.specs.Keys.{Sides}
-use Rattle.keys.proofs.Sides.{sides-start, sides-up, sides-down, sides-taken, sides-free}
+use Rattle.keys.proofs.Runs.{taken-first, spot-second}
 use Rattle.keys.proofs.spot_of.Statement.{statement}
 use Rattle.keys.proofs.spot_of.Tie as tie
 use Rattle.keys.proofs.spot_of.Reads as reads
 use Rattle.keys.proofs.spot_of.Lts as lts
-use Rattle.keys.proofs.order_name.Reads as order-name-reads
-use Rattle.keys.proofs.wide.Reads as wide-reads
+use Rattle.keys.proofs.halve.Reads as halve-reads
+use Rattle.keys.proofs.joint.Reads as joint-reads
 
-abbrev Inv-loop : tie.InvT-loop
-Inv-loop out keys base top key size low₀ high₀ low high = Sides out keys base top (take size key) low high
+joint-requires : tie.Need-joint-requires
+joint-requires c κs = let k = c .before .before .before .pre .0 in omega (arith, k .first .low, k .second .low)
 
-abbrev μ-loop : tie.MeasureT-loop
-μ-loop out keys base top key size low₀ high₀ low high = high - low
+halve-requires : tie.Need-halve-requires
+halve-requires c κs = let s = c .before .before .before .before in (rw (c .joint .ensures) (s .pre .0 .first), s .pre .1)
 
-loop-holds : tie.Need-loop-holds Inv-loop μ-loop
-loop-holds c = sides-start (c .before .before .before .pre .0) _
-
-sub-mid : tie.Need-sub-mid Inv-loop μ-loop
-sub-mid c = omega arith
-
-add-mid : tie.Need-add-mid Inv-loop μ-loop
-add-mid c = omega arith
-
-mul-wide : tie.Need-mul-wide Inv-loop μ-loop
-mul-wide c = search needs
-
-shared-slice-read-wide : tie.Need-shared-slice-read-wide Inv-loop μ-loop
-shared-slice-read-wide c = omega arith
-
-wide-requires : tie.Need-wide-requires Inv-loop μ-loop
-wide-requires c κs = search needs
-
-order-name-requires : tie.Need-order-name-requires Inv-loop μ-loop
-order-name-requires c κs =
-    let l = c .before .before .before in
-    let s = l .before .before .before .before in
-    (rw (c .wide .ensures) (s .pre .0 .ends (l .loop .low + (l .loop .high - l .loop .low) / 2) (omega arith) (omega arith)), s .pre .1)
-
-enum-told : tie.Need-enum-told Inv-loop μ-loop
+enum-told : tie.Need-enum-told
 enum-told c = search needs
 
-add-low : tie.Need-add-low Inv-loop μ-loop
-add-low c = omega arith
-
-loop-less : tie.Need-loop-less Inv-loop μ-loop
-loop-less c = omega arith
-
-loop-again : tie.Need-loop-again Inv-loop μ-loop
-loop-again c =
-    let n = c .before .before in
-    let l = n .before .before .before .before in
-    let s = l .before .before .before .before in
-    sides-up (s .pre .0) _ (l .loop .inv) (omega arith) (omega arith) (rw (c .enum-told .given .1, c .before .before .before .wide .ensures) at (n .order-name .ensures))
-
-enum-told-2 : tie.Need-enum-told-2 Inv-loop μ-loop
+enum-told-2 : tie.Need-enum-told-2
 enum-told-2 c = search needs
 
-loop-less-2 : tie.Need-loop-less-2 Inv-loop μ-loop
-loop-less-2 c = omega arith
+halve-requires-2 : tie.Need-halve-requires-2
+halve-requires-2 c κs =
+    let j = c .before .before .before in
+    let s = j .before .before .before .before in
+    (rw (j .joint .ensures) (s .pre .0 .second), s .pre .1)
 
-loop-again-2 : tie.Need-loop-again-2 Inv-loop μ-loop
-loop-again-2 c =
-    let n = c .before .before in
-    let l = n .before .before .before .before in
-    let s = l .before .before .before .before in
-    sides-down (s .pre .0) _ (l .loop .inv) (omega arith) (omega arith) (rw (c .enum-told2 .given .1, c .before .before .before .wide .ensures) at (n .order-name .ensures))
-
-enum-told-3 : tie.Need-enum-told-3 Inv-loop μ-loop
-enum-told-3 c = search needs
-
-returns : tie.Need-returns Inv-loop μ-loop
+returns : tie.Need-returns
 returns c =
-    let n = c .before .before in
-    let l = n .before .before .before .before in
-    let s = l .before .before .before .before in
-    sides-taken (s .pre .0) _ {m = l .loop .low + (l .loop .high - l .loop .low) / 2} (l .loop .inv) (omega arith) (omega arith) (rw (c .enum-told3 .given .1, c .before .before .before .wide .ensures) at (n .order-name .ensures))
+    let j = c .before .before .before in
+    let s = j .before .before .before .before in
+    taken-first (s .pre .0) (take (s .args .size) (s .args .key .now)) (rw (c .enum-told .given .1, j .joint .ensures) at (c .before .before .halve .ensures))
 
-returns-2 : tie.Need-returns-2 Inv-loop μ-loop
-returns-2 c = sides-free (c .before .before .before .before .before .pre .0) _ (c .before .loop .inv) (c .loop-test .left)
+returns-2 : tie.Need-returns-2
+returns-2 c =
+    let h = c .before .before .before in
+    let j = h .before in
+    let s = j .before .before .before .before in
+    let f = rw (c .before .enum-told2 .given .1, j .joint .ensures) at (h .halve .ensures) in
+    spot-second (take (s .args .size) (s .args .key .now)) (c .halve2 .result) (s .pre .0) (f .new) (rw (j .joint .ensures) at (c .halve2 .ensures))
 
 pub spot-of-spec : {M : Type 1} → statement M
 spot-of-spec =
     tie.close
     (tie.spec
-    Inv-loop
-    μ-loop
-    loop-holds
-    sub-mid
-    add-mid
-    mul-wide
-    shared-slice-read-wide
-    wide-requires
-    order-name-requires
+    joint-requires
+    halve-requires
     enum-told
-    add-low
-    loop-less
-    loop-again
     enum-told-2
-    loop-less-2
-    loop-again-2
-    enum-told-3
+    halve-requires-2
     returns
     returns-2)

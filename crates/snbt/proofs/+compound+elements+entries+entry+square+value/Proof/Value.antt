@@ -13,7 +13,7 @@ use Rattle.tokens.specs.Answers.{dataIs}
 use Rattle.form.specs.Answer.{Out as Answer}
 use Rattle.text_form.specs.Text.{Block, valueAt, compoundAt, entriesBy}
 use Rattle.snbt.specs.Steps.{ValueIs}
-use Rattle.keys.proofs.Keys.{kept-whole}
+use Rattle.keys.proofs.Runs.{kept-whole}
 use Rattle.snbt.specs.Turns.{inner, blockValue}
 use Rattle.snbt.proofs.Reading.{compound-deep, compound-full}
 use Rattle.snbt.proofs.Sizes.{met-within}
