@@ -17,6 +17,13 @@ use Rattle.numbers.proofs.Slices.{slice-none, slice-first, slice-take, 
 
 -- ---- lists
 
+or-both : (x y : Bool) → (x || y) ≡ false → (x ≡ false) × (y ≡ false)
+or-both true y e = absurd (unlike e)
+  where
+    unlike : _≡_ {A = Bool} true false → ⊥
+    unlike e = let z : _≡_ {A = ℕ} 0 1 = cc in omega arith
+or-both false y e = (refl, e)
+
 module _ (t : ℕ → Bool) where
   pub first-here : (b : ℕ) (l : List ℕ) → t b ≡ true → length (before t (b ∷ l)) ≡ 0
   unfolding before
@@ -47,6 +54,19 @@ module _ (t : ℕ → Bool) where
       go : (x : Bool) → drop (suc (length (before t l))) l ≡ behind t l → drop (suc (length (pick x [] (b ∷ before t l)))) (b ∷ l) ≡ pick x l (behind t l)
       go true ih = refl
       go false ih = ih
+
+  -- bytes none of which passes, alone and before one that does
+  pub before-all : (a : List ℕ) → has t a ≡ false → before t a ≡ a
+  unfolding before has
+  before-all [] n = refl
+  before-all (y ∷ a) n = let w = or-both (t y) (has t a) n in ap (λ (x : Bool). pick x [] (y ∷ before t a)) (w .0) ∙ ap (λ (l : List ℕ). y ∷ l) (before-all a (w .1))
+
+  pub before-found : (a : List ℕ) (x : ℕ) (l : List ℕ) → has t a ≡ false → t x ≡ true → before t (a ++ (x ∷ l)) ≡ a
+  unfolding before has
+  before-found [] x l n e = ap (λ (b : Bool). pick b [] (x ∷ before t l)) e
+  before-found (y ∷ a) x l n e =
+      let w = or-both (t y) (has t a) n in
+      ap (λ (b : Bool). pick b [] (y ∷ before t (a ++ (x ∷ l)))) (w .0) ∙ ap (λ (k : List ℕ). y ∷ k) (before-found a x l (w .1) e)
 
   pub before-le : (l : List ℕ) → length (before t l) ≤ length l
   unfolding before
@@ -112,6 +132,21 @@ module _ (x y : ℕ) (s : List ℕ) (at to r : ℕ) (f : FirstAt x y s at to r) 
 
   pub part-lacks : to ≤ r → has (either x y) (slice at to s) ≡ false
   part-lacks h = has-none (either x y) (slice at to s) (omega (arith, length-slice at to s k, f .is, f .low))
+
+-- the first byte that is x or y, behind bytes that are neither; and none
+pub first-is : (x y : ℕ) (s : List ℕ) (at to r : ℕ) → at ≤ r → r < to → to ≤ length s → has (either x y) (slice at r s) ≡ false → either x y (getD s r 0) ≡ true → FirstAt x y s at to r
+first-is x y s at to r l h k n e =
+    let t = either x y in
+    let parts : slice at to s ≡ slice at r s ++ (getD s r 0 ∷ slice (r + 1) to s) =
+    slice-split at r to s l (omega arith) k ∙ ap (λ (q : List ℕ). slice at r s ++ q) (slice-first r to s h k) in
+    let front : before t (slice at to s) ≡ slice at r s = ap (before t) parts ∙ before-found t (slice at r s) (getD s r 0) (slice (r + 1) to s) n e in
+    let many : length (before t (slice at to s)) ≡ r - at = ap length front ∙ length-slice at r s (omega arith) in
+    record { is = omega (arith, many); low = l; high = omega arith }
+
+pub first-lacks : (x y : ℕ) (s : List ℕ) (at to : ℕ) → at ≤ to → to ≤ length s → has (either x y) (slice at to s) ≡ false → FirstAt x y s at to to
+first-lacks x y s at to l k n =
+    let many : length (before (either x y) (slice at to s)) ≡ to - at = ap length (before-all (either x y) (slice at to s) n) ∙ length-slice at to s k in
+    record { is = omega (arith, many); low = l; high = omega arith }
 
 -- ---- the tests
 

@@ -5,4 +5,5 @@ pub mod Firsts
 pub mod Powers
 pub mod Grammar
 pub mod OnePass
+pub mod Fractions
 pub mod NoNan

@@ -15,12 +15,12 @@ use lib.Ieee.{binary64, ofInt}
 use Rattle.form.specs.Answer.{got, pick}
 use Rattle.text_form.specs.Values.{signed}
 use Rattle.text_form.specs.Numbers.{byte, short, int, long, float, double, isDigit, isPoint, isLetter, isSuffix, has, negative, digits, worth, suffixed, number}
-use Rattle.numbers.specs.Rows.{wholeDigits, RunAt}
+use Rattle.numbers.specs.Rows.{wholeDigits, either, RunAt}
 use Rattle.numbers.specs.declared.runs.Row.{Row}
 use Rattle.numbers.specs.declared.digits.Digits.the-variants.{Value}
 use Rattle.numbers.proofs.Slices.{slice-none, slice-first, slice-one, slice-last}
 use Rattle.numbers.proofs.Rows.{digits-append, worth-append, whole-is}
-use Rattle.numbers.proofs.Firsts.{has-behind}
+use Rattle.numbers.proofs.Firsts.{has-behind, the-point}
 use Rattle.numbers.proofs.Tokens.{unsigned-le, some-bytes, whole-number}
 use Rattle.numbers.proofs.Grammar.{number-without}
 
@@ -41,7 +41,7 @@ and-both : (x y : Bool) → (x && y) ≡ true → (x ≡ true) × (y ≡ true)
 and-both true y e = (refl, e)
 and-both false y e = absurd (unlike e)
 
-other : (b k : ℕ) → isDigit b ≡ true → isDigit k ≡ false → eqb b k ≡ false
+pub other : (b k : ℕ) → isDigit b ≡ true → isDigit k ≡ false → eqb b k ≡ false
 other b k d q = not-it isDigit b k d q
 
 digit-no-suffix : (b : ℕ) → isDigit b ≡ true → isSuffix b ≡ false
@@ -89,17 +89,22 @@ pub in-range : (b : Bool) (n : ℕ) → n < 10 ^ 18 → leb n (pick b (2 ^ 63) (
 in-range true n h = le-leb n (2 ^ 63) (omega arith)
 in-range false n h = le-leb n (2 ^ 63 - 1) (omega arith)
 
-digits-no-point : (l : List ℕ) → digits l ≡ true → has isPoint l ≡ false
+-- digits are none of two bytes that are none
+pub digits-lack : (x y : ℕ) → isDigit x ≡ false → isDigit y ≡ false → (l : List ℕ) → digits l ≡ true → has (either x y) l ≡ false
 unfolding digits has
-digits-no-point [] e = refl
-digits-no-point (b ∷ l) e =
-    let w = and-both (isDigit b) (digits l) e in ap₂ _||_ (not-it isDigit b 46 (w .0) refl) (digits-no-point l (w .1))
+digits-lack x y nx ny [] e = refl
+digits-lack x y nx ny (b ∷ l) e =
+    let w = and-both (isDigit b) (digits l) e in
+    ap₂ _||_ (ap₂ _||_ (other b x (w .0) nx) (other b y (w .0) ny)) (digits-lack x y nx ny l (w .1))
+
+digits-no-point : (l : List ℕ) → digits l ≡ true → has isPoint l ≡ false
+digits-no-point l e = ap (λ (t : ℕ → Bool). has t l) (sym the-point) ∙ digits-lack 46 46 refl refl l e
 
 pub none-no-point : (f : ℕ) (s : List ℕ) → has isPoint (slice f f s) ≡ false
 unfolding has
 none-no-point f s = ap (has isPoint) (slice-none f f s (omega arith))
 
-last-digit : (f t : ℕ) (s : List ℕ) → f < t → t ≤ length s → digits (slice f t s) ≡ true → isDigit (getD s (t - 1) 0) ≡ true
+pub last-digit : (f t : ℕ) (s : List ℕ) → f < t → t ≤ length s → digits (slice f t s) ≡ true → isDigit (getD s (t - 1) 0) ≡ true
 unfolding digits
 last-digit f t s h k d =
     let b = getD s (t - 1) 0 in

@@ -11,7 +11,7 @@ use lib.Seq.{slice}
 use lib.Ieee.{Float as Real64}
 use Rattle.form.specs.Answer.{Out, no, pick, badNumber}
 use Rattle.text_form.specs.Values.{signed, scaled}
-use Rattle.text_form.specs.Numbers.{isDigit, isLetter, empty, before, digits, worth}
+use Rattle.text_form.specs.Numbers.{isDigit, isLetter, empty, before, digits, worth, negative}
 use Rattle.numbers.specs.declared.digits.Digits.{Digits}
 use Rattle.numbers.specs.declared.digits.Digits.the-variants.{Value, Bad}
 use Rattle.numbers.specs.declared.runs.Row.{Row}
@@ -49,6 +49,12 @@ pub record RunAt (s : List ℕ) (first at to : ℕ) (r : Row) : Type 0 where
   pub row : digits (slice at (r .end) s) ≡ true
   pub is : r .value ≡ worth first (slice at (r .end) s)
   pub small : r .value < 10 ^ (18 - (to - r .end))
+
+-- The sign b of a token and its first digits, of the number v, up to at, where all its bytes behind the sign are 18 at most.
+pub record HeadAt (s : List ℕ) (start end : ℕ) (b : Bool) (v at : ℕ) : Type 0 where
+  pub sign : b ≡ negative (slice start end s)
+  pub room : end ≤ pick b (start + 1) start + 18
+  pub run : RunAt s 0 (pick b (start + 1) start) end (record { value = v; end = at })
 
 -- The power of a row that was counted.
 abbrev pub counted : Bool → Digits → Exponent

@@ -4,12 +4,12 @@ use crate::Number;
 use crate::digits::Digits;
 use floats::decimal::Scaled;
 ghost use mathlib.Core.Path.{_≡_};
-ghost use mathlib.Core.Bool.{Bool, false};
+ghost use mathlib.Core.Bool.{Bool, true, false};
 ghost use mathlib.Core.List.{_++_};
 ghost use Prim.Native.Nat.{ℕ, _+_, _-_, _^_, _≤_, _<_};
 ghost use lib.Dec.{leb};
 ghost use lib.IntN.{pos, _-ℤ_};
-ghost use lib.ListN.{length};
+ghost use lib.ListN.{length, getD};
 ghost use lib.Seq.{slice};
 ghost use Rattle.form.specs.Answer.{pick};
 ghost use Rattle.floats.specs.Scaled.{scaledOut};
@@ -17,7 +17,7 @@ ghost use Rattle.text_form.specs.Values.{signed, scaled};
 ghost use Rattle.text_form.specs.Numbers.{decimalOf, decimal, realNumber, decimalNumber};
 ghost use Rattle.numbers.specs.Answers.{numberOut, realOut};
 ghost use Rattle.numbers.specs.declared.decimals.Exponent.the-variants.{Power};
-ghost use Rattle.numbers.specs.Rows.{FirstAt, digitsOf, powerOf, exponentOf, combine, valueIn, endingOf};
+ghost use Rattle.numbers.specs.Rows.{FirstAt, HeadAt, digitsOf, powerOf, exponentOf, combine, valueIn, endingOf};
 
 // A decimal's value, or why it has none.
 pub enum Real {
@@ -256,5 +256,49 @@ pub fn decimal_number(text: &[u8], start: usize, end: usize) -> Number
             number: form::BAD_NUMBER,
             place: start,
         },
+    }
+}
+
+// A float or a double token of digits with so many of them behind the point, and no exponent (rule 13).
+fn short_real(single: bool, negative: bool, w: u64, behind: u64, place: usize) -> Number
+    ensures { λ r. ⌜ numberOut r ≡ realNumber single (scaled negative w (signed true behind) place) ⌝ }
+{
+    let x = floats::decimal::scaled_or_beyond(negative, w, true, behind);
+    token_of(single, real_of(x), place)
+}
+
+// The number of a token whose sign and first digits are read, up to its point (rule 13): with digits behind it, up to the end or to
+// f or d, the whole token is read once.
+pub fn fraction_number(
+    text: &[u8],
+    negative: bool,
+    value: u64,
+    start: usize,
+    point: usize,
+    end: usize,
+) -> Number
+    requires { ⌜ (point < end) × (end ≤ length (now text)) × HeadAt (now text) start end negative value point × (getD (now text) point 0 ≡ 46) ⌝ }
+    ensures { λ r. ⌜ numberOut r ≡ decimalNumber (slice start end (now (text .entry))) start ⌝ }
+{
+    let row = crate::runs::run_from(text, value, point + 1, end);
+    let w = row.value;
+    let to = row.end;
+    if to <= point + 1 {
+        return decimal_number(text, start, end);
+    }
+    let behind = (to - (point + 1)) as u64;
+    if to == end {
+        return short_real(false, negative, w, behind, start);
+    }
+    if to + 1 < end {
+        return decimal_number(text, start, end);
+    }
+    let last = text[to];
+    let ending = ending_of(last);
+    match ending {
+        Ending::Float => short_real(true, negative, w, behind, start),
+        Ending::Double => short_real(false, negative, w, behind, start),
+        Ending::Digit => decimal_number(text, start, end),
+        Ending::Other => decimal_number(text, start, end),
     }
 }

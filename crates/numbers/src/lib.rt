@@ -12,6 +12,7 @@ ghost use lib.ListN.{length, take, drop};
 ghost use lib.Seq.{slice};
 ghost use Rattle.text_form.specs.Numbers.{isPoint, has, number};
 ghost use Rattle.numbers.specs.Answers.{numberOut};
+ghost use Rattle.numbers.specs.Rows.{HeadAt};
 
 // A number token, or the number and the place of its refusal.
 pub enum Number {
@@ -24,8 +25,8 @@ pub enum Number {
     Refused { number: u8, place: usize },
 }
 
-// The number of the bytes from start up to end (rule 13); a refusal's place is the token's start. A whole number of up to 18
-// digits is read in one pass.
+// The number of the bytes from start up to end (rule 13); a refusal's place is the token's start. A number of up to 18
+// digits and without an exponent is read in one pass.
 pub fn number_at(text: &[u8], start: usize, end: usize) -> Number
     requires { ⌜ (start ≤ end) × (end ≤ length (now text)) ⌝ }
     ensures { λ r. ⌜ numberOut r ≡ number (take (end - start) (drop start (now (text .entry)))) start ⌝ }
@@ -39,7 +40,7 @@ pub fn number_at(text: &[u8], start: usize, end: usize) -> Number
     let value = row.value;
     let to = row.end;
     if to <= from {
-        return any_number(text, start, start, end);
+        return tail_number(text, negative, value, start, to, end);
     }
     if to == end {
         return Number::Int(wholes::signed_i64(negative, value));
@@ -50,7 +51,28 @@ pub fn number_at(text: &[u8], start: usize, end: usize) -> Number
             return wholes::suffixed_number(last, negative, value);
         }
     }
-    any_number(text, start, to, end)
+    tail_number(text, negative, value, start, to, end)
+}
+
+// The number of a token whose sign and first digits are read, up to at (rule 13).
+fn tail_number(
+    text: &[u8],
+    negative: bool,
+    value: u64,
+    start: usize,
+    at: usize,
+    end: usize,
+) -> Number
+    requires { ⌜ (end ≤ length (now text)) × HeadAt (now text) start end negative value at ⌝ }
+    ensures { λ r. ⌜ numberOut r ≡ number (take (end - start) (drop start (now (text .entry)))) start ⌝ }
+{
+    if end <= at {
+        return any_number(text, start, at, end);
+    }
+    if text[at] == 46 {
+        return decimals::fraction_number(text, negative, value, start, at, end);
+    }
+    any_number(text, start, at, end)
 }
 
 // The number of any token (rule 13), whose point, if it has one, is looked for from at on.

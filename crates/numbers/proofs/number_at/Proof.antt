@@ -1,9 +1,9 @@
--- `number_at` meets its contract: digits to the end are an int, digits and a suffix what the suffix says; `any_number` answers for all others.
+-- `number_at` meets its contract: digits to the end are an int, digits and a suffix what the suffix says; `tail_number` answers for other short tokens, `any_number` for long ones.
 -- Assumes nothing.
 use borrow.Author.Needs.{needs}
-use mathlib.Core.Path.{_≡_, sym, ap, _∙_}
+use mathlib.Core.Path.{_≡_, sym, ap, _∙_, subst}
 use mathlib.Core.Bool.{true}
-use Prim.Native.Nat.{_^_, _-_, _≤_}
+use Prim.Native.Nat.{ℕ, _+_, _^_, _-_, _≤_}
 use native.Mathlib.Nat.{le-refl}
 use native.Mathlib.Omega.{arith}
 use lib.Dec.{leb}
@@ -13,7 +13,8 @@ use mir.ValLaws.{toZ-ofZ}
 use Rattle.form.specs.Answer.{got, pick}
 use Rattle.floats.proofs.Operations.{ten-pos}
 use Rattle.text_form.specs.Numbers.{int}
-use Rattle.numbers.proofs.OnePass.{in-range, none-no-point, from-le, run-no-point, run-small, short-int, short-suffixed}
+use Rattle.numbers.specs.Rows.{RunAt, HeadAt}
+use Rattle.numbers.proofs.OnePass.{in-range, none-no-point, from-le, run-small, short-int, short-suffixed}
 use Rattle.numbers.proofs.number_at.Statement.{statement}
 use Rattle.numbers.proofs.number_at.Tie as tie
 
@@ -46,10 +47,21 @@ run-from-requires c κs =
     let z = f .before .before .before in
     (starts f .1, z .pre .1, omega (arith, c .if1 .left, starts f .1), ten-pos (18 - (z .args .end - f .behind-minus .result)))
 
-any-number-requires-2 : tie.Need-any-number-requires-2
-any-number-requires-2 c κs =
-    let z = c .before .before .before .before .before .before in
-    (le-refl (z .args .start), z .pre .0, z .pre .1, none-no-point (z .args .start) (z .args .text .now))
+-- the sign and the first digits
+heads : (c : tie.After-run-from) → let z = c .before .before .before .before .before in
+    HeadAt (z .args .text .now) (z .args .start) (z .args .end) (c .before .before .before .minus-at .result) (c .run-from .result .value) (c .run-from .result .end)
+heads c =
+    let f = c .before .before in
+    let z = f .before .before .before in
+    let e = f .behind-minus .ensures in
+    record {
+      sign = f .before .minus-at .ensures;
+      room = subst (λ (n : ℕ). z .args .end ≤ n + 18) e (omega (arith, c .before .if1 .left, starts f .1));
+      run = subst (λ (n : ℕ). RunAt (z .args .text .now) 0 n (z .args .end) (c .run-from .result)) e (c .run-from .ensures);
+    }
+
+tail-number-requires : tie.Need-tail-number-requires
+tail-number-requires c κs = (c .before .before .before .before .before .before .pre .1, heads (c .before))
 
 -- the number of the digits is one of an i64
 fits : (c : tie.After-run-from) → leb (c .run-from .result .value) (pick (c .before .before .before .minus-at .result) (2 ^ 63) (2 ^ 63 - 1)) ≡ true
@@ -99,17 +111,8 @@ returns-4 c =
     ∙ short-suffixed (z .args .start) (z .args .end) (f .behind-minus .result) (f .before .minus-at .result) (z .args .text .now) (z .pre .0) (z .pre .1) (f .before .minus-at .ensures) (f .behind-minus .ensures) (r .run-from .result) (r .run-from .ensures)
     (e .if2 .left) (t .if4 .taken) (sym (x .is-suffix .ensures) ∙ c .before .if5 .taken)
 
-any-number-requires-3 : tie.Need-any-number-requires-3
-any-number-requires-3 c κs =
-    let r = c .before .before .before in
-    let f = r .before .before in
-    let z = f .before .before .before in
-    let p = r .run-from .ensures in (
-      omega (arith, p .low, starts f .0),
-      p .high,
-      z .pre .1,
-      run-no-point (z .args .start) (z .args .end) (f .behind-minus .result) (f .before .minus-at .result) (z .args .text .now) (z .pre .0) (z .pre .1) (f .before .minus-at .ensures) (f .behind-minus .ensures) (r .run-from .result) p,
-    )
+tail-number-requires-2 : tie.Need-tail-number-requires-2
+tail-number-requires-2 c κs = let r = c .before .before .before in (r .before .before .before .before .before .pre .1, heads r)
 
 returns-5 : tie.Need-returns-5
 returns-5 c = search needs
@@ -124,7 +127,7 @@ number-at-spec =
     any-number-requires
     returns
     run-from-requires
-    any-number-requires-2
+    tail-number-requires
     returns-2
     signed-i64-requires
     returns-3
@@ -133,5 +136,5 @@ number-at-spec =
     is-suffix-requires
     suffixed-number-requires
     returns-4
-    any-number-requires-3
+    tail-number-requires-2
     returns-5)
