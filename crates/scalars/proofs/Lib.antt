@@ -4,3 +4,4 @@ pub mod Placing
 pub mod Rooms
 pub mod Spanning
 pub mod Turning
+pub mod Words

@@ -1,5 +1,6 @@
 // Strings, numbers, arrays and keys of a text as the bytes of a document (rules 13 to 15): a value goes to a place of the output.
 // The parser's cycle of lists and compounds calls these three: `scalar`, `array` and `take_key`.
+pub mod copies;
 pub mod elements;
 pub mod ranges;
 
@@ -90,7 +91,7 @@ fn put_plain(text: &[u8], start: usize, end: usize, spot: Spot, out: &mut [u8]) 
     let number = ranges::barred(spot.want, 8, out.len(), at, 2 + length);
     if number == 0 {
         raw::put_number(out, at, 2, length as u64);
-        quotes::copy(text, start, length, out, at + 2);
+        copies::copy_short(text, start, length, out, at + 2);
         return Done::To {
             next: spot.next,
             used: at + 2 + length,
@@ -300,7 +301,7 @@ fn put_key(
 {
     if quotes::is_plain(text, start, end) {
         let length = end - start;
-        quotes::copy(text, start, length, buffer, 0);
+        copies::copy_short(text, start, length, buffer, 0);
         return Key::Is { length };
     }
     key_measured(text, quoted, start, end, place, buffer)

@@ -23,8 +23,8 @@ room c =
     let r = key-room (a .text .now) (a .quoted) (a .start) (a .end) (a .place) 0 (m .0) (s .pre .2) (s .pre .0) (s .pre .1) (m .1) (omega (arith, plain c .short, m .2)) in
     omega (arith, r, m .2)
 
-copy-requires : tie.Need-copy-requires
-copy-requires c κs = let p = c .before .before .before .before .before .pre in (omega (arith, p .0, p .1), omega (arith, room (c .before)))
+copy-short-requires : tie.Need-copy-short-requires
+copy-short-requires c κs = let p = c .before .before .before .before .before .pre in (omega (arith, p .0, p .1), omega (arith, room (c .before)))
 
 returns : tie.Need-returns
 returns c =
@@ -33,9 +33,9 @@ returns c =
     let s = c .before .before .before .before .before .before .before .before in
     let a = s .args in
     let m = verbatim-is (a .text .now) (a .start) (a .end) (s .pre .0) (s .pre .1) (plain t) (a .quoted) in
-    key-in (a .text .now) (a .quoted) (a .start) (a .end) (a .place) room₀ (m .0) (a .buffer .now) (a .end - a .start) (c .before .before .copy .last .1 .1 .1 .0) (m .1)
+    key-in (a .text .now) (a .quoted) (a .start) (a .end) (a .place) room₀ (m .0) (a .buffer .now) (a .end - a .start) (c .before .before .copy-short .last .1 .1 .1 .0) (m .1)
     (omega (arith, plain t .short, m .2)) (omega (arith, room t, m .2))
-    (verbatim-put (a .text .now) (a .start) (a .end) (s .pre .0) (s .pre .1) (plain t) (a .quoted) _ _ _ _ (omega arith) (c .before .before .copy .ensures))
+    (verbatim-put (a .text .now) (a .start) (a .end) (s .pre .0) (s .pre .1) (plain t) (a .quoted) _ _ _ _ (omega arith) (c .before .before .copy-short .ensures))
 
 pub put-key-spec : {M : Type 1} → statement M
 put-key-spec =
@@ -43,7 +43,7 @@ put-key-spec =
     (tie.spec
     (λ c κs. search needs)  -- is-plain-requires
     (λ c. search needs)  -- sub-length
-    copy-requires
+    copy-short-requires
     (λ c. search needs)  -- same-length
     returns
     (λ c κs. search needs)  -- key-measured-requires

@@ -21,8 +21,8 @@ room c =
 put-number-requires : tie.Need-put-number-requires
 put-number-requires c κs = (omega arith, omega (arith, room (c .before)))
 
-copy-requires : tie.Need-copy-requires
-copy-requires c κs =
+copy-short-requires : tie.Need-copy-short-requires
+copy-short-requires c κs =
     let s = c .before .before .before .before .before .before .before .before .before in
     let a = s .args in
     let h = room (c .before .before .before .before .before) in
@@ -38,8 +38,8 @@ returns c =
     let p = s .pre in
     string-did (a .text .now) quoted (a .start) (a .end) (a .spot .want) (a .spot .place) (a .spot .next) (a .spot .at) (a .end - a .start) (a .out .now)
     (verbatim-is (a .text .now) (a .start) (a .end) (p .0) (p .1) (p .2) quoted) (omega (arith, p .2 .short))
-    (c .before .before .before .before .before .before .before .before .before .barred .ensures) (c .before .before .before .before .before .before .before .before .if1 .taken) (c .before .before .before .before .before .before .put-number .last .0) (c .before .before .copy .last .1 .1 .1 .0) _ (c .before .before .before .before .before .before .put-number .ensures)
-    (verbatim-put (a .text .now) (a .start) (a .end) (p .0) (p .1) (p .2) quoted _ _ _ _ refl (c .before .before .copy .ensures))
+    (c .before .before .before .before .before .before .before .before .before .barred .ensures) (c .before .before .before .before .before .before .before .before .if1 .taken) (c .before .before .before .before .before .before .put-number .last .0) (c .before .before .copy-short .last .1 .1 .1 .0) _ (c .before .before .before .before .before .before .put-number .ensures)
+    (verbatim-put (a .text .now) (a .start) (a .end) (p .0) (p .1) (p .2) quoted _ _ _ _ refl (c .before .before .copy-short .ensures))
 
 returns-2 : tie.Need-returns-2
 returns-2 c =
@@ -58,8 +58,8 @@ put-plain-spec =
     (λ c. search needs)  -- add-barred
     (λ c κs. search needs)  -- barred-requires
     put-number-requires
-    (λ c. omega (arith, room (c .before .before .before .before .before)))  -- add-copy
-    copy-requires
+    (λ c. omega (arith, room (c .before .before .before .before .before)))  -- add-copy-short
+    copy-short-requires
     (λ c. omega (arith, room (c .before .before .before .before .before .before .before .before)))  -- add-t19
     (λ c. omega (arith, room (c .before .before .before .before .before .before .before .before)))  -- add-t20
     (λ c. search needs)  -- same-length
