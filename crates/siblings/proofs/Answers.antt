@@ -362,6 +362,18 @@ module _ (doc t : List ℕ) (first stop : ℕ) (fam : Family doc t first stop) w
             least = λ z a. u .low-is .least z (there z a);
           }
 
+-- ---- one record, or none
+
+alone : (name : ℕ → List ℕ) (js : List ℕ) → length js < 2 → firstFrom name [] js ≡ Found.Nothing
+unfolding firstFrom among
+alone name [] h = refl
+alone name (i ∷ []) h = refl
+alone name (i ∷ (j ∷ js)) h = absurd (omega arith)
+
+pub repeat-few : (doc t : List ℕ) (first stop : ℕ) {n : ℕ} → n ≡ length (siblings t stop stop first) → n < 2 → Found.Nothing ≡ firstRepeat doc t first stop
+unfolding firstRepeat
+repeat-few doc t first stop e h = sym (alone (nameOf doc t) (siblings t stop stop first) (omega (arith, e, h)))
+
 -- ---- the answer is one of the records
 
 first-in : (name : ℕ → List ℕ) (k : ℕ) (rest seen : List ℕ) → firstFrom name seen rest ≡ Found.At k → Mem k rest

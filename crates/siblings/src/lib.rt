@@ -728,6 +728,9 @@ pub fn first_repeat(doc: &[u8], table: &mut [u32], first: usize, stop: usize) ->
     ensures { λ r. ⌜ now (table .exit) ≡ now (table .entry) ⌝ }
 {
     let n = count(table, first, stop);
+    if n < 2 {
+        return Found::Nothing;
+    }
     if n < 32 {
         return below(plain(doc, table, first, stop), stop);
     }

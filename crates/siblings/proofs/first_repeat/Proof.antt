@@ -1,10 +1,11 @@
--- `siblings::first_repeat` meets its contract: a few records are compared each with those before it; of more the least that has an earlier twin is sought.
+-- `siblings::first_repeat` meets its contract: one record has no earlier twin; a few are compared each with those before it; of more the least that has
+-- one is sought.
 -- Assumes nothing.
 use native.Mathlib.Omega.{arith}
 use mathlib.Core.Path.{_≡_, refl, ap, _∙_}
 use lib.ListN.{length}
 use borrow.Author.Needs.{needs}
-use Rattle.siblings.proofs.Answers.{family-answer}
+use Rattle.siblings.proofs.Answers.{family-answer, repeat-few}
 use Rattle.siblings.proofs.first_repeat.Statement.{statement}
 use Rattle.siblings.proofs.first_repeat.Tie as tie
 use Rattle.siblings.proofs.first_repeat.Reads as reads
@@ -19,19 +20,25 @@ count-requires c κs =
     let p = c .before .before .before .pre in
     (λ z m. (p .fit z m .room, p .on z m), p .small)
 
+same-length : tie.Need-same-length
+same-length c = search needs
+
+returns : tie.Need-returns
+returns c = (repeat-few _ _ _ _ (c .before .count .ensures) (c .if1 .taken), refl)
+
 plain-requires : tie.Need-plain-requires
 plain-requires c κs = search needs
 
 below-requires : tie.Need-below-requires
 below-requires c κs = search needs
 
-same-length : tie.Need-same-length
-same-length c = search needs
+same-length-2 : tie.Need-same-length-2
+same-length-2 c = search needs
 
-returns : tie.Need-returns
-returns c =
+returns-2 : tie.Need-returns-2
+returns-2 c =
     let l = c .before in
-    let n = l .before .before .before in
+    let n = l .before .before .before .before in
     let k = n .before .before .before in (
       c .below .ensures ∙ family-answer _ _ _ _ (k .before .pre) (λ i. omega (arith, k .shared-slice-known .given i)) _ (l .plain .ensures),
       refl,
@@ -40,19 +47,19 @@ returns c =
 many-requires : tie.Need-many-requires
 many-requires c κs =
     let e = c .before in
-    let n = e .before in
-    (n .before .before .before .before .pre, n .count .ensures, omega (arith, e .if1 .left))
+    let n = e .before .before in
+    (n .before .before .before .before .pre, n .count .ensures, omega (arith, e .if2 .left))
 
 below-requires-2 : tie.Need-below-requires-2
 below-requires-2 c κs = search needs
 
-same-length-2 : tie.Need-same-length-2
-same-length-2 c = ap length (c .before .before .before .many .ensures .0)
+same-length-3 : tie.Need-same-length-3
+same-length-3 c = ap length (c .before .before .before .many .ensures .0)
 
-returns-2 : tie.Need-returns-2
-returns-2 c =
+returns-3 : tie.Need-returns-3
+returns-3 c =
     let m = c .before .before .before in
-    let n = m .before .before .before in
+    let n = m .before .before .before .before in
     let k = n .before .before .before in (
       c .below2 .ensures ∙ family-answer _ _ _ _ (k .before .pre) (λ i. omega (arith, k .shared-slice-known .given i)) _ (m .many .ensures .1),
       m .many .ensures .0,
@@ -63,11 +70,13 @@ first-repeat-spec =
     tie.close
     (tie.spec
     count-requires
-    plain-requires
-    below-requires
     same-length
     returns
+    plain-requires
+    below-requires
+    same-length-2
+    returns-2
     many-requires
     below-requires-2
-    same-length-2
-    returns-2)
+    same-length-3
+    returns-3)
