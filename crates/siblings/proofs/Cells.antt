@@ -17,7 +17,7 @@ use Rattle.siblings.specs.declared.Placed.{Placed}
 use Rattle.siblings.specs.Names.{nameOf, endOf, siblings}
 use Rattle.siblings.specs.Links.{num, fourOf, slotOf, link, linked, Mem, walk, Agree, Fit}
 use Rattle.siblings.specs.Lists.{Again, Least, Family}
-use Rattle.siblings.specs.Cells.{stirOf, markBy, markOf, markAt, homeOf, Blank, Wiped, Cells, Passed, Open, Met, Put, PlacedBy, FromOn, Halved, lesserOf, Joined, Ready}
+use Rattle.siblings.specs.Cells.{stirOf, bothOf, markBy, markOf, markAt, homeOf, Blank, Wiped, Cells, Passed, Open, Met, Put, PlacedBy, FromOn, Halved, lesserOf, Joined, Ready}
 use Rattle.siblings.proofs.Numbers.{part-length, num-same}
 use Rattle.siblings.proofs.Tables.{agree-self, agree-trans, agree-slot, agree-name, agree-fit, agree-end, linked-agree, linked-same, linked-other}
 use Rattle.siblings.proofs.Answers.{siblings-below, family-low, Place, place-start, place-here, place-on, place-cases, place-next}
@@ -68,15 +68,33 @@ module _ (doc : List ℕ) (a n : ℕ) (l : a + n ≤ length doc) where
         four-part doc a n (n - 4) (a + n - 4) (omega arith) (omega arith),
       ) refl in e) ∙ by-length
 
-  pub mark-many : 8 ≤ n → stirOf (fourOf doc a) (fourOf doc (a + 4)) (fourOf doc (a + n - 8)) (fourOf doc (a + n - 4)) ≡ markOf (part doc a n)
+  pub mark-many : 8 ≤ n → n < 16 → stirOf (fourOf doc a) (fourOf doc (a + 4)) (fourOf doc (a + n - 8)) (fourOf doc (a + n - 4)) ≡ markOf (part doc a n)
   unfolding markBy
-  mark-many h =
+  mark-many h g =
       sym (let e : markBy (part doc a n) n ≡ stirOf (fourOf doc a) (fourOf doc (a + 4)) (fourOf doc (a + n - 8)) (fourOf doc (a + n - 4)) =
       rw (
         markBy,
         le-ltb n 8 h,
+        lt-ltb n 16 g,
         four-part doc a n 0 a (omega arith) (omega arith),
         four-part doc a n 4 (a + 4) (omega arith) (omega arith),
+        four-part doc a n (n - 8) (a + n - 8) (omega arith) (omega arith),
+        four-part doc a n (n - 4) (a + n - 4) (omega arith) (omega arith),
+      ) refl in e) ∙ by-length
+
+  pub mark-most : (m : ℕ) → m ≡ a + n / 2 → 16 ≤ n
+      → stirOf (bothOf (fourOf doc a) (fourOf doc (m - 4))) (bothOf (fourOf doc (a + 4)) (fourOf doc m)) (fourOf doc (a + n - 8)) (fourOf doc (a + n - 4)) ≡ markOf (part doc a n)
+  unfolding markBy
+  mark-most m s h =
+      sym (let e : markBy (part doc a n) n ≡ stirOf (bothOf (fourOf doc a) (fourOf doc (m - 4))) (bothOf (fourOf doc (a + 4)) (fourOf doc m)) (fourOf doc (a + n - 8)) (fourOf doc (a + n - 4)) =
+      rw (
+        markBy,
+        le-ltb n 8 (omega arith),
+        le-ltb n 16 h,
+        four-part doc a n 0 a (omega arith) (omega arith),
+        four-part doc a n (n / 2 - 4) (m - 4) (omega arith) (omega arith),
+        four-part doc a n 4 (a + 4) (omega arith) (omega arith),
+        four-part doc a n (n / 2) m (omega arith) (omega arith),
         four-part doc a n (n - 8) (a + n - 8) (omega arith) (omega arith),
         four-part doc a n (n - 4) (a + n - 4) (omega arith) (omega arith),
       ) refl in e) ∙ by-length

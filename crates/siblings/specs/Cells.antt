@@ -26,10 +26,18 @@ turn k x = (x / 4294967296 + x % 4294967296) % 4294967296 * k
 unfoldable pub stirOf : ℕ → ℕ → ℕ → ℕ → ℕ
 stirOf a b c d = turn 3266489917 (turn 2654435761 (blend a b c d)) / 1048576
 
--- the mark of n bytes: the first and last eight stirred; of less than eight the first and last four; of less than four all
+-- two numbers below 2^32 made one
+abbrev pub bothOf : ℕ → ℕ → ℕ
+bothOf a b = (a + b) % 4294967296
+
+-- the mark of n bytes: the first and last eight stirred, and of sixteen or more those in the middle with the first; of less than eight
+-- the first and last four; of less than four all
 unfoldable pub markBy : List ℕ → ℕ → ℕ
 markBy xs n = elim (ltb n 8) [
-  | false ↦ stirOf (fourOf xs 0) (fourOf xs 4) (fourOf xs (n - 8)) (fourOf xs (n - 4))
+  | false ↦ elim (ltb n 16) [
+    | false ↦ stirOf (bothOf (fourOf xs 0) (fourOf xs (n / 2 - 4))) (bothOf (fourOf xs 4) (fourOf xs (n / 2))) (fourOf xs (n - 8)) (fourOf xs (n - 4))
+    | true ↦ stirOf (fourOf xs 0) (fourOf xs 4) (fourOf xs (n - 8)) (fourOf xs (n - 4))
+  ]
   | true ↦ elim (ltb n 4) [
     | false ↦ stirOf n 0 (fourOf xs 0) (fourOf xs (n - 4))
     | true ↦ stirOf n (getD xs 0 0) (getD xs 1 0) (getD xs 2 0)

@@ -13,7 +13,7 @@ ghost use Rattle.siblings.specs.Links.{be, fourOf, eightOf, num, rank, s
 ghost use Rattle.siblings.specs.Lists.{Told, Alike, Lowered, Picked, Two, Lists, Row, Sorts, Chained, Unlinked, Least, Taken, Family, foundOf, Climbs, Rises};
 ghost use Rattle.siblings.specs.Forests.{placeOut, refusalOf};
 ghost use Rattle.siblings.specs.Orders.{Ordered};
-ghost use Rattle.siblings.specs.Cells.{blend, turn, stirOf, markOf, markAt, classOf, classAt, Fresh, homeOf, Blank, Blanked, Wiped, Cells, Probed, PlacedBy, Halved, lesserOf, Joined, Ready};
+ghost use Rattle.siblings.specs.Cells.{blend, turn, stirOf, bothOf, markOf, markAt, classOf, classAt, Fresh, homeOf, Blank, Blanked, Wiped, Cells, Probed, PlacedBy, Halved, lesserOf, Joined, Ready};
 
 // The number of a record, or nothing.
 pub enum Found {
@@ -418,6 +418,28 @@ fn byte_or(doc: &[u8], a: usize, n: usize, k: usize) -> usize
     if k < n { byte(doc[a + k]) } else { 0 }
 }
 
+// Four bytes at each of two places made one number.
+fn both(doc: &[u8], x: usize, y: usize) -> usize
+    requires { ⌜ (x + 4 ≤ length (now doc)) × (y + 4 ≤ length (now doc)) ⌝ }
+    ensures { λ r. ⌜ (r ≡ bothOf (fourOf (now (doc .entry)) x) (fourOf (now (doc .entry)) y)) × (r < 4294967296) ⌝ }
+{
+    (four(doc, x) + four(doc, y)) % 4294967296
+}
+
+// The mark of sixteen bytes or more: names that differ only in the middle have marks of their own.
+fn mark_long(doc: &[u8], a: usize, n: usize) -> usize
+    requires { ⌜ (a + n ≤ length (now doc)) × (16 ≤ n) ⌝ }
+    ensures { λ r. ⌜ r ≡ markOf (part (now (doc .entry)) a n) ⌝ }
+{
+    let m = a + n / 2;
+    stir(
+        both(doc, a, m - 4),
+        both(doc, a + 4, m),
+        four(doc, a + n - 8),
+        four(doc, a + n - 4),
+    )
+}
+
 // The mark of the n bytes at a: the same for the same bytes.
 fn mark_span(doc: &[u8], a: usize, n: usize) -> usize
     requires { ⌜ a + n ≤ length (now doc) ⌝ }
@@ -433,6 +455,9 @@ fn mark_span(doc: &[u8], a: usize, n: usize) -> usize
     }
     if n < 8 {
         return stir(n, 0, four(doc, a), four(doc, a + n - 4));
+    }
+    if 15 < n {
+        return mark_long(doc, a, n);
     }
     stir(
         four(doc, a),

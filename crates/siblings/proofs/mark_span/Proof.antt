@@ -10,6 +10,7 @@ use Rattle.siblings.proofs.mark_span.Reads as reads
 use Rattle.siblings.proofs.mark_span.Lts as lts
 use Rattle.siblings.proofs.byte_or.Reads as byte-or-reads
 use Rattle.siblings.proofs.four.Reads as four-reads
+use Rattle.siblings.proofs.mark_long.Reads as mark-long-reads
 use Rattle.siblings.proofs.stir.Reads as stir-reads
 
 byte-or-requires : tie.Need-byte-or-requires
@@ -53,6 +54,12 @@ returns-2 c =
     let i = b1 .before in
     c .stir2 .ensures ∙ rw (b1 .four .ensures .0, b2 .four2 .ensures .0) (mark-some _ _ _ (i .before .before .before .pre) (i .before .if1 .left) (i .if2 .taken))
 
+mark-long-requires : tie.Need-mark-long-requires
+mark-long-requires c κs = search needs
+
+returns-3 : tie.Need-returns-3
+returns-3 c = search needs
+
 four-requires-3 : tie.Need-four-requires-3
 four-requires-3 c κs = search needs
 
@@ -83,14 +90,14 @@ four-requires-6 c κs = search needs
 stir-requires-3 : tie.Need-stir-requires-3
 stir-requires-3 c κs = search needs
 
-returns-3 : tie.Need-returns-3
-returns-3 c =
+returns-4 : tie.Need-returns-4
+returns-4 c =
     let b4 = c .before in
     let b3 = b4 .before in
     let b2 = b3 .before in
     let b1 = b2 .before in
     let i = b1 .before in
-    c .stir3 .ensures ∙ rw (b1 .four3 .ensures .0, b2 .four4 .ensures .0, b3 .four5 .ensures .0, b4 .four6 .ensures .0) (mark-many _ _ _ (i .before .before .before .pre) (i .if2 .left))
+    c .stir3 .ensures ∙ rw (b1 .four3 .ensures .0, b2 .four4 .ensures .0, b3 .four5 .ensures .0, b4 .four6 .ensures .0) (mark-many _ _ _ (i .before .before .before .before .pre) (i .before .if2 .left) (omega (arith, i .if3 .left)))
 
 pub mark-span-spec : {M : Type 1} → statement M
 mark-span-spec =
@@ -107,6 +114,8 @@ mark-span-spec =
     four-requires-2
     stir-requires-2
     returns-2
+    mark-long-requires
+    returns-3
     four-requires-3
     add-four-2
     four-requires-4
@@ -117,4 +126,4 @@ mark-span-spec =
     sub-four-3
     four-requires-6
     stir-requires-3
-    returns-3)
+    returns-4)
