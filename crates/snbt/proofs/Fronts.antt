@@ -6,17 +6,16 @@ use mathlib.Core.Logic.{_⊎_, inl, inr}
 use mathlib.Core.List.{List}
 use native.Mathlib.Omega.{arith}
 use lib.ListN.{length}
-use Rattle.form.specs.Answer.{got, no, _>>=_, textEnds, unexpectedToken}
-use Rattle.text_form.specs.Lexing.{default, value, Token, comma, colon, closedSquare, closedCurly, TokenData, found, tokenAt}
-use Rattle.text_form.specs.Text.{signOf, due, following, colonAt}
+use Rattle.form.specs.Answer.{got, no, unexpectedToken}
+use Rattle.text_form.specs.Lexing.{default, Token, comma, colon, closedSquare, closedCurly, TokenData, found, tokenAt}
+use Rattle.text_form.specs.Text.{signOf, following, colonAt}
 use Rattle.text_form.proofs.Moves.{token-moves}
 use Rattle.lexer.specs.Answers.{FrontIs}
 use Rattle.lexer.specs.declared.Front.{Front}
 use Rattle.snbt.specs.declared.After.{After}
-use Rattle.snbt.specs.declared.Due.{Due}
-use Rattle.snbt.specs.Steps.{DueIs, AfterIs, ColonIs}
-use Rattle.snbt.proofs.Steps.{after-comma, after-close, after-other, colon-none}
-use Rattle.snbt.proofs.Opening.{colon-then}
+use Rattle.snbt.specs.declared.Colon.{Colon}
+use Rattle.snbt.specs.Steps.{AfterIs, ColonIs}
+use Rattle.snbt.proofs.Steps.{after-comma, after-close, after-other, colon-none, colon-to}
 
 module _ (t : List ℕ) (p : ℕ) (f : Front) (is : FrontIs t p f) (h : p ≤ length t) where
   -- the sign in front as a token
@@ -58,12 +57,11 @@ module _ (t : List ℕ) (p : ℕ) (f : Front) (is : FrontIs t p f) (h : p ≤ le
   -- ---- the colon
 
   module _ (brace : ℕ) where
-    pub front-colon : f .byte ≡ 58 → (r : Due) → DueIs t value (f .place + 1) textEnds (length t) r → ColonIs t brace p r
-    front-colon e r g = colon-then t brace p (ahead colon) (f .place + 1) r (is .sign default colon (omega arith) e) h refl g
+    pub front-colon : f .byte ≡ 58 → ColonIs t brace p (Colon.To (f .place + 1))
+    front-colon e = colon-to t brace p (ahead colon) (f .place + 1) (is .sign default colon (omega arith) e) h refl
 
-    pub front-none : (f .byte ≡ 58 → ⊥) → (d : TokenData) (m : ℕ) → tokenAt default t p ≡ got (found d m)
-        → (room : ℕ) → (colonAt t room brace p >>= (λ q. due t room value q textEnds (length t))) ≡ no unexpectedToken (f .place)
+    pub front-none : (f .byte ≡ 58 → ⊥) → (d : TokenData) (m : ℕ) → tokenAt default t p ≡ got (found d m) → ColonIs t brace p (Colon.No unexpectedToken (f .place))
     front-none g d m e room =
         let z = is .token default d m e in
-        subst (λ (i : ℕ). (colonAt t room brace p >>= (λ q. due t room value q textEnds (length t))) ≡ no unexpectedToken i) (z .0)
+        subst (λ (i : ℕ). colonAt t room brace p ≡ no unexpectedToken i) (z .0)
         (colon-none t brace p d m e h (λ y. g (z .1 (omega (arith, y)) ∙ y)) room)

@@ -12,7 +12,7 @@ use Rattle.form.specs.Tree as tree
 use Rattle.form.specs.Tree.{Tag, Tags, Entries, nil, more, ended, many}
 use Rattle.form.specs.Layout.{payload, elementBytes, entryBytes}
 use Rattle.form.proofs.Table.{over-none, over-length, over-over}
-use Rattle.text_form.specs.Lexing.{TokenData}
+use Rattle.text_form.specs.Lexing.{later}
 use Rattle.text_form.specs.Text.{Value, Row, Block, Then, goesOn, closes, Reads, behind, closeAt, known, elementsBy, entriesBy, compoundAt, squareAt, valueAt}
 use Rattle.keys.specs.Keys.{Kept, namesIn}
 use Rattle.keys.proofs.Runs.{kept-none}
@@ -20,7 +20,7 @@ use Rattle.scalars.specs.declared.Done.{Done}
 use Rattle.scalars.specs.declared.Done.the-variants.{To, No}
 use Rattle.scalars.specs.Done.{Did, KeyRoom}
 use Rattle.snbt.specs.declared.Turn.{Turn}
-use Rattle.snbt.specs.Turns.{Ran, Entered, entryTurn, thenOf, usedOf, before, nameBefore, enteredBytes, Turned, Went, blockValue, Ready, inner}
+use Rattle.snbt.specs.Turns.{Ran, Entered, entryTurn, valueFrom, thenOf, usedOf, before, nameBefore, enteredBytes, Turned, Went, blockValue, Ready, inner}
 use Rattle.snbt.specs.Steps.{Grown, Closed, CloseIs, ValueIs, Keyed, TurnIs}
 use Rattle.snbt.proofs.Reading.{afterTurn, entries-turn, entries-known, compound-in, inner-is}
 use Rattle.snbt.proofs.Bytes.{_then_, then-nil, then-one, many-then, bytes-then, bytes-one, _and_, laid, and-before, laid-before, laid-ended, compound-kind, compound-bytes}
@@ -119,14 +119,14 @@ module _ (t o₀ k₀ : List ℕ) (val : Reads) (top at start kind : ℕ) where
       wrote = s .wrote;
     }
 
-    module _ (d : TokenData) (m : ℕ) (e : (f : ℕ) → elementsBy t (length o₀) (suc f) val kind place used ≡ (val kind d m used >>= (λ v. elementsBy t (length o₀) f val kind (v .next) (v .used) >>= moreTag (v .tag)))) where
-      pub listing-value-no : (a b : ℕ) → val kind d m used ≡ no a b → wholeList ≡ no a b
+    module _ (m : ℕ) (e : (f : ℕ) → elementsBy t (length o₀) (suc f) val kind place used ≡ (valueFrom t (length o₀) val later kind m used >>= (λ v. elementsBy t (length o₀) f val kind (v .next) (v .used) >>= moreTag (v .tag)))) where
+      pub listing-value-no : (a b : ℕ) → valueFrom t (length o₀) val later kind m used ≡ no a b → wholeList ≡ no a b
       listing-value-no a b g = listing-no a b (λ f. e f ∙ rw g refl)
 
-      step : {o′ : List ℕ} {n u kind′ : ℕ} → (f : ℕ) (did : Did (val kind d m used) o used n u kind′ o′) → elementsBy t (length o₀) (suc f) val kind place used ≡ (elementsBy t (length o₀) f val kind n u >>= moreTag (did .value .tag))
+      step : {o′ : List ℕ} {n u kind′ : ℕ} → (f : ℕ) (did : Did (valueFrom t (length o₀) val later kind m used) o used n u kind′ o′) → elementsBy t (length o₀) (suc f) val kind place used ≡ (elementsBy t (length o₀) f val kind n u >>= moreTag (did .value .tag))
       step f did = e f ∙ rw (did .same) (λ j. elementsBy t (length o₀) f val kind (sym (did .next-is) j) (sym (did .used-is) j) >>= moreTag (did .value .tag))
 
-      pub listing-more : (o′ k′ : List ℕ) (n u kind′ : ℕ) → place < m → Did (val kind d m used) o used n u kind′ o′ → Went t k top m n u k′ → Listing t o₀ k₀ val top at start kind o′ k′ n u (count + 1)
+      pub listing-more : (o′ k′ : List ℕ) (n u kind′ : ℕ) → place < m → Did (valueFrom t (length o₀) val later kind m used) o used n u kind′ o′ → Went t k top m n u k′ → Listing t o₀ k₀ val top at start kind o′ k′ n u (count + 1)
       listing-more o′ k′ n u kind′ l did went = turn (λ f h r. record {
         turns = f;
         done = _then_ (s .done) (more (did .value .tag) nil);
@@ -295,7 +295,7 @@ as-inner t o k left brace p at top r o′ k′ h v = subst (λ (x : Reads). Valu
 pub ready-kept : {t k b k′ b′ : List ℕ} → Ready t k b → length k′ ≡ length k → length b′ ≡ length b → Ready t k′ b′
 ready-kept {t} {k} {b} {k′} {b′} r e f = record { text-le = r .text-le; keys-ge = omega (arith, r .keys-ge, e); buffer-ge = subst (λ (x : ℕ). KeyRoom (length t) x) (sym f) (r .buffer-ge) }
 
-pub keyed-within : {t : List ℕ} {brace last p : ℕ} {o k : List ℕ} {base top : ℕ} {buffer : List ℕ} {n i : ℕ} {d : TokenData} {m : ℕ} → Keyed t brace last p o k base top buffer n i d m → n ≤ length buffer
+pub keyed-within : {t : List ℕ} {brace last p : ℕ} {o k : List ℕ} {base top : ℕ} {buffer : List ℕ} {n i m : ℕ} → Keyed t brace last p o k base top buffer n i m → n ≤ length buffer
 keyed-within {buffer = buffer} {n = n} k =
     let e : n ≡ length (take n buffer) = k .fit .length-is ∙ ap length (sym (k .fit .stands)) in
     omega (arith, simp length-take at e)

@@ -1,31 +1,29 @@
 -- What a function answers, from what its calls answered, by the cases of the code's enums.
 -- Assumes nothing.
-use Prim.Native.Nat.{ℕ, zero, suc, _+_, _-_, _*_, _≤_, _<_}
-use mathlib.Core.Path.{_≡_, refl, sym, ap, subst, _∙_}
+use Prim.Native.Nat.{ℕ, zero, _+_, _-_, _*_, _≤_, _<_}
+use mathlib.Core.Path.{_≡_, refl, sym, ap, _∙_}
 use mathlib.Core.Bool.{Bool, true, false, _||_}
 use mathlib.Core.List.{List, [], _∷_, _++_}
 use native.Mathlib.Omega.{arith}
 use borrow.Author.Tests.{eq-eqb, ne-eqb}
 use lib.Dec.{eqb}
 use lib.ListN.{length, take}
-use Rattle.form.specs.Answer.{Out, got, no, _>>=_, _>>_, guard, mixedList, unmatchedBrace, textEnds}
+use Rattle.form.specs.Answer.{Out, got, no, guard, mixedList, unmatchedBrace}
 use Rattle.form.specs.Tree as tree
 use Rattle.form.specs.Tree.{kindOf}
-use Rattle.text_form.specs.Lexing.{Stops, first, default, key, Token, openCurly, closedCurly, openSquare, closedSquare, comma, colon, semicolon, string, numeral, TokenData, Lexed, found, ended, tokenAt, value}
-use Rattle.text_form.specs.Text.{Value, Next, Reads, signOf, due, colonAt, keyOf, known, letterWidth, listAt, squareAt, arrayAt, elementsBy, entryAt}
+use Rattle.text_form.specs.Lexing.{Stops, first, key, Token, openCurly, closedCurly, openSquare, closedSquare, comma, colon, semicolon, string, numeral, TokenData, Lexed, found, ended, tokenAt, value}
+use Rattle.text_form.specs.Text.{Value, Next, Reads, signOf, colonAt, keyOf, known, letterWidth, listAt, squareAt, arrayAt, entryAt}
 use Rattle.text_form.proofs.Moves.{token-moves, token-span}
-use Rattle.tokens.specs.Answers.{dataIs}
 use Rattle.keys.specs.Keys.{Kept, FreeAt, namesIn}
 use Rattle.scalars.specs.declared.Done.{Done}
 use Rattle.scalars.specs.declared.Done.the-variants.{To, No}
 use Rattle.snbt.specs.declared.Opened.{Opened}
-use Rattle.snbt.specs.declared.Due.{Due}
 use Rattle.snbt.specs.declared.Key.{Key}
 use Rattle.scalars.specs.Done.{Did, Agrees, Spanned, TokenFits}
 use Rattle.scalars.specs.Turns.{Wide}
-use Rattle.snbt.specs.Turns.{Met, held, Went}
-use Rattle.snbt.specs.Steps.{DueIs, ListedIs, UnmatchedIs, OpenedIs, ColonIs, Fit, NameIs, NamedIs, Keyed, KeyedIs, ValueIs, heldDone}
-use Rattle.snbt.proofs.Reading.{due-found, due-no, square-ended, entry-key-no, entry-twice, entry-colon-no, entry-value, turn-no, turn-entry-no, turn-entry, turn-stops, turn-trailing}
+use Rattle.snbt.specs.Turns.{Met, valueFrom, held, Went}
+use Rattle.snbt.specs.Steps.{ListedIs, UnmatchedIs, OpenedIs, Fit, NameIs, NamedIs, Keyed, KeyedIs, ValueIs, heldDone}
+use Rattle.snbt.proofs.Reading.{due-found, due-no, from-found, square-ended, entry-key-no, entry-twice, entry-colon-no, entry-value, turn-no, turn-entry-no, turn-entry, turn-stops, turn-trailing}
 use Rattle.snbt.proofs.Sizes.{met-within, key-size}
 use Rattle.form.specs.Answer.{trailingComma, outputFull}
 use Rattle.form.specs.Numbers.{bytesOf}
@@ -42,65 +40,57 @@ use lib.Seq.{length-take-le, take-suc}
 use Rattle.text_form.specs.Text.{closeAt}
 use Rattle.scalars.specs.Done.{KeyIn}
 use Rattle.snbt.specs.Turns.{entryTurn, stops}
-use Rattle.snbt.proofs.Steps.{met-at, colon-due, colon-value}
+use Rattle.snbt.proofs.Steps.{met-at}
 
 -- ---- what a `[` opens
 
 -- a list, by its first token
 pub opened-listed : (t : List ℕ) (room left brace p u : ℕ) (d : TokenData) (n : ℕ) (r : Opened) → ((val : Reads) → squareAt t room left val brace p u ≡ listAt t room left val brace (found d n) u)
-    → Met t d n → p ≤ d .index → ListedIs room left brace d n u r → OpenedIs t room left brace p u r
-opened-listed t room left brace p u d n (Opened.Array w m) e met h l = absurd l
-opened-listed t room left brace p u d n (Opened.Empty m) e met h (f, g, z) = ((λ val. e val ∙ f t val), g, omega (arith, z, met-within met .0), omega (arith, z, met-within met .1))
-opened-listed t room left brace p u d n (Opened.First d′ m) e met h (f, g, k, y, z) =
-    rw z
-    (subst (λ (x : TokenData). ((val : Reads) → squareAt t room left val brace p u ≡ (val 0 x n (u + 5) >>= (λ v. elementsBy t room (suc (length t)) val (kindOf (v .tag)) (v .next) (v .used) >>= (λ r. got (record { tag = tree.list (tree.more (v .tag) (r .tags)); next = r .next; used = r .used })))))
-    × (0 < left) × (u + 5 ≤ room) × Met t x n × (p ≤ x .index)) (sym y)
-    ((λ val. e val ∙ f t val), g, k, met, h))
-opened-listed t room left brace p u d n (Opened.No a b) e met h l = λ val. e val ∙ l t val
+    → tokenAt first t p ≡ got (found d n) → p ≤ length t → ListedIs room left brace d n u r → OpenedIs t room left brace p u r
+opened-listed t room left brace p u d n (Opened.Array w m) e k h l = absurd l
+opened-listed t room left brace p u d n (Opened.Empty m) e k h (f, g, z) =
+    let y = token-moves first t p d n k h in
+    ((λ val. e val ∙ f t val), g, omega (arith, z, y .0, y .1), omega (arith, z, y .2))
+opened-listed t room left brace p u d n Opened.First e k h (f, g, z) = ((λ val. rw (from-found t room val first 0 p (u + 5) d n k) (e val ∙ f t val)), g, z)
+opened-listed t room left brace p u d n (Opened.No a b) e k h l = λ val. e val ∙ l t val
 
 -- a list whose text ends
 pub opened-ended : (t : List ℕ) (room left brace p u i : ℕ) (r : Opened) → tokenAt first t p ≡ got (ended i) → UnmatchedIs room left brace u r → OpenedIs t room left brace p u r
 opened-ended t room left brace p u i (Opened.Array w m) e l = absurd l
 opened-ended t room left brace p u i (Opened.Empty m) e l = absurd l
-opened-ended t room left brace p u i (Opened.First d m) e l = absurd l
+opened-ended t room left brace p u i Opened.First e l = absurd l
 opened-ended t room left brace p u i (Opened.No a b) e l = λ val. square-ended t room left val brace p u i e ∙ l t val i
 
 -- ---- keys
 
--- the colon and what is due behind it
-pub colon-then : (t : List ℕ) (brace p : ℕ) (d : TokenData) (m : ℕ) (r : Due) → tokenAt default t p ≡ got (found d m) → p ≤ length t → signOf (d .token) ≡ 58 → DueIs t value m textEnds (length t) r → ColonIs t brace p r
-colon-then t brace p d m (Due.Is d′ n) e h s g = colon-value t brace p d m e h s (dataIs d′) n g
-colon-then t brace p d m (Due.No a b) e h s g = colon-due t brace p d m e h s a b g
-
 -- a key at or behind a place
-fit-from : (t : List ℕ) (p q : ℕ) (o k : List ℕ) (base top : ℕ) (buffer name : List ℕ) (n i : ℕ) (d : TokenData) (m : ℕ) → p ≤ q → Fit t q o k base top buffer name n i d m → Fit t p o k base top buffer name n i d m
-fit-from t p q o k base top buffer name n i d m h f =
-    record { stands = f .stands; length-is = f .length-is; short = f .short; free = f .free; met = f .met; small = omega (arith, f .small); far = omega (arith, f .far) }
+fit-from : (t : List ℕ) (p q : ℕ) (o k : List ℕ) (base top : ℕ) (buffer name : List ℕ) (n i m : ℕ) → p ≤ q → Fit t q o k base top buffer name n i m → Fit t p o k base top buffer name n i m
+fit-from t p q o k base top buffer name n i m h f =
+    record { stands = f .stands; length-is = f .length-is; short = f .short; free = f .free; within = f .within; small = omega (arith, f .small); far = omega (arith, f .far) }
 
 -- an entry's turn, by its key's token
 pub keyed-named : (t : List ℕ) (brace last p : ℕ) (o k : List ℕ) (base top : ℕ) (buffer : List ℕ) (d : TokenData) (m : ℕ) (r : Key) → tokenAt key t p ≡ got (found d m) → p ≤ length t → (signOf (d .token) ≡ 125 → ⊥)
     → NamedIs t d m brace o k base top buffer r → KeyedIs t brace last p o k base top buffer r
 keyed-named t brace last p o k base top buffer d m (Key.End i n) e h s l = absurd l
-keyed-named t brace last p o k base top buffer d m (Key.Is n i d′ m′) e h s l =
+keyed-named t brace last p o k base top buffer d m (Key.Is n i m′) e h s l =
     record {
       name = l .name;
-      is = λ room val u. turn-entry t room val brace (namesIn o k base (top - base)) last p u (record { td = d; next = m }) (due-found t room key p unmatchedBrace brace d m e) s (l .name) (dataIs d′) m′ (l .is room val u);
-      fit = fit-from t p (d .index) o k base top buffer (l .name) n i (dataIs d′) m′ (token-moves key t p d m e h .0) (l .fit);
+      is = λ room val u. turn-entry t room val brace (namesIn o k base (top - base)) last p u (record { td = d; next = m }) (due-found t room key p unmatchedBrace brace d m e) s (l .name) (valueFrom t room val value 0 m′ (u + (3 + length (l .name)))) (l .is room val u);
+      fit = fit-from t p (d .index) o k base top buffer (l .name) n i m′ (token-moves key t p d m e h .0) (l .fit);
     }
 keyed-named t brace last p o k base top buffer d m (Key.No a b) e h s l =
     λ room val u. turn-entry-no t room val brace (namesIn o k base (top - base)) last p u (record { td = d; next = m }) (due-found t room key p unmatchedBrace brace d m e) s a b (l room val u)
 
--- a key that is new, with its value's token
-pub named-is : (t : List ℕ) (x : TokenData) (next brace : ℕ) (o k : List ℕ) (base top : ℕ) (buffer s : List ℕ) (n i : ℕ) (d : TokenData) (m : ℕ) → Met t x next → ((room : ℕ) → keyOf t room (x .token) (x .index) ≡ got s)
-    → n ≡ length s → take n buffer ≡ s → FreeAt o k base top s i
-    → ((room : ℕ) → (colonAt t room brace next >>= (λ q. due t room value q textEnds (length t))) ≡ got (record { td = d; next = m })) → Met t d m → next < d .index → NameIs t x next brace o k base top buffer n i d m
-named-is t x next brace o k base top buffer s n i d m met e l stands free g met′ far =
+-- a key that is new, with the place behind its colon
+pub named-is : (t : List ℕ) (x : TokenData) (next brace : ℕ) (o k : List ℕ) (base top : ℕ) (buffer s : List ℕ) (n i m : ℕ) → Met t x next → ((room : ℕ) → keyOf t room (x .token) (x .index) ≡ got s)
+    → n ≡ length s → take n buffer ≡ s → FreeAt o k base top s i → ((room : ℕ) → colonAt t room brace next ≡ got m) → next < m → m ≤ length t → NameIs t x next brace o k base top buffer n i m
+named-is t x next brace o k base top buffer s n i m met e l stands free g far within =
     let z = key-size met 0 (x .index) s (e 0) in
     let w = met-within met in
     record {
       name = s;
-      is = λ room val u. entry-value t room val brace (namesIn o k base (top - base)) (record { td = x; next = next }) u s (e room) (free .new) (record { td = d; next = m }) (g room);
-      fit = record { stands = stands; length-is = l; short = omega (arith, l, z .0); free = free; met = met′; small = omega (arith, l, z .1, w .0, far); far = omega (arith, w .0, far) };
+      is = λ room val u. entry-value t room val brace (namesIn o k base (top - base)) (record { td = x; next = next }) u s (e room) (free .new) m (g room);
+      fit = record { stands = stands; length-is = l; short = omega (arith, l, z .0); free = free; within = within; small = omega (arith, l, z .1, w .0, far); far = omega (arith, w .0, far) };
     }
 
 -- the `}` where a key is due

@@ -13,7 +13,7 @@ use Rattle.form.specs.Tree as tree
 use Rattle.form.specs.Tree.{kindOf}
 use Rattle.text_form.specs.Lexing.{Stops, default, key, value, first, later, Token, TokenData, Lexed, found, ended, tokenAt}
 use Rattle.text_form.specs.Text.{Value, Row, Block, Next, Then, goesOn, closes, Reads, signOf, due, following, colonAt, alike, known, letterWidth, openedBy, squareAt, listAt, listFrom, arrayAt, keyOf, closeAt, behind, entryAt, entriesBy, elementsBy, compoundAt, valueBy, valueAt, scalarValue}
-use Rattle.snbt.specs.Turns.{Entered, stops, enters, turnBy, entryTurn, inner, thenOf, usedOf, before, nameBefore, blockValue, held}
+use Rattle.snbt.specs.Turns.{Entered, stops, enters, turnBy, entryTurn, valueFrom, inner, thenOf, usedOf, before, nameBefore, blockValue, held}
 
 -- ---- answers in a row
 
@@ -39,6 +39,21 @@ module _ (t : List ℕ) (room : ℕ) (set : Stops) (p n q : ℕ) where
   pub due-no : (a b : ℕ) → tokenAt set t p ≡ no a b → due t room set p n q ≡ no a b
   unfolding due
   due-no a b e = rw e refl
+
+-- ---- a value that is due
+
+module _ (t : List ℕ) (room : ℕ) (val : Reads) (set : Stops) (want p u : ℕ) where
+  pub from-found : (d : TokenData) (m : ℕ) → tokenAt set t p ≡ got (found d m) → valueFrom t room val set want p u ≡ val want d m u
+  unfolding valueFrom
+  from-found d m e = rw (due-found t room set p textEnds (length t) d m e) refl
+
+  pub from-ended : (i : ℕ) → tokenAt set t p ≡ got (ended i) → valueFrom t room val set want p u ≡ no textEnds (length t)
+  unfolding valueFrom
+  from-ended i e = rw (due-ended t room set p textEnds (length t) i e) refl
+
+  pub from-no : (a b : ℕ) → tokenAt set t p ≡ no a b → valueFrom t room val set want p u ≡ no a b
+  unfolding valueFrom
+  from-no a b e = rw (due-no t room set p textEnds (length t) a b e) refl
 
 -- ---- what follows
 
@@ -71,15 +86,12 @@ module _ (t : List ℕ) (room f : ℕ) (val : Reads) (k p u : ℕ) where
   unfolding elementsBy
   elements-end i m e = rw e refl
 
-  module _ (i m : ℕ) (e : following t room 93 p textEnds (length t) ≡ got (goesOn i m)) where
-    pub elements-due : (a b : ℕ) → due t room later m textEnds (length t) ≡ no a b → elementsBy t room (suc f) val k p u ≡ no a b
-    unfolding elementsBy
-    elements-due a b g = rw (e, g) refl
-
-    pub elements-item : (x : Next) → due t room later m textEnds (length t) ≡ got x
-        → elementsBy t room (suc f) val k p u ≡ (val k (x .td) (x .next) u >>= (λ v. elementsBy t room f val k (v .next) (v .used) >>= (λ r. got (record { tags = tree.more (v .tag) (r .tags); next = r .next; used = r .used }))))
-    unfolding elementsBy
-    elements-item x g = rw (e, g) refl
+  pub elements-item : (i m : ℕ) → following t room 93 p textEnds (length t) ≡ got (goesOn i m)
+      → elementsBy t room (suc f) val k p u ≡ (valueFrom t room val later k m u >>= (λ v. elementsBy t room f val k (v .next) (v .used) >>= (λ r. got (record { tags = tree.more (v .tag) (r .tags); next = r .next; used = r .used }))))
+  unfolding elementsBy valueFrom
+  elements-item i m e =
+      rw e
+      (sym (bind-assoc (due t room later m textEnds (length t)) (λ x. val k (x .td) (x .next) u) (λ v. elementsBy t room f val k (v .next) (v .used) >>= (λ r. got (record { tags = tree.more (v .tag) (r .tags); next = r .next; used = r .used })))))
 
 -- ---- what a `[` opens
 
@@ -140,19 +152,16 @@ module _ (t : List ℕ) (room left : ℕ) (val : Reads) (brace p u : ℕ) where
 -- ---- one turn of a compound
 
 module _ (t : List ℕ) (room brace p : ℕ) where
-  abbrev colonDue : Out Next
-  colonDue = colonAt t room brace p >>= (λ q. due t room value q textEnds (length t))
-
-  pub colon-no : (a b : ℕ) → due t room default p unmatchedBrace brace ≡ no a b → colonDue ≡ no a b
+  pub colon-no : (a b : ℕ) → due t room default p unmatchedBrace brace ≡ no a b → colonAt t room brace p ≡ no a b
   unfolding colonAt
   colon-no a b e = rw e refl
 
   module _ (x : Next) (e : due t room default p unmatchedBrace brace ≡ got x) where
-    pub colon-other : (signOf (x .td .token) ≡ 58 → ⊥) → colonDue ≡ no unexpectedToken (x .td .index)
+    pub colon-other : (signOf (x .td .token) ≡ 58 → ⊥) → colonAt t room brace p ≡ no unexpectedToken (x .td .index)
     unfolding colonAt
     colon-other h = rw (e, ne-eqb (signOf (x .td .token)) 58 h) refl
 
-    pub colon-is : signOf (x .td .token) ≡ 58 → colonDue ≡ due t room value (x .next) textEnds (length t)
+    pub colon-is : signOf (x .td .token) ≡ 58 → colonAt t room brace p ≡ got (x .next)
     unfolding colonAt
     colon-is h = rw (e, eq-eqb (signOf (x .td .token)) 58 h) refl
 
@@ -167,20 +176,13 @@ module _ (t : List ℕ) (room : ℕ) (val : Reads) (brace : ℕ) (earlier : List
     entry-twice h = rw (e, h) refl
 
     module _ (h : known s earlier ≡ false) where
-      -- the colon and the value's token, then the value
-      entry-new : entryAt t room val brace earlier x u
-          ≡ ((colonAt t room brace (x .next) >>= (λ q. due t room value q textEnds (length t))) >>= (λ y. val 0 (y .td) (y .next) (u + (3 + length s)) >>= (λ v. got (s, v))))
+      pub entry-colon-no : (a b : ℕ) → colonAt t room brace (x .next) ≡ no a b → entryAt t room val brace earlier x u ≡ no a b
       unfolding entryAt
-      entry-new =
-          rw (e, h)
-          (sym (bind-assoc (colonAt t room brace (x .next)) (λ q. due t room value q textEnds (length t)) (λ y. val 0 (y .td) (y .next) (u + (3 + length s)) >>= (λ v. got (s, v)))))
+      entry-colon-no a b g = rw (e, h, g) refl
 
-      pub entry-colon-no : (a b : ℕ) → (colonAt t room brace (x .next) >>= (λ q. due t room value q textEnds (length t))) ≡ no a b → entryAt t room val brace earlier x u ≡ no a b
-      entry-colon-no a b g = entry-new ∙ rw g refl
-
-      pub entry-value : (y : Next) → (colonAt t room brace (x .next) >>= (λ q. due t room value q textEnds (length t))) ≡ got y
-          → entryAt t room val brace earlier x u ≡ (val 0 (y .td) (y .next) (u + (3 + length s)) >>= (λ v. got (s, v)))
-      entry-value y g = entry-new ∙ rw g refl
+      pub entry-value : (m : ℕ) → colonAt t room brace (x .next) ≡ got m → entryAt t room val brace earlier x u ≡ (valueFrom t room val value 0 m (u + (3 + length s)) >>= (λ v. got (s, v)))
+      unfolding entryAt valueFrom
+      entry-value m g = rw (e, h, g) (sym (bind-assoc (due t room value m textEnds (length t)) (λ y. val 0 (y .td) (y .next) (u + (3 + length s))) (λ v. got (s, v))))
 
 module _ (t : List ℕ) (room : ℕ) (val : Reads) (brace : ℕ) (earlier : List (List ℕ)) (last p u : ℕ) where
   pub turn-no : (a b : ℕ) → due t room key p unmatchedBrace brace ≡ no a b → entryTurn t room val brace earlier last p u ≡ no a b
@@ -201,12 +203,12 @@ module _ (t : List ℕ) (room : ℕ) (val : Reads) (brace : ℕ) (earlier : List
       unfolding entryTurn
       turn-entry-no a b g = rw (e, ne-eqb (signOf (x .td .token)) 125 h, g) refl
 
-      pub turn-entry : (s : List ℕ) (d : TokenData) (m : ℕ) → entryAt t room val brace earlier x u ≡ (val 0 d m (u + (3 + length s)) >>= (λ v. got (s, v)))
-          → entryTurn t room val brace earlier last p u ≡ (val 0 d m (u + (3 + length s)) >>= (λ v. following t room 125 (v .next) unmatchedBrace brace >>= (λ th. got (enters s v th))))
+      pub turn-entry : (s : List ℕ) (w : Out Value) → entryAt t room val brace earlier x u ≡ (w >>= (λ v. got (s, v)))
+          → entryTurn t room val brace earlier last p u ≡ (w >>= (λ v. following t room 125 (v .next) unmatchedBrace brace >>= (λ th. got (enters s v th))))
       unfolding entryTurn
-      turn-entry s d m g =
+      turn-entry s w g =
           rw (e, ne-eqb (signOf (x .td .token)) 125 h, g)
-          (bind-assoc (val 0 d m (u + (3 + length s))) (λ v. got (s, v)) (λ y. following t room 125 (y .1 .next) unmatchedBrace brace >>= (λ th. got (enters (y .0) (y .1) th))))
+          (bind-assoc w (λ v. got (s, v)) (λ y. following t room 125 (y .1 .next) unmatchedBrace brace >>= (λ th. got (enters (y .0) (y .1) th))))
 
 -- ---- a compound's entries, turn by turn
 

@@ -17,7 +17,8 @@ use Rattle.form.specs.Tree.{Tag, Tags, kindOf, many}
 use Rattle.form.specs.Layout.{payload, elementBytes, stringBytes}
 use Rattle.form.proofs.Digits.{digits-length}
 use Rattle.form.proofs.Table.{over-none, over-length, over-over}
-use Rattle.text_form.specs.Lexing.{TokenData}
+use Rattle.text_form.proofs.Moves.{token-moves}
+use Rattle.text_form.specs.Lexing.{Stops, first, value, TokenData, found, tokenAt}
 use Rattle.text_form.specs.Text.{Value, Row, Then, goesOn, closes, Reads, signOf, following, squareAt, arrayAt, compoundAt, elementsBy, valueBy, valueAt, scalarValue, known}
 use Rattle.keys.specs.Keys.{Kept, nameAt, namesIn, Named, Comes, Added}
 use Rattle.keys.proofs.Keys.{named-put, named-name}
@@ -28,9 +29,9 @@ use Rattle.scalars.specs.declared.Done.the-variants.{To, No}
 use Rattle.snbt.specs.declared.Turn.{Turn}
 use Rattle.scalars.specs.Done.{Did, Agrees, Ahead}
 use Rattle.scalars.specs.Turns.{Wide, bytes, ints, longs}
-use Rattle.snbt.specs.Turns.{Met, Ran, Entered, stops, enters, entryTurn, inner, Turned, Went, blockValue, held, enteredBytes}
+use Rattle.snbt.specs.Turns.{Met, Ran, Entered, stops, enters, entryTurn, valueFrom, inner, Turned, Went, blockValue, held, enteredBytes}
 use Rattle.snbt.specs.Steps.{Keyed, SettledIs, Grown, Closed, TurnIs, ValueIs, RunIs, heldDone, unless}
-use Rattle.snbt.proofs.Reading.{value-unfold, inner-is, value-compound, value-square, value-scalar}
+use Rattle.snbt.proofs.Reading.{from-found, value-unfold, inner-is, value-compound, value-square, value-scalar}
 use Rattle.snbt.proofs.Sizes.{met-within, scalar-went, array-went}
 use Rattle.snbt.proofs.Bytes.{list-kind, list-size, list-over, entry-size, entry-over, take-over}
 
@@ -76,6 +77,19 @@ module _ (t o k : List ℕ) (top at left want : ℕ) (x : TokenData) (n : ℕ) w
         record { around = refl; on = omega (arith, d .next-is, z .0); within = omega (arith, d .next-is, z .0, w .1); small = omega (arith, d .next-is, z .0, d .size-is, z .1, w .0) },
       )
 
+-- ---- a value by the token that is due
+
+-- reading on from a place on, as from a token behind it
+value-on : {t k k′ : List ℕ} {top p q n u : ℕ} → p ≤ q → Went t k top q n u k′ → Went t k top p n u k′
+value-on h w = record { around = w .around; on = omega (arith, h, w .on); within = w .within; small = w .small }
+
+pub value-found : (t o k : List ℕ) (top at : ℕ) (val : Reads) (set : Stops) (want p : ℕ) (d : TokenData) (m : ℕ) (r : Done) (o′ k′ : List ℕ) → tokenAt set t p ≡ got (found d m) → p ≤ length t
+    → ValueIs (val want d m at) t o k top at m r o′ k′ → ValueIs (valueFrom t (length o) val set want p at) t o k top at p r o′ k′
+value-found t o k top at val set want p d m (No a b) o′ k′ e h v = from-found t (length o) val set want p at d m e ∙ v
+value-found t o k top at val set want p d m (To n u kind) o′ k′ e h (did, went) =
+    let z = token-moves set t p d m e h in
+    (did-as (from-found t (length o) val set want p at d m e) did, value-on (omega (arith, z .0, z .1)) went)
+
 -- ---- behind a `[`
 
 wide-le : (w : ℕ) → Wide w → w ≤ 8
@@ -96,12 +110,11 @@ module _ (t o k : List ℕ) (top at left brace p : ℕ) (val : Reads) (h : at + 
   square-by-empty m r o′ e g l s q =
       rw q (did-as e (rw q at s), record { around = refl; on = omega arith; within = l; small = omega arith })
 
-  module _ (d : TokenData) (m : ℕ)
-      (e : squareAt t (length o) left val brace p at ≡ (val 0 d m (at + 5) >>= (λ v. elementsBy t (length o) (suc (length t)) val (kindOf (v .tag)) (v .next) (v .used) >>= (λ r. got (record { tag = tree.list (tree.more (v .tag) (r .tags)); next = r .next; used = r .used }))))) where
-    pub square-value-no : (a b : ℕ) → val 0 d m (at + 5) ≡ no a b → squareAt t (length o) left val brace p at ≡ no a b
+  module _ (e : squareAt t (length o) left val brace p at ≡ (valueFrom t (length o) val first 0 p (at + 5) >>= (λ v. elementsBy t (length o) (suc (length t)) val (kindOf (v .tag)) (v .next) (v .used) >>= (λ r. got (record { tag = tree.list (tree.more (v .tag) (r .tags)); next = r .next; used = r .used }))))) where
+    pub square-value-no : (a b : ℕ) → valueFrom t (length o) val first 0 p (at + 5) ≡ no a b → squareAt t (length o) left val brace p at ≡ no a b
     square-value-no a b g = e ∙ rw g refl
 
-    module _ (o₁ k₁ : List ℕ) (n u kind : ℕ) (did : Did (val 0 d m (at + 5)) o (at + 5) n u kind o₁) (went : Went t k top m n u k₁) (same : length o₁ ≡ length o) (val₁ : Reads) (alike : val₁ ≡ val) where
+    module _ (o₁ k₁ : List ℕ) (n u kind : ℕ) (did : Did (valueFrom t (length o) val first 0 p (at + 5)) o (at + 5) n u kind o₁) (went : Went t k top p n u k₁) (same : length o₁ ≡ length o) (val₁ : Reads) (alike : val₁ ≡ val) where
       -- from the first element on
       on : squareAt t (length o) left val brace p at ≡ (elementsBy t (length o) (suc (length t)) val kind n u >>= (λ r. got (record { tag = tree.list (tree.more (did .value .tag) (r .tags)); next = r .next; used = r .used })))
       on = e ∙ rw (did .same, did .kind-is, did .next-is, did .used-is) refl
@@ -109,9 +122,9 @@ module _ (t o k : List ℕ) (top at left brace p : ℕ) (val : Reads) (h : at + 
       pub square-run-no : (a b : ℕ) → elementsBy t (length o₁) (suc (length t)) val₁ kind n u ≡ no a b → squareAt t (length o) left val brace p at ≡ no a b
       square-run-no a b g = on ∙ rw (rw (same, alike) at g) refl
 
-      pub square-run : (o₂ o₃ k₂ : List ℕ) (n₂ u₂ c : ℕ) → p ≤ m → Ran (elementsBy t (length o₁) (suc (length t)) val₁ kind n u) o₁ u n₂ u₂ c o₂ → Went t k₁ top n n₂ u₂ k₂ → o₃ ≡ over o₂ at (kind ∷ bytesOf 4 (c + 1))
+      pub square-run : (o₂ o₃ k₂ : List ℕ) (n₂ u₂ c : ℕ) → Ran (elementsBy t (length o₁) (suc (length t)) val₁ kind n u) o₁ u n₂ u₂ c o₂ → Went t k₁ top n n₂ u₂ k₂ → o₃ ≡ over o₂ at (kind ∷ bytesOf 4 (c + 1))
           → ValueIs (squareAt t (length o) left val brace p at) t o k top at p (To n₂ u₂ 9) o₃ k₂
-      square-run o₂ o₃ k₂ n₂ u₂ c l ran went₂ put = (
+      square-run o₂ o₃ k₂ n₂ u₂ c ran went₂ put = (
         record {
           value = record { tag = tree.list (tree.more (did .value .tag) (ran .row .tags)); next = ran .row .next; used = ran .row .used };
           same = on ∙ rw (rw (same, alike) at (ran .same)) refl;
@@ -154,23 +167,23 @@ known-head : (x s : List ℕ) (ns : List (List ℕ)) → known x (s ∷ ns) ≡ 
 unfolding known
 known-head x s ns = refl
 
-module _ (t o k : List ℕ) (base top at brace last p : ℕ) (left : ℕ) (buffer : List ℕ) (n i : ℕ) (d : TokenData) (m : ℕ)
-    (kept : Kept o k base top at) (room : top < length k) (keyed : Keyed t brace last p o k base top buffer n i d m) (low : at ≤ 16 * p) where
+module _ (t o k : List ℕ) (base top at brace last p : ℕ) (left : ℕ) (buffer : List ℕ) (n i m : ℕ)
+    (kept : Kept o k base top at) (room : top < length k) (keyed : Keyed t brace last p o k base top buffer n i m) (low : at ≤ 16 * p) where
   abbrev turn : Out Entered
   turn = entryTurn t (length o) (valueAt t (length o) left) brace (namesIn o k base (top - base)) last p at
 
   behind-name : at + (3 + length (keyed .name)) ≡ at + 3 + n
   behind-name = omega (arith, keyed .fit .length-is)
 
-  begun : turn ≡ (valueAt t (length o) left 0 d m (at + 3 + n) >>= (λ v. following t (length o) 125 (v .next) unmatchedBrace brace >>= (λ s. got (enters (keyed .name) v s))))
+  begun : turn ≡ (valueFrom t (length o) (valueAt t (length o) left) value 0 m (at + 3 + n) >>= (λ v. following t (length o) 125 (v .next) unmatchedBrace brace >>= (λ s. got (enters (keyed .name) v s))))
   begun = keyed .is (length o) (valueAt t (length o) left) at ∙ rw behind-name refl
 
-  pub entry-value-no : (o₁ : List ℕ) → length o₁ ≡ length o → (a b : ℕ) → valueAt t (length o₁) left 0 d m (at + 3 + n) ≡ no a b → turn ≡ no a b
+  pub entry-value-no : (o₁ : List ℕ) → length o₁ ≡ length o → (a b : ℕ) → valueFrom t (length o₁) (valueAt t (length o₁) left) value 0 m (at + 3 + n) ≡ no a b → turn ≡ no a b
   entry-value-no o₁ l a b e = begun ∙ rw (rw l at e) refl
 
   module _ (o₁ o₂ o₃ k₂ : List ℕ) (q u kind : ℕ) (l : length o₁ ≡ length o) (l₂ : length k₂ ≡ length k)
       (wrote : at + 1 + 2 + n ≤ length o → o₁ ≡ over o (at + 1) (stringBytes (take n buffer)))
-      (did : Did (valueAt t (length o₁) left 0 d m (at + 3 + n)) o₁ (at + 3 + n) q u kind o₂) (went : Went t k top m q u k₂)
+      (did : Did (valueFrom t (length o₁) (valueAt t (length o₁) left) value 0 m (at + 3 + n)) o₁ (at + 3 + n) q u kind o₂) (went : Went t k top m q u k₂)
       (put : o₃ ≡ over o₂ at (kind ∷ [])) where
     abbrev s : List ℕ
     s = keyed .name
@@ -233,7 +246,7 @@ module _ (t o k : List ℕ) (base top at brace last p : ℕ) (left : ℕ) (buffe
         kept = kept-same (added .kept) o₃ k₃ refl refl (omega (arith, named .size, named .ends)) (omega (arith, long, did .fits, l));
         names = λ x. known-head x s (namesIn o k base (top - base)) ∙ ap (λ ns. same s x || known x ns) (names-kept kept o₃ k₂ front (sym (went .around))) ∙ sym (rw name-is at (added .alike x));
         around = around;
-        far = omega (arith, keyed .fit .far, met-within (keyed .fit .met) .0, went .on, h);
+        far = omega (arith, keyed .fit .far, went .on, h);
         within = w;
         small = omega (arith, went .small, h);
       }
@@ -241,7 +254,7 @@ module _ (t o k : List ℕ) (base top at brace last p : ℕ) (left : ℕ) (buffe
       pub entry-settled : (r : Turn) → SettledIs t q u brace r → TurnIs turn t o k base top at p r o₃ k₃
       entry-settled (Turn.More c m′ u′) (e, h, w, z) = rw z (grown c m′ (e (length o)) h w)
       entry-settled (Turn.Last i′ m′ u′) (e, h, w, z) =
-          rw z (record { turned = turned (closes i′ m′) (e (length o)); around = around; far = omega (arith, keyed .fit .far, met-within (keyed .fit .met) .0, went .on, h); within = w; small = omega (arith, went .small, h) })
+          rw z (record { turned = turned (closes i′ m′) (e (length o)); around = around; far = omega (arith, keyed .fit .far, went .on, h); within = w; small = omega (arith, went .small, h) })
       entry-settled (Turn.No a b) e = read ∙ rw (e (length o)) refl
 
 -- the `}` in the place of a key

@@ -11,12 +11,12 @@ use borrow.Author.Tests.{ne-eqb, lt-leb}
 use lib.Dec.{eqb}
 use lib.ListN.{length, getD, take}
 use lib.Seq.{take-all}
-use Rattle.form.specs.Answer.{got, no, nameTwice, textEnds}
+use Rattle.form.specs.Answer.{got, nameTwice}
 use Rattle.form.specs.Spans.{part, over}
 use Rattle.form.proofs.Spans.{part-length}
 use Rattle.text_form.specs.Numbers.{isDigit}
-use Rattle.text_form.specs.Lexing.{among, default, key, value, colon, string, Scan, word, begun, stops, TokenData, found, made, skip, tokenBy, tokenAt, contentOf}
-use Rattle.text_form.specs.Text.{due, keyOf, known}
+use Rattle.text_form.specs.Lexing.{among, default, key, colon, string, Scan, word, begun, stops, found, made, skip, tokenBy, tokenAt, contentOf}
+use Rattle.text_form.specs.Text.{keyOf, known}
 use Rattle.lexer.specs.Runs.{Ordinary, Run}
 use Rattle.lexer.proofs.Among.{blank-out}
 use Rattle.lexer.proofs.Slurps.{Going, going-start, going-run, going-stop, skip-stop}
@@ -29,8 +29,8 @@ use Rattle.keys.specs.Keys.{FreeAt, namesIn}
 use Rattle.snbt.specs.declared.Key.{Key}
 use Rattle.snbt.specs.Turns.{Met, wordData, Worded}
 use Rattle.snbt.specs.Steps.{NameIs, NamedIs, KeyedIs}
-use Rattle.snbt.proofs.Reading.{entry-twice, entry-colon-no}
-use Rattle.snbt.proofs.Steps.{met-at, colon-due, colon-value}
+use Rattle.snbt.proofs.Reading.{entry-twice}
+use Rattle.snbt.proofs.Steps.{met-at, colon-to}
 use Rattle.snbt.proofs.Opening.{named-is, keyed-named}
 
 -- ---- where it ends
@@ -162,15 +162,10 @@ module _ (t : List ℕ) (i j : ℕ) (w : Worded t i j) where
       free-is : FreeAt o k base top (part t i (j - i)) n
       free-is = subst (λ (x : List ℕ). FreeAt o k base top x n) s free
 
-      pub word-no : (x p : ℕ) → ((room : ℕ) → due t room value (j + 1) textEnds (length t) ≡ no x p) → (brace : ℕ) → NamedIs t (wordData i j) j brace o k base top buffer (Key.No x p)
-      word-no x p g brace room val u =
-          entry-colon-no t room val brace (namesIn o k base (top - base)) (record { td = wordData i j; next = j }) u (part t i (j - i)) (word-key room) (free-is .new) x p
-          (colon-due t brace j _ (j + 1) (w .behind) (omega (arith, w .within)) refl x p g room)
-
-      pub word-named : (d : TokenData) (m : ℕ) → tokenAt value t (j + 1) ≡ got (found d m) → (brace : ℕ) → NameIs t (wordData i j) j brace o k base top buffer (j - i) n d m
-      word-named d m g brace =
-          let c = colon-value t brace j _ (j + 1) (w .behind) (omega (arith, w .within)) refl d m g in
-          named-is t (wordData i j) j brace o k base top buffer (part t i (j - i)) (j - i) n d m word-met word-key (sym word-length) s free-is (c .0) (c .1) (c .2)
+      pub word-named : (brace : ℕ) → NameIs t (wordData i j) j brace o k base top buffer (j - i) n (j + 1)
+      word-named brace =
+          let c = colon-to t brace j _ (j + 1) (w .behind) (omega (arith, w .within)) refl in
+          named-is t (wordData i j) j brace o k base top buffer (part t i (j - i)) (j - i) n (j + 1) word-met word-key (sym word-length) s free-is (c .0) (c .1) (c .2)
 
   -- ---- from a place before it
 

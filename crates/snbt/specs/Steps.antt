@@ -6,17 +6,17 @@ use mathlib.Core.Bool.{Bool, true, false, _||_}
 use mathlib.Core.List.{List, [], _∷_, _++_}
 use lib.Dec.{eqb}
 use lib.ListN.{length, take}
-use Rattle.form.specs.Answer.{Out, got, no, _>>=_, _>>_, guard, tooDeep, mixedList, unexpectedToken, textEnds, trailingComma, unmatchedBrace, depthLimit}
+use Rattle.form.specs.Answer.{Out, got, no, _>>=_, _>>_, guard, tooDeep, mixedList, unexpectedToken, trailingComma, unmatchedBrace, depthLimit}
 use Rattle.form.specs.Spans.{over}
 use Rattle.form.specs.Tree as tree
 use Rattle.form.specs.Tree.{Tag, Tags, Entries, kindOf, many, entry}
 use Rattle.form.specs.Layout.{payload, elementBytes, stringBytes, layout}
-use Rattle.text_form.specs.Lexing.{Stops, default, key, value, later, TokenData, Lexed, found, ended, tokenAt}
+use Rattle.text_form.specs.Lexing.{Stops, default, key, value, first, later, TokenData, Lexed, found, ended, tokenAt}
 use Rattle.text_form.specs.Text.{Value, Row, Block, Next, Then, goesOn, closes, Reads, signOf, due, following, colonAt, alike, letterWidth, listAt, closeAt, entryAt, elementsBy, squareAt, arrayAt, known, compoundAt, valueAt, documentOf}
 use Rattle.tokens.specs.Answers.{dataIs}
 use Rattle.scalars.specs.declared.Done.{Done}
 use Rattle.scalars.specs.declared.Done.the-variants.{To, No}
-use Rattle.snbt.specs.Turns.{Met, Ran, Entered, stops, enters, entryTurn, nameBefore, Turned, Went, Rooted}
+use Rattle.snbt.specs.Turns.{Ran, Entered, stops, enters, entryTurn, valueFrom, nameBefore, Turned, Went, Rooted}
 use Rattle.keys.specs.Keys.{Kept, FreeAt, namesIn}
 use Rattle.scalars.specs.Done.{Did}
 use Rattle.scalars.specs.Turns.{Wide}
@@ -24,6 +24,7 @@ use Rattle.snbt.specs.declared.Due.{Due}
 use Rattle.snbt.specs.declared.After.{After}
 use Rattle.snbt.specs.declared.Item.{Item}
 use Rattle.snbt.specs.declared.Opened.{Opened}
+use Rattle.snbt.specs.declared.Colon.{Colon}
 use Rattle.snbt.specs.declared.Key.{Key}
 use Rattle.snbt.specs.declared.Turn.{Turn}
 use Rattle.snbt.specs.declared.Run.{Run}
@@ -43,13 +44,13 @@ AfterIs t closing p n q (After.No a b) = (room : ℕ) → following t room closi
 
 -- ---- one turn of a list (rule 14)
 
--- What stands behind an element that ends at p: the end, or the next element's token, by which val reads it.
+-- What stands behind an element that ends at p: the end, or a comma, behind which val reads the next one.
 abbrev pub ItemIs : List ℕ → ℕ → Item → Type 0
 ItemIs t p (Item.End m) =
     ((room f : ℕ) (val : Reads) (k u : ℕ) → elementsBy t room (suc f) val k p u ≡ got (record { tags = tree.nil; next = m; used = u })) × (p < m) × (m ≤ length t)
-ItemIs t p (Item.Is d m) =
-    ((room f : ℕ) (val : Reads) (k u : ℕ) → elementsBy t room (suc f) val k p u ≡ (val k (dataIs d) m u >>= (λ v. elementsBy t room f val k (v .next) (v .used) >>= (λ r. got (record { tags = tree.more (v .tag) (r .tags); next = r .next; used = r .used })))))
-    × Met t (dataIs d) m × (p < dataIs d .index)
+ItemIs t p (Item.Is m) =
+    ((room f : ℕ) (val : Reads) (k u : ℕ) → elementsBy t room (suc f) val k p u ≡ (valueFrom t room val later k m u >>= (λ v. elementsBy t room f val k (v .next) (v .used) >>= (λ r. got (record { tags = tree.more (v .tag) (r .tags); next = r .next; used = r .used })))))
+    × (p < m) × (m ≤ length t)
 ItemIs t p (Item.No a b) = (room f : ℕ) (val : Reads) (k u : ℕ) → elementsBy t room (suc f) val k p u ≡ no a b
 
 -- ---- what a `[` opens (rule 15)
@@ -68,65 +69,64 @@ abbrev pub ListedIs : ℕ → ℕ → ℕ → TokenData → ℕ → ℕ → Open
 ListedIs room left brace d n u (Opened.Array w m) = ⊥
 ListedIs room left brace d n u (Opened.Empty m) =
     ((t : List ℕ) (val : Reads) → listAt t room left val brace (found d n) u ≡ got (record { tag = tree.list tree.nil; next = m; used = u + 5 })) × (u + 5 ≤ room) × (m ≡ n)
-ListedIs room left brace d n u (Opened.First d′ m) =
+ListedIs room left brace d n u Opened.First =
     ((t : List ℕ) (val : Reads) → listAt t room left val brace (found d n) u ≡ (val 0 d n (u + 5) >>= (λ v. elementsBy t room (suc (length t)) val (kindOf (v .tag)) (v .next) (v .used) >>= (λ r. got (record { tag = tree.list (tree.more (v .tag) (r .tags)); next = r .next; used = r .used })))))
-    × (0 < left) × (u + 5 ≤ room) × (dataIs d′ ≡ d) × (m ≡ n)
+    × (0 < left) × (u + 5 ≤ room)
 ListedIs room left brace d n u (Opened.No a b) = (t : List ℕ) (val : Reads) → listAt t room left val brace (found d n) u ≡ no a b
 
 -- A list whose text ends behind the `[`.
 abbrev pub UnmatchedIs : ℕ → ℕ → ℕ → ℕ → Opened → Type 0
 UnmatchedIs room left brace u (Opened.Array w m) = ⊥
 UnmatchedIs room left brace u (Opened.Empty m) = ⊥
-UnmatchedIs room left brace u (Opened.First d m) = ⊥
+UnmatchedIs room left brace u Opened.First = ⊥
 UnmatchedIs room left brace u (Opened.No a b) = (t : List ℕ) (val : Reads) (p : ℕ) → listAt t room left val brace (ended p) u ≡ no a b
 
--- An array, a list that is empty, a list with its first element's token, or a refusal; u bytes are used, `left` containers left.
+-- An array, a list that is empty, a list whose first element is due at p, or a refusal; u bytes are used, `left` containers left.
 abbrev pub OpenedIs : List ℕ → ℕ → ℕ → ℕ → ℕ → ℕ → Opened → Type 0
 OpenedIs t room left brace p u (Opened.Array w m) =
     ((val : Reads) → squareAt t room left val brace p u ≡ arrayAt t room w brace m u) × Wide w × (p ≤ m) × (m ≤ length t)
 OpenedIs t room left brace p u (Opened.Empty m) =
     ((val : Reads) → squareAt t room left val brace p u ≡ got (record { tag = tree.list tree.nil; next = m; used = u + 5 })) × (u + 5 ≤ room) × (p < m) × (m ≤ length t)
-OpenedIs t room left brace p u (Opened.First d m) =
-    ((val : Reads) → squareAt t room left val brace p u ≡ (val 0 (dataIs d) m (u + 5) >>= (λ v. elementsBy t room (suc (length t)) val (kindOf (v .tag)) (v .next) (v .used) >>= (λ r. got (record { tag = tree.list (tree.more (v .tag) (r .tags)); next = r .next; used = r .used })))))
-    × (0 < left) × (u + 5 ≤ room) × Met t (dataIs d) m × (p ≤ dataIs d .index)
+OpenedIs t room left brace p u Opened.First =
+    ((val : Reads) → squareAt t room left val brace p u ≡ (valueFrom t room val first 0 p (u + 5) >>= (λ v. elementsBy t room (suc (length t)) val (kindOf (v .tag)) (v .next) (v .used) >>= (λ r. got (record { tag = tree.list (tree.more (v .tag) (r .tags)); next = r .next; used = r .used })))))
+    × (0 < left) × (u + 5 ≤ room)
 OpenedIs t room left brace p u (Opened.No a b) = (val : Reads) → squareAt t room left val brace p u ≡ no a b
 
 -- ---- one turn of a compound (rule 15)
 
--- The `:` behind a key, then the value's token.
-abbrev pub ColonIs : List ℕ → ℕ → ℕ → Due → Type 0
-ColonIs t brace p (Due.Is d m) =
-    ((room : ℕ) → (colonAt t room brace p >>= (λ q. due t room value q textEnds (length t))) ≡ got (record { td = dataIs d; next = m })) × Met t (dataIs d) m × (p < dataIs d .index)
-ColonIs t brace p (Due.No a b) = (room : ℕ) → (colonAt t room brace p >>= (λ q. due t room value q textEnds (length t))) ≡ no a b
+-- The `:` behind a key, with the place behind it.
+abbrev pub ColonIs : List ℕ → ℕ → ℕ → Colon → Type 0
+ColonIs t brace p (Colon.To m) = ((room : ℕ) → colonAt t room brace p ≡ got m) × (p < m) × (m ≤ length t)
+ColonIs t brace p (Colon.No a b) = (room : ℕ) → colonAt t room brace p ≡ no a b
 
--- A key from place p on, with its value's token d and the next place m: its name is in the buffer, and belongs at index i of the keys.
-pub record Fit (t : List ℕ) (p : ℕ) (o k : List ℕ) (base top : ℕ) (buffer name : List ℕ) (n i : ℕ) (d : TokenData) (m : ℕ) : Type 0 where
+-- A key from place p on, with the place m behind its `:`: its name is in the buffer, and belongs at index i of the keys.
+pub record Fit (t : List ℕ) (p : ℕ) (o k : List ℕ) (base top : ℕ) (buffer name : List ℕ) (n i m : ℕ) : Type 0 where
   pub stands : take n buffer ≡ name
   pub length-is : n ≡ length name
   pub short : n ≤ 65535
   pub free : FreeAt o k base top name i
-  pub met : Met t d m
-  pub small : 3 + n + 16 * p ≤ 16 * (d .index)
-  pub far : p + 2 ≤ d .index
+  pub within : m ≤ length t
+  pub small : 3 + n + 16 * p ≤ 16 * m
+  pub far : p + 2 ≤ m
 
 -- The same as a turn of a compound.
-pub record Keyed (t : List ℕ) (brace last p : ℕ) (o k : List ℕ) (base top : ℕ) (buffer : List ℕ) (n i : ℕ) (d : TokenData) (m : ℕ) : Type 0 where
+pub record Keyed (t : List ℕ) (brace last p : ℕ) (o k : List ℕ) (base top : ℕ) (buffer : List ℕ) (n i m : ℕ) : Type 0 where
   pub name : List ℕ
   pub is : (room : ℕ) (val : Reads) (u : ℕ) → entryTurn t room val brace (namesIn o k base (top - base)) last p u
-      ≡ (val 0 d m (u + (3 + length name)) >>= (λ v. following t room 125 (v .next) unmatchedBrace brace >>= (λ s. got (enters name v s))))
-  pub fit : Fit t p o k base top buffer name n i d m
+      ≡ (valueFrom t room val value 0 m (u + (3 + length name)) >>= (λ v. following t room 125 (v .next) unmatchedBrace brace >>= (λ s. got (enters name v s))))
+  pub fit : Fit t p o k base top buffer name n i m
 
 -- The same by the key's token, of which an entry's definition speaks.
-pub record NameIs (t : List ℕ) (x : TokenData) (next brace : ℕ) (o k : List ℕ) (base top : ℕ) (buffer : List ℕ) (n i : ℕ) (d : TokenData) (m : ℕ) : Type 0 where
+pub record NameIs (t : List ℕ) (x : TokenData) (next brace : ℕ) (o k : List ℕ) (base top : ℕ) (buffer : List ℕ) (n i m : ℕ) : Type 0 where
   pub name : List ℕ
   pub is : (room : ℕ) (val : Reads) (u : ℕ) → entryAt t room val brace (namesIn o k base (top - base)) (record { td = x; next = next }) u
-      ≡ (val 0 d m (u + (3 + length name)) >>= (λ v. got (name, v)))
-  pub fit : Fit t (x .index) o k base top buffer name n i d m
+      ≡ (valueFrom t room val value 0 m (u + (3 + length name)) >>= (λ v. got (name, v)))
+  pub fit : Fit t (x .index) o k base top buffer name n i m
 
 -- The answer by a key's token: such a key, or a refusal.
 abbrev pub NamedIs : List ℕ → TokenData → ℕ → ℕ → List ℕ → List ℕ → ℕ → ℕ → List ℕ → Key → Type 0
 NamedIs t x next brace o k base top buffer (Key.End i m) = ⊥
-NamedIs t x next brace o k base top buffer (Key.Is n i d m) = NameIs t x next brace o k base top buffer n i (dataIs d) m
+NamedIs t x next brace o k base top buffer (Key.Is n i m) = NameIs t x next brace o k base top buffer n i m
 NamedIs t x next brace o k base top buffer (Key.No a b) =
     (room : ℕ) (val : Reads) (u : ℕ) → entryAt t room val brace (namesIn o k base (top - base)) (record { td = x; next = next }) u ≡ no a b
 
@@ -134,7 +134,7 @@ NamedIs t x next brace o k base top buffer (Key.No a b) =
 abbrev pub KeyedIs : List ℕ → ℕ → ℕ → ℕ → List ℕ → List ℕ → ℕ → ℕ → List ℕ → Key → Type 0
 KeyedIs t brace last p o k base top buffer (Key.End i m) =
     ((room : ℕ) (val : Reads) (u : ℕ) → entryTurn t room val brace (namesIn o k base (top - base)) last p u ≡ got (stops i m)) × (p < m) × (m ≤ length t)
-KeyedIs t brace last p o k base top buffer (Key.Is n i d m) = Keyed t brace last p o k base top buffer n i (dataIs d) m
+KeyedIs t brace last p o k base top buffer (Key.Is n i m) = Keyed t brace last p o k base top buffer n i m
 KeyedIs t brace last p o k base top buffer (Key.No a b) =
     (room : ℕ) (val : Reads) (u : ℕ) → entryTurn t room val brace (namesIn o k base (top - base)) last p u ≡ no a b
 

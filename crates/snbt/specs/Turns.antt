@@ -77,6 +77,12 @@ module _ (t : List ℕ) (room : ℕ) where
     x ← due t room key p unmatchedBrace brace
     turnBy (eqb (signOf (x .td .token)) 125) val brace earlier last x u
 
+  -- A value that is due at p, read by its first token; at the text's end refusal 20 there.
+  unfoldable pub valueFrom : Reads → Stops → ℕ → ℕ → ℕ → Out Value
+  valueFrom val set want p u = do
+    x ← due t room set p textEnds (length t)
+    val want (x .td) (x .next) u
+
   -- What a value's container reads its own values by.
   abbrev pub inner : ℕ → Reads
   inner zero = λ want x n u. no tooDeep (x .index)

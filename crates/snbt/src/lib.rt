@@ -22,7 +22,7 @@ ghost use Rattle.form.specs.Tree.{list, nil};
 ghost use Rattle.keys.specs.Keys.{Kept, namesIn, Comes, Added};
 ghost use Rattle.scalars.specs.Done.{Agrees, Spanned, KeyRoom};
 ghost use Rattle.snbt.specs.Answers.{parsedOut};
-ghost use Rattle.snbt.specs.Turns.{Ready, Met, wordData, Worded, entryTurn, inner, blockValue, rootOf};
+ghost use Rattle.snbt.specs.Turns.{Ready, Met, wordData, Worded, entryTurn, inner, blockValue, valueFrom, rootOf};
 ghost use Rattle.snbt.specs.Steps.{DueIs, AfterIs, ItemIs, LetterIs, BarredIs, ListedIs, UnmatchedIs, OpenedIs, ColonIs, NamedIs, KeyedIs, SettledIs, CloseIs, TurnIs, ValueIs, RunIs, heldDone, RootIs};
 
 // The answer of a parse: the bytes of the text consumed and the length of the document, or the number and the place of the refusal.
@@ -44,10 +44,10 @@ enum After {
     No { number: u8, place: usize },
 }
 
-// What stands behind an element of a list: its end, or another's token.
+// What stands behind an element of a list: its end, or a comma and the next one's place.
 enum Item {
     End { next: usize },
-    Is { td: TokenData, next: usize },
+    Is { next: usize },
     No { number: u8, place: usize },
 }
 
@@ -55,11 +55,17 @@ enum Item {
 enum Opened {
     Array { width: u8, next: usize },
     Empty { next: usize },
-    First { td: TokenData, next: usize },
+    First,
     No { number: u8, place: usize },
 }
 
-// What stands where a key is due: the `}`; or a key's length and its index among the keys, with its value's token.
+// The `:` behind a key, by the place behind it.
+enum Colon {
+    To { next: usize },
+    No { number: u8, place: usize },
+}
+
+// What stands where a key is due: the `}`; or a key's length and its index among the keys, with the place behind its `:`.
 enum Key {
     End {
         place: usize,
@@ -68,7 +74,6 @@ enum Key {
     Is {
         size: usize,
         index: usize,
-        td: TokenData,
         next: usize,
     },
     No {
@@ -174,12 +179,7 @@ fn item_at(text: &[u8], place: usize) -> Item
     ensures { λ r. ⌜ ItemIs (now (text .entry)) place r ⌝ }
 {
     match following(text, place, b']', form::TEXT_ENDS, text.len()) {
-        After::Comma { place: _, next } => {
-            match due_at(text, next, Stops::Later, form::TEXT_ENDS, text.len()) {
-                Due::Is { td, next: m } => Item::Is { td, next: m },
-                Due::No { number, place: p } => Item::No { number, place: p },
-            }
-        }
+        After::Comma { place: _, next } => Item::Is { next },
         After::Close { place: _, next } => Item::End { next },
         After::No { number, place: p } => Item::No { number, place: p },
     }
@@ -257,7 +257,7 @@ fn listed(td: TokenData, next: usize, brace: usize, left: usize, room: usize, at
     if tokens::sign(token) == b']' {
         return Opened::Empty { next };
     }
-    Opened::First { td, next }
+    Opened::First
 }
 
 // A list whose text ends behind the `[`: refusals 7 and 13 there, else 22.
@@ -331,26 +331,26 @@ fn empty(out: &mut [u8], at: usize, next: usize) -> Done
 
 // ---- compounds (rule 15)
 
-// The `:` behind a key, known by its character, and its value's token; any other token is refusal 19.
-fn behind_key(text: &[u8], place: usize, brace: usize) -> Due
+// The `:` behind a key, known by its character; any other token is refusal 19.
+fn behind_key(text: &[u8], place: usize, brace: usize) -> Colon
     requires { ⌜ place ≤ length (now text) ⌝ }
     ensures { λ r. ⌜ ColonIs (now (text .entry)) brace place r ⌝ }
 {
     let front = lexer::front_at(text, place);
     let here = front.place;
     if front.byte == b':' {
-        return due_at(text, here + 1, Stops::Value, form::TEXT_ENDS, text.len());
+        return Colon::To { next: here + 1 };
     }
     match due_at(text, place, Stops::Default, form::UNMATCHED_BRACE, brace) {
-        Due::Is { td: _, next: _ } => Due::No {
+        Due::Is { td: _, next: _ } => Colon::No {
             number: form::UNEXPECTED_TOKEN,
             place: here,
         },
-        Due::No { number, place: p } => Due::No { number, place: p },
+        Due::No { number, place: p } => Colon::No { number, place: p },
     }
 }
 
-// An entry up to its value's token: the key (19, 12), whether it is there already (6), the `:`.
+// An entry up to its value: the key (19, 12), whether it is there already (6), the `:`.
 fn named(
     text: &[u8],
     td: TokenData,
@@ -375,17 +375,16 @@ fn named(
                 place: here,
             },
             Spot::Free { index: i } => match behind_key(text, next, brace) {
-                Due::No {
+                Colon::No {
                     number: n,
                     place: p,
                 } => Key::No {
                     number: n,
                     place: p,
                 },
-                Due::Is { td: d, next: m } => Key::Is {
+                Colon::To { next: m } => Key::Is {
                     size: length,
                     index: i,
-                    td: d,
                     next: m,
                 },
             },
@@ -393,7 +392,7 @@ fn named(
     }
 }
 
-// Where any key is due: the `}`, refused with 21 behind a comma, or an entry up to its value's token.
+// Where any key is due: the `}`, refused with 21 behind a comma, or an entry up to its value.
 fn any_key(
     text: &[u8],
     place: usize,
@@ -454,7 +453,7 @@ fn word_end(text: &[u8], i: usize) -> usize
     j
 }
 
-// An entry with such a key from i up to j, up to its value's token, without a token for the key: whether it is there already (6).
+// An entry with such a key from i up to j, up to its value, without a token for the key: whether it is there already (6).
 fn worded(
     text: &[u8],
     i: usize,
@@ -475,17 +474,11 @@ fn worded(
             number: form::NAME_TWICE,
             place: i,
         },
-        Spot::Free { index } => {
-            match due_at(text, j + 1, Stops::Value, form::TEXT_ENDS, text.len()) {
-                Due::No { number, place } => Key::No { number, place },
-                Due::Is { td, next } => Key::Is {
-                    size,
-                    index,
-                    td,
-                    next,
-                },
-            }
-        }
+        Spot::Free { index } => Key::Is {
+            size,
+            index,
+            next: j + 1,
+        },
     }
 }
 
@@ -618,11 +611,11 @@ fn alike(done: Done, want: u8, place: usize) -> Done
     }
 }
 
-// A value by its first token.
+// A value from a place on, by its first token, which is made where it is used: it is large, and handing it on would copy it.
 fn value(
     text: &[u8],
-    td: TokenData,
-    next: usize,
+    place: usize,
+    set: Stops,
     want: u8,
     out: &mut [u8],
     at: usize,
@@ -631,22 +624,31 @@ fn value(
     buffer: &mut [u8],
     left: usize,
 ) -> Done
-    requires { ⌜ (Ready (now text) (now keys) (now buffer)) × (Met (now text) (dataIs td) next) × (at ≤ 16 * (dataIs td .index)) × (3 * top ≤ dataIs td .index) ⌝ }
-    ensures { λ r. ⌜ ValueIs (valueAt (now (text .entry)) (length (now (out .entry))) left want (dataIs td) next at) (now (text .entry)) (now (out .entry)) (now (keys .entry)) top at next r (now (out .exit)) (now (keys .exit)) ⌝ }
+    requires { ⌜ (Ready (now text) (now keys) (now buffer)) × (place ≤ length (now text)) × (at ≤ 16 * place) × (3 * top ≤ place) ⌝ }
+    ensures { λ r. ⌜ ValueIs (valueFrom (now (text .entry)) (length (now (out .entry))) (valueAt (now (text .entry)) (length (now (out .entry))) left) (stopsIs set) want place at) (now (text .entry)) (now (out .entry)) (now (keys .entry)) top at place r (now (out .exit)) (now (keys .exit)) ⌝ }
 {
-    let token = td.token;
-    let index = td.index;
-    let here = index.0;
-    let sign = tokens::sign(token);
-    if sign == b'{' {
-        let done = compound(text, here, next, out, at, keys, top, buffer, left);
-        return alike(done, want, here);
+    match lexer::token_at(text, place, set) {
+        Lexed::Refused { number, place: p } => Done::No { number, place: p },
+        Lexed::Ended { place: _ } => Done::No {
+            number: form::TEXT_ENDS,
+            place: text.len(),
+        },
+        Lexed::Found { data: td, next } => {
+            let token = td.token;
+            let index = td.index;
+            let here = index.0;
+            let sign = tokens::sign(token);
+            if sign == b'{' {
+                let done = compound(text, here, next, out, at, keys, top, buffer, left);
+                return alike(done, want, here);
+            }
+            if sign == b'[' {
+                let done = square(text, here, next, out, at, keys, top, buffer, left);
+                return alike(done, want, here);
+            }
+            scalars::scalar(text, td, next, want, out, at)
+        }
     }
-    if sign == b'[' {
-        let done = square(text, here, next, out, at, keys, top, buffer, left);
-        return alike(done, want, here);
-    }
-    scalars::scalar(text, td, next, want, out, at)
 }
 
 // What stands behind a `[`: an array, or a list with its head.
@@ -668,8 +670,9 @@ fn square(
         Opened::No { number, place } => Done::No { number, place },
         Opened::Array { width, next: n } => scalars::array(text, width, brace, n, out, at),
         Opened::Empty { next: n } => empty(out, at, n),
-        Opened::First { td, next: n } => {
-            match value(text, td, n, 0, out, at + 5, keys, top, buffer, left - 1) {
+        Opened::First => {
+            let set = Stops::First;
+            match value(text, next, set, 0, out, at + 5, keys, top, buffer, left - 1) {
                 Done::No { number, place } => Done::No { number, place },
                 Done::To {
                     next: m,
@@ -723,8 +726,9 @@ fn elements(
             Item::End { next } => {
                 return Run::To { next, used, count };
             }
-            Item::Is { td, next } => {
-                match value(text, td, next, kind, out, used, keys, top, buffer, left) {
+            Item::Is { next } => {
+                let set = Stops::Later;
+                match value(text, next, set, kind, out, used, keys, top, buffer, left) {
                     Done::No { number, place: p } => {
                         return Run::No { number, place: p };
                     }
@@ -851,17 +855,12 @@ fn entry(
             next,
             used: at,
         },
-        Key::Is {
-            size,
-            index,
-            td,
-            next,
-        } => {
+        Key::Is { size, index, next } => {
             put_name(out, at + 1, buffer, size);
             match value(
                 text,
-                td,
                 next,
+                Stops::Value,
                 0,
                 out,
                 at + 3 + size,

@@ -23,6 +23,7 @@ use Rattle.snbt.proofs.opened_at.Reads as opened-at
 use Rattle.scalars.proofs.array.Reads as array
 use Rattle.snbt.proofs.empty.Reads as empty
 use Rattle.snbt.proofs.put_head.Reads as put-head
+use Rattle.lexer.proofs.token_at.Reads as token-at
 use Rattle.tokens.proofs.sign.Reads as sign
 use Rattle.snbt.proofs.alike.Reads as alike
 use Rattle.scalars.proofs.scalar.Reads as scalar
@@ -155,7 +156,11 @@ pub +compound+elements+entries+entry+square+value-spec : {M : Type 1} → statem
     (λ c. search needs)
     (λ c. search needs)
     (Square.returns-6 t))
-    (λ t. value-lts.spec (sign.Asked, sign.Learnt, compound-below t, compound.Post, alike.Asked, alike.Learnt, square-below t, square.Post, scalar.Asked, scalar.Learnt) (value-at t) value.Post
+    (λ t. value-lts.spec (token-at.Asked, token-at.Learnt, sign.Asked, sign.Learnt, compound-below t, compound.Post, alike.Asked, alike.Learnt, square-below t, square.Post, scalar.Asked, scalar.Learnt) (value-at t) value.Post
+    (Value.token-at-requires t)
+    (λ c. search needs)
+    (λ c. search needs)
+    (λ c. search needs)
     (λ c κs. search needs)
     (Value.compound-requires t)
     (λ c κs. search needs)
@@ -170,5 +175,7 @@ pub +compound+elements+entries+entry+square+value-spec : {M : Type 1} → statem
     (λ c. search needs)
     (Value.returns-2 t)
     (Value.scalar-requires t)
+    (Value.returns-3 t)
+    (Value.returns-4 t)
     (λ c. search needs)
-    (Value.returns-3 t))
+    (Value.returns-5 t))

@@ -1,4 +1,4 @@
--- The colon in front, then what is due behind it; any other token is refused.
+-- The colon in front, with the place behind it; any other token is refused.
 -- Assumes nothing.
 use native.Mathlib.Omega.{arith}
 use borrow.Author.Needs.{needs}
@@ -11,26 +11,20 @@ use Rattle.snbt.proofs.behind_key.Tie as tie
 front-at-requires : tie.Need-front-at-requires
 front-at-requires c κs = search needs
 
-add-due-at : tie.Need-add-due-at
-add-due-at c =
+add-t9 : tie.Need-add-t9
+add-t9 c =
     let f = c .before .before in
     let b = f .before .before in
     omega (arith, sign-within (b .args .text .now) (b .args .place) (f .front-at .result) (f .front-at .ensures) (b .pre) colon (omega arith) (c .if1 .taken))
 
-due-at-requires : tie.Need-due-at-requires
-due-at-requires c κs =
-    let f = c .before .before in
-    let b = f .before .before in
-    sign-within (b .args .text .now) (b .args .place) (f .front-at .result) (f .front-at .ensures) (b .pre) colon (omega arith) (c .if1 .taken)
-
 returns : tie.Need-returns
 returns c =
-    let f = c .before .before .before in
+    let f = c .before .before in
     let b = f .before .before in
-    front-colon (b .args .text .now) (b .args .place) (f .front-at .result) (f .front-at .ensures) (b .pre) (b .args .brace) (c .before .if1 .taken) (c .due-at .result) (c .due-at .ensures)
+    front-colon (b .args .text .now) (b .args .place) (f .front-at .result) (f .front-at .ensures) (b .pre) (b .args .brace) (c .if1 .taken)
 
-due-at-requires-2 : tie.Need-due-at-requires-2
-due-at-requires-2 c κs = search needs
+due-at-requires : tie.Need-due-at-requires
+due-at-requires c κs = search needs
 
 enum-told : tie.Need-enum-told
 enum-told c = search needs
@@ -43,23 +37,22 @@ returns-2 c =
     let l = c .before .before .before in
     let f = l .before .before in
     let b = f .before .before in
-    front-none (b .args .text .now) (b .args .place) (f .front-at .result) (f .front-at .ensures) (b .pre) (b .args .brace) (l .if1 .left) _ _ (rw (c .enum-told .given .1) at (c .before .before .due-at2 .ensures))
+    front-none (b .args .text .now) (b .args .place) (f .front-at .result) (f .front-at .ensures) (b .pre) (b .args .brace) (l .if1 .left) _ _ (rw (c .enum-told .given .1) at (c .before .before .due-at .ensures))
 
 returns-3 : tie.Need-returns-3
 returns-3 c =
     let d = c .before .before .before in
     let b = d .before .before .before .before .before in
-    λ room. colon-no (b .args .text .now) room (b .args .brace) (b .args .place) _ _ ((rw (c .before .number .given .1) at (d .due-at2 .ensures)) room)
+    λ room. colon-no (b .args .text .now) room (b .args .brace) (b .args .place) _ _ ((rw (c .before .number .given .1) at (d .due-at .ensures)) room)
 
 pub behind-key-spec : {M : Type 1} → statement M
 behind-key-spec =
     tie.close
     (tie.spec
     front-at-requires
-    add-due-at
-    due-at-requires
+    add-t9
     returns
-    due-at-requires-2
+    due-at-requires
     enum-told
     enum-known-number
     returns-2

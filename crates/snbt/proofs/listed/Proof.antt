@@ -35,7 +35,7 @@ returns-2 c = let f = c .before .before .before .barred .ensures .fine (c .befor
 
 -- src/lib.rt:228:1
 returns-3 : tie.Need-returns-3
-returns-3 c = let f = c .before .before .before .barred .ensures .fine (c .before .before .if1 .left) in ((λ t val. list-first t (c .before .before .before .before .args .room) (c .before .before .before .before .args .left) val (c .before .before .before .before .args .brace) (c .before .before .before .before .args .at) (f .0) (f .1) (dataIs (c .before .before .before .before .args .td)) (c .before .before .before .before .args .next) (λ e. c .if2 .left (c .before .sign .ensures ∙ e))), f .0, f .1, refl, refl)
+returns-3 c = let f = c .before .before .before .barred .ensures .fine (c .before .before .if1 .left) in ((λ t val. list-first t (c .before .before .before .before .args .room) (c .before .before .before .before .args .left) val (c .before .before .before .before .args .brace) (c .before .before .before .before .args .at) (f .0) (f .1) (dataIs (c .before .before .before .before .args .td)) (c .before .before .before .before .args .next) (λ e. c .if2 .left (c .before .sign .ensures ∙ e))), f .0, f .1)
 
 pub listed-spec : {M : Type 1} → statement M
 listed-spec = tie.close (tie.spec barred-requires returns sign-requires returns-2 returns-3)

@@ -1,4 +1,4 @@
--- The key, its place among the keys, then the colon and the value's token.
+-- The key, its place among the keys, then the colon.
 use Prim.Native.Nat.{ℕ, suc, _+_, _-_, _*_, _≤_, _<_}
 use mathlib.Core.Path.{_≡_, refl, sym, ap, subst, _∙_}
 use mathlib.Core.Bool.{true, false}
@@ -54,8 +54,8 @@ enum-known-n : tie.Need-enum-known-n
 enum-known-n c = search needs
 
 -- src/lib.rt:364:31
-enum-known-d : tie.Need-enum-known-d
-enum-known-d c = search needs
+enum-known-m : tie.Need-enum-known-m
+enum-known-m c = search needs
 
 -- src/lib.rt:339:1
 same-length : tie.Need-same-length
@@ -87,7 +87,7 @@ same-length-4 c = search needs
 
 -- src/lib.rt:339:1
 returns-4 : tie.Need-returns-4
-returns-4 c = let g = rw (c .before .d .given .1) at (c .before .before .before .behind-key .ensures) in named-is (c .before .before .before .before .before .before .before .before .before .before .before .before .before .before .before .before .before .before .before .before .before .args .text .now) (dataIs (c .before .before .before .before .before .before .before .before .before .before .before .before .before .before .before .before .before .before .before .before .before .args .td)) (c .before .before .before .before .before .before .before .before .before .before .before .before .before .before .before .before .before .before .before .before .before .args .next) (c .before .before .before .before .before .before .before .before .before .before .before .before .before .before .before .before .before .before .before .before .before .args .brace) (c .before .before .before .before .before .before .before .before .before .before .before .before .before .before .before .before .before .before .before .before .before .args .out .now) (c .before .before .before .before .before .before .before .before .before .before .before .before .before .before .before .before .before .before .before .before .before .args .keys .now) (c .before .before .before .before .before .before .before .before .before .before .before .before .before .before .before .before .before .before .before .before .before .args .base) (c .before .before .before .before .before .before .before .before .before .before .before .before .before .before .before .before .before .before .before .before .before .args .top) _ _ _ _ _ _ (c .before .before .before .before .before .before .before .before .before .before .before .before .before .before .before .before .before .before .before .before .before .pre .0) (key-is (c .before .before .before .before .before .before .before .before .before .before .before .before .before .before .before .before .before .before .before .before .before .args .text .now) _ (dataIs (c .before .before .before .before .before .before .before .before .before .before .before .before .before .before .before .before .before .before .before .before .before .args .td)) _ (rw (c .before .before .before .before .before .before .before .before .before .before .length .given .1) at (c .before .before .before .before .before .before .before .before .before .before .before .before .before .before .take-key .ensures))) (key-length (c .before .before .before .before .before .before .before .before .before .before .before .before .before .before .before .before .before .before .before .before .before .args .text .now) _ (dataIs (c .before .before .before .before .before .before .before .before .before .before .before .before .before .before .before .before .before .before .before .before .before .args .td)) _ (rw (c .before .before .before .before .before .before .before .before .before .before .length .given .1) at (c .before .before .before .before .before .before .before .before .before .before .before .before .before .before .take-key .ensures))) refl (rw (c .before .before .before .before .before .i .given .1) at (c .before .before .before .before .before .before .before .spot-of .ensures)) (g .0) (g .1) (g .2)
+returns-4 c = let g = rw (c .before .m .given .1) at (c .before .before .before .behind-key .ensures) in named-is (c .before .before .before .before .before .before .before .before .before .before .before .before .before .before .before .before .before .before .before .before .before .args .text .now) (dataIs (c .before .before .before .before .before .before .before .before .before .before .before .before .before .before .before .before .before .before .before .before .before .args .td)) (c .before .before .before .before .before .before .before .before .before .before .before .before .before .before .before .before .before .before .before .before .before .args .next) (c .before .before .before .before .before .before .before .before .before .before .before .before .before .before .before .before .before .before .before .before .before .args .brace) (c .before .before .before .before .before .before .before .before .before .before .before .before .before .before .before .before .before .before .before .before .before .args .out .now) (c .before .before .before .before .before .before .before .before .before .before .before .before .before .before .before .before .before .before .before .before .before .args .keys .now) (c .before .before .before .before .before .before .before .before .before .before .before .before .before .before .before .before .before .before .before .before .before .args .base) (c .before .before .before .before .before .before .before .before .before .before .before .before .before .before .before .before .before .before .before .before .before .args .top) _ _ _ _ _ (c .before .before .before .before .before .before .before .before .before .before .before .before .before .before .before .before .before .before .before .before .before .pre .0) (key-is (c .before .before .before .before .before .before .before .before .before .before .before .before .before .before .before .before .before .before .before .before .before .args .text .now) _ (dataIs (c .before .before .before .before .before .before .before .before .before .before .before .before .before .before .before .before .before .before .before .before .before .args .td)) _ (rw (c .before .before .before .before .before .before .before .before .before .before .length .given .1) at (c .before .before .before .before .before .before .before .before .before .before .before .before .before .before .take-key .ensures))) (key-length (c .before .before .before .before .before .before .before .before .before .before .before .before .before .before .before .before .before .before .before .before .before .args .text .now) _ (dataIs (c .before .before .before .before .before .before .before .before .before .before .before .before .before .before .before .before .before .before .before .before .before .args .td)) _ (rw (c .before .before .before .before .before .before .before .before .before .before .length .given .1) at (c .before .before .before .before .before .before .before .before .before .before .before .before .before .before .take-key .ensures))) refl (rw (c .before .before .before .before .before .i .given .1) at (c .before .before .before .before .before .before .before .spot-of .ensures)) (g .0) (g .1) (g .2)
 
 pub named-spec : {M : Type 1} → statement M
 named-spec =
@@ -101,7 +101,7 @@ named-spec =
     enum-known-i
     behind-key-requires
     enum-known-n
-    enum-known-d
+    enum-known-m
     same-length
     returns
     same-length-2

@@ -54,7 +54,7 @@ listed-requires c κs = search needs
 
 -- src/lib.rt:275:17
 returns : tie.Need-returns
-returns c = opened-listed (c .before .before .before .before .before .before .before .before .args .text .now) (c .before .before .before .before .before .before .before .before .args .room) (c .before .before .before .before .before .before .before .before .args .left) (c .before .before .before .before .before .before .before .before .args .brace) (c .before .before .before .before .before .before .before .before .args .place) (c .before .before .before .before .before .before .before .before .args .at) (dataIs (c .before .before .before .before .td .given .0 .0)) (c .before .before .before .before .td .given .0 .1 .0) (c .listed .result) (λ val. square-plain (c .before .before .before .before .before .before .before .before .args .text .now) (c .before .before .before .before .before .before .before .before .args .room) (c .before .before .before .before .before .before .before .before .args .left) val (c .before .before .before .before .before .before .before .before .args .brace) (c .before .before .before .before .before .before .before .before .args .place) (c .before .before .before .before .before .before .before .before .args .at) (dataIs (c .before .before .before .before .td .given .0 .0)) (c .before .before .before .before .td .given .0 .1 .0) (sym (c .before .before .before .before .before .before .token-at .ensures) ∙ ap lexedOut (c .before .before .before .before .td .given .1)) (c .before .before .letter .ensures .0 (c .before .before .before .before .before .before .before .before .args .room) ∙ c .before .if1 .taken)) (met-at first (c .before .before .before .before .before .before .before .before .args .text .now) (c .before .before .before .before .before .before .before .before .args .place) _ _ (sym (c .before .before .before .before .before .before .token-at .ensures) ∙ ap lexedOut (c .before .before .before .before .td .given .1)) (c .before .before .before .before .before .before .before .before .pre .0)) (token-moves first (c .before .before .before .before .before .before .before .before .args .text .now) (c .before .before .before .before .before .before .before .before .args .place) _ _ (sym (c .before .before .before .before .before .before .token-at .ensures) ∙ ap lexedOut (c .before .before .before .before .td .given .1)) (c .before .before .before .before .before .before .before .before .pre .0) .0) (c .listed .ensures)
+returns c = opened-listed (c .before .before .before .before .before .before .before .before .args .text .now) (c .before .before .before .before .before .before .before .before .args .room) (c .before .before .before .before .before .before .before .before .args .left) (c .before .before .before .before .before .before .before .before .args .brace) (c .before .before .before .before .before .before .before .before .args .place) (c .before .before .before .before .before .before .before .before .args .at) (dataIs (c .before .before .before .before .td .given .0 .0)) (c .before .before .before .before .td .given .0 .1 .0) (c .listed .result) (λ val. square-plain (c .before .before .before .before .before .before .before .before .args .text .now) (c .before .before .before .before .before .before .before .before .args .room) (c .before .before .before .before .before .before .before .before .args .left) val (c .before .before .before .before .before .before .before .before .args .brace) (c .before .before .before .before .before .before .before .before .args .place) (c .before .before .before .before .before .before .before .before .args .at) (dataIs (c .before .before .before .before .td .given .0 .0)) (c .before .before .before .before .td .given .0 .1 .0) (sym (c .before .before .before .before .before .before .token-at .ensures) ∙ ap lexedOut (c .before .before .before .before .td .given .1)) (c .before .before .letter .ensures .0 (c .before .before .before .before .before .before .before .before .args .room) ∙ c .before .if1 .taken)) (sym (c .before .before .before .before .before .before .token-at .ensures) ∙ ap lexedOut (c .before .before .before .before .td .given .1)) (c .before .before .before .before .before .before .before .before .pre .0) (c .listed .ensures)
 
 -- src/lib.rt:277:19
 token-at-requires-2 : tie.Need-token-at-requires-2
@@ -102,11 +102,11 @@ returns-5 c = λ val. square-second-no (c .before .before .before .before .befor
 
 -- src/lib.rt:265:1
 returns-6 : tie.Need-returns-6
-returns-6 c = opened-listed (c .before .before .before .before .before .before .before .before .before .before .before .args .text .now) (c .before .before .before .before .before .before .before .before .before .before .before .args .room) (c .before .before .before .before .before .before .before .before .before .before .before .args .left) (c .before .before .before .before .before .before .before .before .before .before .before .args .brace) (c .before .before .before .before .before .before .before .before .before .before .before .args .place) (c .before .before .before .before .before .before .before .before .before .before .before .args .at) (dataIs (c .before .before .before .before .before .before .before .td .given .0 .0)) (c .before .before .before .before .before .before .before .td .given .0 .1 .0) (c .listed2 .result) (λ val. square-second-ended (c .before .before .before .before .before .before .before .before .before .before .before .args .text .now) (c .before .before .before .before .before .before .before .before .before .before .before .args .room) (c .before .before .before .before .before .before .before .before .before .before .before .args .left) val (c .before .before .before .before .before .before .before .before .before .before .before .args .brace) (c .before .before .before .before .before .before .before .before .before .before .before .args .place) (c .before .before .before .before .before .before .before .before .before .before .before .args .at) (dataIs (c .before .before .before .before .before .before .before .td .given .0 .0)) (c .before .before .before .before .before .before .before .td .given .0 .1 .0) (sym (c .before .before .before .before .before .before .before .before .before .token-at .ensures) ∙ ap lexedOut (c .before .before .before .before .before .before .before .td .given .1)) (c .before .before .before .before .before .letter .result) (c .before .before .before .before .before .letter .ensures .0 (c .before .before .before .before .before .before .before .before .before .before .before .args .room)) (c .before .before .before .before .if1 .left) _ (sym (c .before .before .before .token-at2 .ensures) ∙ ap lexedOut (c .before .enum-told2 .given .1))) (met-at first (c .before .before .before .before .before .before .before .before .before .before .before .args .text .now) (c .before .before .before .before .before .before .before .before .before .before .before .args .place) _ _ (sym (c .before .before .before .before .before .before .before .before .before .token-at .ensures) ∙ ap lexedOut (c .before .before .before .before .before .before .before .td .given .1)) (c .before .before .before .before .before .before .before .before .before .before .before .pre .0)) (token-moves first (c .before .before .before .before .before .before .before .before .before .before .before .args .text .now) (c .before .before .before .before .before .before .before .before .before .before .before .args .place) _ _ (sym (c .before .before .before .before .before .before .before .before .before .token-at .ensures) ∙ ap lexedOut (c .before .before .before .before .before .before .before .td .given .1)) (c .before .before .before .before .before .before .before .before .before .before .before .pre .0) .0) (c .listed2 .ensures)
+returns-6 c = opened-listed (c .before .before .before .before .before .before .before .before .before .before .before .args .text .now) (c .before .before .before .before .before .before .before .before .before .before .before .args .room) (c .before .before .before .before .before .before .before .before .before .before .before .args .left) (c .before .before .before .before .before .before .before .before .before .before .before .args .brace) (c .before .before .before .before .before .before .before .before .before .before .before .args .place) (c .before .before .before .before .before .before .before .before .before .before .before .args .at) (dataIs (c .before .before .before .before .before .before .before .td .given .0 .0)) (c .before .before .before .before .before .before .before .td .given .0 .1 .0) (c .listed2 .result) (λ val. square-second-ended (c .before .before .before .before .before .before .before .before .before .before .before .args .text .now) (c .before .before .before .before .before .before .before .before .before .before .before .args .room) (c .before .before .before .before .before .before .before .before .before .before .before .args .left) val (c .before .before .before .before .before .before .before .before .before .before .before .args .brace) (c .before .before .before .before .before .before .before .before .before .before .before .args .place) (c .before .before .before .before .before .before .before .before .before .before .before .args .at) (dataIs (c .before .before .before .before .before .before .before .td .given .0 .0)) (c .before .before .before .before .before .before .before .td .given .0 .1 .0) (sym (c .before .before .before .before .before .before .before .before .before .token-at .ensures) ∙ ap lexedOut (c .before .before .before .before .before .before .before .td .given .1)) (c .before .before .before .before .before .letter .result) (c .before .before .before .before .before .letter .ensures .0 (c .before .before .before .before .before .before .before .before .before .before .before .args .room)) (c .before .before .before .before .if1 .left) _ (sym (c .before .before .before .token-at2 .ensures) ∙ ap lexedOut (c .before .enum-told2 .given .1))) (sym (c .before .before .before .before .before .before .before .before .before .token-at .ensures) ∙ ap lexedOut (c .before .before .before .before .before .before .before .td .given .1)) (c .before .before .before .before .before .before .before .before .before .before .before .pre .0) (c .listed2 .ensures)
 
 -- src/lib.rt:265:1
 returns-7 : tie.Need-returns-7
-returns-7 c = opened-listed (c .before .before .before .before .before .before .before .before .before .before .before .before .before .before .args .text .now) (c .before .before .before .before .before .before .before .before .before .before .before .before .before .before .args .room) (c .before .before .before .before .before .before .before .before .before .before .before .before .before .before .args .left) (c .before .before .before .before .before .before .before .before .before .before .before .before .before .before .args .brace) (c .before .before .before .before .before .before .before .before .before .before .before .before .before .before .args .place) (c .before .before .before .before .before .before .before .before .before .before .before .before .before .before .args .at) (dataIs (c .before .before .before .before .before .before .before .before .before .before .td .given .0 .0)) (c .before .before .before .before .before .before .before .before .before .before .td .given .0 .1 .0) (c .listed3 .result) (λ val. square-second-other (c .before .before .before .before .before .before .before .before .before .before .before .before .before .before .args .text .now) (c .before .before .before .before .before .before .before .before .before .before .before .before .before .before .args .room) (c .before .before .before .before .before .before .before .before .before .before .before .before .before .before .args .left) val (c .before .before .before .before .before .before .before .before .before .before .before .before .before .before .args .brace) (c .before .before .before .before .before .before .before .before .before .before .before .before .before .before .args .place) (c .before .before .before .before .before .before .before .before .before .before .before .before .before .before .args .at) (dataIs (c .before .before .before .before .before .before .before .before .before .before .td .given .0 .0)) (c .before .before .before .before .before .before .before .before .before .before .td .given .0 .1 .0) (sym (c .before .before .before .before .before .before .before .before .before .before .before .before .token-at .ensures) ∙ ap lexedOut (c .before .before .before .before .before .before .before .before .before .before .td .given .1)) (c .before .before .before .before .before .before .before .before .letter .result) (c .before .before .before .before .before .before .before .before .letter .ensures .0 (c .before .before .before .before .before .before .before .before .before .before .before .before .before .before .args .room)) (c .before .before .before .before .before .before .before .if1 .left) (dataIs (c .before .before .before .before .d .given .0 .0)) (c .before .before .before .before .d .given .0 .1 .0) (sym (c .before .before .before .before .before .before .token-at2 .ensures) ∙ ap lexedOut (c .before .before .before .before .d .given .1)) (λ e. c .before .if2 .left (c .before .before .sign .ensures ∙ e))) (met-at first (c .before .before .before .before .before .before .before .before .before .before .before .before .before .before .args .text .now) (c .before .before .before .before .before .before .before .before .before .before .before .before .before .before .args .place) _ _ (sym (c .before .before .before .before .before .before .before .before .before .before .before .before .token-at .ensures) ∙ ap lexedOut (c .before .before .before .before .before .before .before .before .before .before .td .given .1)) (c .before .before .before .before .before .before .before .before .before .before .before .before .before .before .pre .0)) (token-moves first (c .before .before .before .before .before .before .before .before .before .before .before .before .before .before .args .text .now) (c .before .before .before .before .before .before .before .before .before .before .before .before .before .before .args .place) _ _ (sym (c .before .before .before .before .before .before .before .before .before .before .before .before .token-at .ensures) ∙ ap lexedOut (c .before .before .before .before .before .before .before .before .before .before .td .given .1)) (c .before .before .before .before .before .before .before .before .before .before .before .before .before .before .pre .0) .0) (c .listed3 .ensures)
+returns-7 c = opened-listed (c .before .before .before .before .before .before .before .before .before .before .before .before .before .before .args .text .now) (c .before .before .before .before .before .before .before .before .before .before .before .before .before .before .args .room) (c .before .before .before .before .before .before .before .before .before .before .before .before .before .before .args .left) (c .before .before .before .before .before .before .before .before .before .before .before .before .before .before .args .brace) (c .before .before .before .before .before .before .before .before .before .before .before .before .before .before .args .place) (c .before .before .before .before .before .before .before .before .before .before .before .before .before .before .args .at) (dataIs (c .before .before .before .before .before .before .before .before .before .before .td .given .0 .0)) (c .before .before .before .before .before .before .before .before .before .before .td .given .0 .1 .0) (c .listed3 .result) (λ val. square-second-other (c .before .before .before .before .before .before .before .before .before .before .before .before .before .before .args .text .now) (c .before .before .before .before .before .before .before .before .before .before .before .before .before .before .args .room) (c .before .before .before .before .before .before .before .before .before .before .before .before .before .before .args .left) val (c .before .before .before .before .before .before .before .before .before .before .before .before .before .before .args .brace) (c .before .before .before .before .before .before .before .before .before .before .before .before .before .before .args .place) (c .before .before .before .before .before .before .before .before .before .before .before .before .before .before .args .at) (dataIs (c .before .before .before .before .before .before .before .before .before .before .td .given .0 .0)) (c .before .before .before .before .before .before .before .before .before .before .td .given .0 .1 .0) (sym (c .before .before .before .before .before .before .before .before .before .before .before .before .token-at .ensures) ∙ ap lexedOut (c .before .before .before .before .before .before .before .before .before .before .td .given .1)) (c .before .before .before .before .before .before .before .before .letter .result) (c .before .before .before .before .before .before .before .before .letter .ensures .0 (c .before .before .before .before .before .before .before .before .before .before .before .before .before .before .args .room)) (c .before .before .before .before .before .before .before .if1 .left) (dataIs (c .before .before .before .before .d .given .0 .0)) (c .before .before .before .before .d .given .0 .1 .0) (sym (c .before .before .before .before .before .before .token-at2 .ensures) ∙ ap lexedOut (c .before .before .before .before .d .given .1)) (λ e. c .before .if2 .left (c .before .before .sign .ensures ∙ e))) (sym (c .before .before .before .before .before .before .before .before .before .before .before .before .token-at .ensures) ∙ ap lexedOut (c .before .before .before .before .before .before .before .before .before .before .td .given .1)) (c .before .before .before .before .before .before .before .before .before .before .before .before .before .before .pre .0) (c .listed3 .ensures)
 
 pub opened-at-spec : {M : Type 1} → statement M
 opened-at-spec =

@@ -6,7 +6,7 @@ use native.Mathlib.Omega.{arith}
 use lib.ListN.{length, take}
 use Rattle.form.specs.Spans.{part}
 use borrow.Author.Needs.{needs}
-use Rattle.snbt.proofs.Words.{word-length, word-room, word-stands, word-twice, word-no, word-named}
+use Rattle.snbt.proofs.Words.{word-length, word-room, word-stands, word-twice, word-named}
 use Rattle.snbt.proofs.worded.Statement.{statement}
 use Rattle.snbt.proofs.worded.Tie as tie
 
@@ -50,17 +50,8 @@ enum-told c = search needs
 enum-known-index : tie.Need-enum-known-index
 enum-known-index c = search needs
 
-add-due-at : tie.Need-add-due-at
-add-due-at c = search needs
-
-due-at-requires : tie.Need-due-at-requires
-due-at-requires c κs = search needs
-
-enum-known-number : tie.Need-enum-known-number
-enum-known-number c = search needs
-
-enum-known-td : tie.Need-enum-known-td
-enum-known-td c = search needs
+add-t22 : tie.Need-add-t22
+add-t22 c = search needs
 
 same-length : tie.Need-same-length
 same-length c = search needs
@@ -76,18 +67,9 @@ same-length-2 c = search needs
 
 returns-2 : tie.Need-returns-2
 returns-2 c =
-    let s = c .before .before .before .before .before .before .before .before .before .before .before .before .before .before .before .before .before .before in
+    let s = c .before .before .before .before .before .before .before .before .before .before .before .before .before .before in
     let a = s .args in
-    word-no (a .text .now) (a .i) (a .j) (s .pre .0) (a .out .now) (a .keys .now) (a .base) (a .top) _ (stood (c .before .before .before .before .before .before .before .before .before .before .before)) _ (rw (c .before .before .before .before .before .index .given .1) at (c .before .before .before .before .before .before .before .spot-of .ensures)) _ _ (rw (c .before .number .given .1) at (c .before .before .before .due-at .ensures))
-
-same-length-3 : tie.Need-same-length-3
-same-length-3 c = search needs
-
-returns-3 : tie.Need-returns-3
-returns-3 c =
-    let s = c .before .before .before .before .before .before .before .before .before .before .before .before .before .before .before .before .before .before in
-    let a = s .args in
-    word-named (a .text .now) (a .i) (a .j) (s .pre .0) (a .out .now) (a .keys .now) (a .base) (a .top) _ (stood (c .before .before .before .before .before .before .before .before .before .before .before)) _ (rw (c .before .before .before .before .before .index .given .1) at (c .before .before .before .before .before .before .before .spot-of .ensures)) _ _ (rw (c .before .td .given .1) at (c .before .before .before .due-at .ensures))
+    word-named (a .text .now) (a .i) (a .j) (s .pre .0) (a .out .now) (a .keys .now) (a .base) (a .top) _ (stood (c .before .before .before .before .before .before .before)) _ (rw (c .before .index .given .1) at (c .before .before .before .spot-of .ensures))
 
 pub worded-spec : {M : Type 1} → statement M
 worded-spec =
@@ -101,13 +83,8 @@ worded-spec =
     spot-of-requires
     enum-told
     enum-known-index
-    add-due-at
-    due-at-requires
-    enum-known-number
-    enum-known-td
+    add-t22
     same-length
     returns
     same-length-2
-    returns-2
-    same-length-3
-    returns-3)
+    returns-2)

@@ -16,7 +16,6 @@ use Rattle.snbt.specs.Steps.{ValueIs}
 use Rattle.keys.proofs.Runs.{kept-whole}
 use Rattle.snbt.specs.Turns.{inner, blockValue}
 use Rattle.snbt.proofs.Reading.{compound-deep, compound-full}
-use Rattle.snbt.proofs.Sizes.{met-within}
 use Rattle.snbt.proofs.Quiet.{met-spanned}
 use Rattle.snbt.proofs.Values.{did-as, value-by-compound, value-by-square, value-by-scalar, square-by-array, square-by-empty, square-value-no, square-run-no, square-run, entry-closed, entry-value-no, entry-comes, entry-settled}
 use Rattle.snbt.proofs.Loops.{Listing, listing-start, listing-long, listing-no, listing-end, listing-value-no, listing-more, Entering, entering-start, entering-no, entering-more, entering-last, turn-as, compound-whole, as-inner, ready-kept, keyed-within}
@@ -49,7 +48,7 @@ module _ (t : ℕ) where
   add-value-2 c = let k = rw (c .before .before .before .before .before .before .before .size .given .1) at (c .before .before .before .before .before .before .before .before .before .before .before .key-at .ensures) in let p = c .before .before .before .before .before .before .before .before .before .before .before .before .before .before .before .before .before .before .before .pre .1 in omega (arith, p .2, p .1, p .0 .text-le, k .fit .short)
 
   pub value-requires : On t lts.Need-value-requires
-  value-requires c κs = let k = rw (c .before .before .before .before .before .before .before .before .before .size .given .1) at (c .before .before .before .before .before .before .before .before .before .before .before .before .before .key-at .ensures) in let p = c .before .before .before .before .before .before .before .before .before .before .before .before .before .before .before .before .before .before .before .before .before .pre .1 in (omega (arith, c .before .before .before .before .before .before .before .before .before .before .before .before .before .before .before .before .before .before .before .before .before .pre .0), (ready-kept (p .0) refl (c .before .before .before .before .before .before .before .before .before .before .before .before .before .key-at .kept .1 .1 .1 .1 .1 .1 .1 .1 .0), k .fit .met, omega (arith, k .fit .small, p .2), omega (arith, p .3, k .fit .far)))
+  value-requires c κs = let k = rw (c .before .before .before .before .before .before .before .before .before .size .given .1) at (c .before .before .before .before .before .before .before .before .before .before .before .before .before .key-at .ensures) in let p = c .before .before .before .before .before .before .before .before .before .before .before .before .before .before .before .before .before .before .before .before .before .pre .1 in (omega (arith, c .before .before .before .before .before .before .before .before .before .before .before .before .before .before .before .before .before .before .before .before .before .pre .0), (ready-kept (p .0) refl (c .before .before .before .before .before .before .before .before .before .before .before .before .before .key-at .kept .1 .1 .1 .1 .1 .1 .1 .1 .0), k .fit .within, omega (arith, k .fit .small, p .2), omega (arith, p .3, k .fit .far)))
 
   pub settle-requires : On t lts.Need-settle-requires
   settle-requires c κs =
@@ -60,8 +59,8 @@ module _ (t : ℕ) where
         w .1 .within,
         omega (arith, w .0 .fits, w .0 .size-is, (c .before .before .before .before .before .before .before .before .before .before .before .value .kept .1 .1 .1 .1 .0), (c .before .before .before .before .before .before .before .before .before .before .before .before .before .before .before .before .before .put-name .kept .0)),
         omega (arith, p .2, p .1, p .0 .text-le),
-        entry-comes (a .text .now) (a .out .now) (a .keys .now) (a .base) (a .top) (a .at) (a .brace) (a .comma) (a .place) (a .left) (c .before .before .before .before .before .before .before .before .before .before .before .before .before .before .before .before .before .before .before .before .before .before .before .before .before .key-at .last .1 .1 .1 .1 .1 .1 .1 .1 .0) _ _ _ _ (p .4)
-            (omega (arith, p .3, k .fit .far, met-within (k .fit .met) .0, met-within (k .fit .met) .1, p .0 .keys-ge))
+        entry-comes (a .text .now) (a .out .now) (a .keys .now) (a .base) (a .top) (a .at) (a .brace) (a .comma) (a .place) (a .left) (c .before .before .before .before .before .before .before .before .before .before .before .before .before .before .before .before .before .before .before .before .before .before .before .before .before .key-at .last .1 .1 .1 .1 .1 .1 .1 .1 .0) _ _ _ (p .4)
+            (omega (arith, p .3, k .fit .far, k .fit .within, p .0 .keys-ge))
             k (p .2) (c .before .before .before .before .before .before .before .before .before .before .before .before .before .before .before .before .before .put-name .last .0) (c .before .before .before .before .before .before .before .before .before .before .before .value .last .1 .1 .1 .1 .0) _ (c .before .before .before .before .before .before .before .before .before .before .before .value .last .1 .1 .1 .1 .1 .1 .0) _ _ _ (c .before .before .before .before .before .before .before .before .before .before .before .before .before .before .before .before .before .put-name .kept .0) (c .before .before .before .before .before .before .before .before .before .before .before .value .kept .1 .1 .1 .1 .1 .1 .0) (c .before .before .before .before .before .before .before .before .before .before .before .before .before .before .before .before .before .put-name .ensures) (w .0) (w .1) refl,
       )
 
@@ -81,7 +80,7 @@ module _ (t : ℕ) where
   same-length-9 c = (c .before .before .before .before .before .before .before .before .before .value .kept .1 .1 .1 .1 .1 .1 .1 .1 .0) ∙ c .before .before .before .before .before .before .before .before .before .before .before .before .before .before .before .before .before .before .before .before .before .before .before .key-at .kept .1 .1 .1 .1 .1 .1 .1 .1 .0
 
   pub returns-3 : On t lts.Need-returns-3
-  returns-3 c = let k = rw (c .before .before .before .before .before .before .before .before .before .before .before .before .before .before .before .before .before .before .before .size .given .1) at (c .before .before .before .before .before .before .before .before .before .before .before .before .before .before .before .before .before .before .before .before .before .before .before .key-at .ensures) in let p = c .before .before .before .before .before .before .before .before .before .before .before .before .before .before .before .before .before .before .before .before .before .before .before .before .before .before .before .before .before .before .before .pre .1 in entry-value-no (c .before .before .before .before .before .before .before .before .before .before .before .before .before .before .before .before .before .before .before .before .before .before .before .before .before .before .before .before .before .before .before .args .text .now) (c .before .before .before .before .before .before .before .before .before .before .before .before .before .before .before .before .before .before .before .before .before .before .before .before .before .before .before .before .before .before .before .args .out .now) (c .before .before .before .before .before .before .before .before .before .before .before .before .before .before .before .before .before .before .before .before .before .before .before .before .before .before .before .before .before .before .before .args .keys .now) (c .before .before .before .before .before .before .before .before .before .before .before .before .before .before .before .before .before .before .before .before .before .before .before .before .before .before .before .before .before .before .before .args .base) (c .before .before .before .before .before .before .before .before .before .before .before .before .before .before .before .before .before .before .before .before .before .before .before .before .before .before .before .before .before .before .before .args .top) (c .before .before .before .before .before .before .before .before .before .before .before .before .before .before .before .before .before .before .before .before .before .before .before .before .before .before .before .before .before .before .before .args .at) (c .before .before .before .before .before .before .before .before .before .before .before .before .before .before .before .before .before .before .before .before .before .before .before .before .before .before .before .before .before .before .before .args .brace) (c .before .before .before .before .before .before .before .before .before .before .before .before .before .before .before .before .before .before .before .before .before .before .before .before .before .before .before .before .before .before .before .args .comma) (c .before .before .before .before .before .before .before .before .before .before .before .before .before .before .before .before .before .before .before .before .before .before .before .before .before .before .before .before .before .before .before .args .place) (c .before .before .before .before .before .before .before .before .before .before .before .before .before .before .before .before .before .before .before .before .before .before .before .before .before .before .before .before .before .before .before .args .left) (c .before .before .before .before .before .before .before .before .before .before .before .before .before .before .before .before .before .before .before .before .before .before .before .key-at .last .1 .1 .1 .1 .1 .1 .1 .1 .0) _ _ _ _ (p .4) (omega (arith, p .3, k .fit .far, met-within (k .fit .met) .0, met-within (k .fit .met) .1, p .0 .keys-ge)) k (p .2) (c .before .before .before .before .before .before .before .before .before .before .before .before .before .before .before .put-name .last .0) (c .before .before .before .before .before .before .before .before .before .before .before .before .before .before .before .put-name .kept .0) _ _ (rw (c .before .number2 .given .1) at (c .before .before .before .before .before .before .before .before .before .value .ensures))
+  returns-3 c = let k = rw (c .before .before .before .before .before .before .before .before .before .before .before .before .before .before .before .before .before .before .before .size .given .1) at (c .before .before .before .before .before .before .before .before .before .before .before .before .before .before .before .before .before .before .before .before .before .before .before .key-at .ensures) in let p = c .before .before .before .before .before .before .before .before .before .before .before .before .before .before .before .before .before .before .before .before .before .before .before .before .before .before .before .before .before .before .before .pre .1 in entry-value-no (c .before .before .before .before .before .before .before .before .before .before .before .before .before .before .before .before .before .before .before .before .before .before .before .before .before .before .before .before .before .before .before .args .text .now) (c .before .before .before .before .before .before .before .before .before .before .before .before .before .before .before .before .before .before .before .before .before .before .before .before .before .before .before .before .before .before .before .args .out .now) (c .before .before .before .before .before .before .before .before .before .before .before .before .before .before .before .before .before .before .before .before .before .before .before .before .before .before .before .before .before .before .before .args .keys .now) (c .before .before .before .before .before .before .before .before .before .before .before .before .before .before .before .before .before .before .before .before .before .before .before .before .before .before .before .before .before .before .before .args .base) (c .before .before .before .before .before .before .before .before .before .before .before .before .before .before .before .before .before .before .before .before .before .before .before .before .before .before .before .before .before .before .before .args .top) (c .before .before .before .before .before .before .before .before .before .before .before .before .before .before .before .before .before .before .before .before .before .before .before .before .before .before .before .before .before .before .before .args .at) (c .before .before .before .before .before .before .before .before .before .before .before .before .before .before .before .before .before .before .before .before .before .before .before .before .before .before .before .before .before .before .before .args .brace) (c .before .before .before .before .before .before .before .before .before .before .before .before .before .before .before .before .before .before .before .before .before .before .before .before .before .before .before .before .before .before .before .args .comma) (c .before .before .before .before .before .before .before .before .before .before .before .before .before .before .before .before .before .before .before .before .before .before .before .before .before .before .before .before .before .before .before .args .place) (c .before .before .before .before .before .before .before .before .before .before .before .before .before .before .before .before .before .before .before .before .before .before .before .before .before .before .before .before .before .before .before .args .left) (c .before .before .before .before .before .before .before .before .before .before .before .before .before .before .before .before .before .before .before .before .before .before .before .key-at .last .1 .1 .1 .1 .1 .1 .1 .1 .0) _ _ _ (p .4) (omega (arith, p .3, k .fit .far, k .fit .within, p .0 .keys-ge)) k (p .2) (c .before .before .before .before .before .before .before .before .before .before .before .before .before .before .before .put-name .last .0) (c .before .before .before .before .before .before .before .before .before .before .before .before .before .before .before .put-name .kept .0) _ _ (rw (c .before .number2 .given .1) at (c .before .before .before .before .before .before .before .before .before .value .ensures))
 
   pub same-length-10 : On t lts.Need-same-length-10
   same-length-10 c = c .before .before .before .before .settle .kept .1 .1 .1 .1 .1 .0 ∙ (c .before .before .before .before .before .before .before .before .before .before .before .before .before .before .before .before .value .kept .1 .1 .1 .1 .0) ∙ (c .before .before .before .before .before .before .before .before .before .before .before .before .before .before .before .before .before .before .before .before .before .before .put-name .kept .0)
@@ -98,7 +97,7 @@ module _ (t : ℕ) where
       let p = c .before .before .before .before .before .before .before .before .before .before .before .before .before .before .before .before .before .before .before .before .before .before .before .before .before .before .before .before .before .before .before .before .before .before .before .before .before .before .pre .1 in
       let w = rw (c .before .before .before .before .before .before .before .before .n .given .1) at (c .before .before .before .before .before .before .before .before .before .before .before .before .before .before .before .before .value .ensures) in
       let a = c .before .before .before .before .before .before .before .before .before .before .before .before .before .before .before .before .before .before .before .before .before .before .before .before .before .before .before .before .before .before .before .before .before .before .before .before .before .before .args in
-      entry-settled (a .text .now) (a .out .now) (a .keys .now) (a .base) (a .top) (a .at) (a .brace) (a .comma) (a .place) (a .left) (c .before .before .before .before .before .before .before .before .before .before .before .before .before .before .before .before .before .before .before .before .before .before .before .before .before .before .before .before .before .before .key-at .last .1 .1 .1 .1 .1 .1 .1 .1 .0) _ _ _ _ (p .4)
-      (omega (arith, p .3, k .fit .far, met-within (k .fit .met) .0, met-within (k .fit .met) .1, p .0 .keys-ge))
+      entry-settled (a .text .now) (a .out .now) (a .keys .now) (a .base) (a .top) (a .at) (a .brace) (a .comma) (a .place) (a .left) (c .before .before .before .before .before .before .before .before .before .before .before .before .before .before .before .before .before .before .before .before .before .before .before .before .before .before .before .before .before .before .key-at .last .1 .1 .1 .1 .1 .1 .1 .1 .0) _ _ _ (p .4)
+      (omega (arith, p .3, k .fit .far, k .fit .within, p .0 .keys-ge))
       k (p .2) (c .before .before .before .before .before .before .before .before .before .before .before .before .before .before .before .before .before .before .before .before .before .before .put-name .last .0) (c .before .before .before .before .before .before .before .before .before .before .before .before .before .before .before .before .value .last .1 .1 .1 .1 .0) (c .before .before .before .before .settle .last .1 .1 .1 .1 .1 .0) (c .before .before .before .before .before .before .before .before .before .before .before .before .before .before .before .before .value .last .1 .1 .1 .1 .1 .1 .0) _ _ _ (c .before .before .before .before .before .before .before .before .before .before .before .before .before .before .before .before .before .before .before .before .before .before .put-name .kept .0) (c .before .before .before .before .before .before .before .before .before .before .before .before .before .before .before .before .value .kept .1 .1 .1 .1 .1 .1 .0) (c .before .before .before .before .before .before .before .before .before .before .before .before .before .before .before .before .before .before .before .before .before .before .put-name .ensures) (w .0) (w .1)
       (c .before .before .before .before .settle .ensures .1 .0) (c .before .before .before .before .settle .last .1 .1 .1 .1 .1 .1 .1 .0) (c .before .before .before .before .settle .ensures .1 .1) (c .before .before .before .before .settle .result) (c .before .before .before .before .settle .ensures .0)
