@@ -136,8 +136,8 @@ void tikfazrul_content(const uint8_t *text, size_t text_len, size_t start, size_
 /* The document that a text (SNBT, UTF-8) means, with an empty root name. Accepted: [2] is the number of bytes of the text consumed, through the
  * root's `}`, [3] the document's length, from out[0] on; no other byte changes. What stands behind the root is asked for 9 and 15 only.
  * Refused (9, 15, then at the first token that breaks a rule): every byte of the output is 0. It takes stack by the text's
- * length: 6 kB for 512 bytes of text, 18 kB for 4,096, 0.12 MB for 32,768, 0.42 MB for 262,144, else 1.5 MB; and 1.3 kB more for each
- * level, which is 0.7 MB where a text is 512 deep. */
+ * length: 6 kB for 512 bytes of text, 18 kB for 4,096, 0.12 MB for 32,768, 0.42 MB for 262,144, else 1.5 MB; and 1.2 kB more for each
+ * level, which is 0.6 MB where a text is 512 deep. */
 void tikfazrul_parse(const uint8_t *text, size_t text_len, uint8_t *out, size_t out_len, uint64_t answer[8]);
 
 /* Whether bytes are modified UTF-8 (java.io.DataInput) of Unicode scalar values. Refused: 4, at the offset where the first sequence that
