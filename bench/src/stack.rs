@@ -123,6 +123,9 @@ fn texts() {
         parse(&format!("lists, {deep} deep"), &format!("{{a:{}}}", around(deep - 1, "[", "]")), refusal);
         parse(&format!("compounds, {deep} deep"), &format!("{}{{}}{}", "{a:".repeat(deep - 1), "}".repeat(deep - 1)), refusal);
     }
+    let keys: Vec<String> = (0..60_000).map(|n| format!("k{n}:1b")).collect();
+    let most = format!("{}{{{}}}{}", "{a:".repeat(511), keys.join(","), "}".repeat(511));
+    parse(&format!("compounds, 512 deep, 60,000 keys in the last, {} bytes", grouped(most.len())), &most, 0);
     let paths = list_text(1_025, &around(510, "[", "]"));
     parse(&format!("lists, 512 deep, {} bytes", grouped(paths.len())), &paths, 0);
 }
