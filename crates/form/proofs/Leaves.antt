@@ -8,12 +8,8 @@ use native.Mathlib.Omega.{arith}
 use lib.Dec.{ltb, eqb}
 use borrow.Author.Tests.{eq-eqb, ne-eqb, eqb-true, lt-ltb, le-ltb, ltb-true}
 use Rattle.form.specs.Answer.{pick}
-use Rattle.form.specs.Table.{widthOf, holds}
+use Rattle.form.specs.Table.{widthOf, holds, isArray}
 use Rattle.form.specs.Tables.{leafFits}
-
--- The kinds of arrays, as they are tested.
-abbrev pub isArray : ℕ → Bool
-isArray kind = eqb kind 7 || (eqb kind 11 || eqb kind 12)
 
 -- What holds records is a list or a compound.
 pub held-kind : (k : ℕ) → holds k ≡ true → (k ≡ 9) ⊎ (k ≡ 10)

@@ -15,7 +15,7 @@ use Rattle.form.proofs.Answer.{got-no}
 
 -- ---- what can be decided
 
-both : {A B : Type 0} → Dec A → Dec B → Dec (A × B)
+pub both : {A B : Type 0} → Dec A → Dec B → Dec (A × B)
 both (yes a) (yes b) = yes (a, b)
 both (yes a) (no n) = no (λ p. n (p .1))
 both (no n) b = no (λ p. n (p .0))

@@ -15,34 +15,23 @@ use Rattle.form.specs.Spans.{part}
 use Rattle.form.specs.Tree.{Tags, Entries, byte, short, int, long, float, double, byteArray, string, intArray, longArray}
 use Rattle.form.specs.Table.{Head, Forest, none, node, size, valueBy, tagsOf, entriesOf, valueOf}
 use Rattle.form.specs.Tables.{LeafIs, ContainerIs, Fair, leafFits}
+use Rattle.form.specs.Records.{hopOf, recordPaths}
 use Rattle.form.specs.Paths.{Hop, named, item, fits, tagPaths, itemPaths, entryPaths, paths, which}
 use Rattle.form.proofs.Leaves.{held-kind}
 use Rattle.form.proofs.Tables.{fair-first, fair-inner, fair-later}
 
 -- ---- the paths of records
 
--- The level from a record of kind k down to a child, which is number i in it: by name in a compound, by number in a list.
-unfoldable pub hopOf : ℕ → ℕ → List ℕ → Hop
-hopOf k i n = pick (eqb k 10) (named n) (item i)
-
 module _ (doc : List ℕ) where
-  -- The paths of records side by side and of those in them, in file order: k is the kind of the record that holds them, p its path,
-  -- and i the number in it of the first.
-  unfoldable pub recordPaths : ℕ → ℕ → List Hop → Forest → List (List Hop)
-  recordPaths k i p none = []
-  recordPaths k i p (node h inner later) =
-      (p ++ (hopOf k i (part doc (h .name) (h .name-length)) ∷ []))
-      ∷ (recordPaths (h .kind) 0 (p ++ (hopOf k i (part doc (h .name) (h .name-length)) ∷ [])) inner ++ recordPaths k (suc i) p later)
-
   -- One path to a record.
-  pub paths-length : (k i : ℕ) (p : List Hop) (f : Forest) → length (recordPaths k i p f) ≡ size f
+  pub paths-length : (k i : ℕ) (p : List Hop) (f : Forest) → length (recordPaths doc k i p f) ≡ size f
   unfolding recordPaths size
   paths-length k i p none = refl
   paths-length k i p (node h inner later) =
       let q = p ++ (hopOf k i (part doc (h .name) (h .name-length)) ∷ []) in
       omega (
         arith,
-        length-append (recordPaths (h .kind) 0 q inner) (recordPaths k (suc i) p later),
+        length-append (recordPaths doc (h .kind) 0 q inner) (recordPaths doc k (suc i) p later),
         paths-length (h .kind) 0 q inner,
         paths-length k (suc i) p later,
       )
@@ -89,21 +78,21 @@ module _ (doc : List ℕ) where
 
   -- The paths of a record's value are its own and those of the records in it.
   value-paths : (d : ℕ) (h : Head) (inner : Forest) → LeafIs d h inner ⊎ ContainerIs h inner
-      → ((p : List Hop) → (itemPaths p 0 (tagsOf doc inner) ≡ recordPaths 9 0 p inner) × (entryPaths p (entriesOf doc inner) ≡ recordPaths 10 0 p inner))
-      → (p : List Hop) → tagPaths p (valueBy doc h (tagsOf doc inner) (entriesOf doc inner)) ≡ p ∷ recordPaths (h .kind) 0 p inner
+      → ((p : List Hop) → (itemPaths p 0 (tagsOf doc inner) ≡ recordPaths doc 9 0 p inner) × (entryPaths p (entriesOf doc inner) ≡ recordPaths doc 10 0 p inner))
+      → (p : List Hop) → tagPaths p (valueBy doc h (tagsOf doc inner) (entriesOf doc inner)) ≡ p ∷ recordPaths doc (h .kind) 0 p inner
   unfolding recordPaths
   value-paths d h inner (inl l) ih p =
       rw (l .bare)
       (leaf-paths h _ _ p (ne-eqb (h .kind) 9 (leaf-kind d h inner l 9 (inl refl))) (ne-eqb (h .kind) 10 (leaf-kind d h inner l 10 (inr refl))))
   value-paths d h inner (inr c) ih p = go (held-kind (h .kind) (c .kind))
     where
-      go : (h .kind ≡ 9) ⊎ (h .kind ≡ 10) → tagPaths p (valueBy doc h (tagsOf doc inner) (entriesOf doc inner)) ≡ p ∷ recordPaths (h .kind) 0 p inner
+      go : (h .kind ≡ 9) ⊎ (h .kind ≡ 10) → tagPaths p (valueBy doc h (tagsOf doc inner) (entriesOf doc inner)) ≡ p ∷ recordPaths doc (h .kind) 0 p inner
       go (inl e) = list-paths h _ _ p e ∙ rw (e, ih p .0)
       go (inr e) = compound-paths h _ _ p e ∙ rw (e, ih p .1)
 
   -- The paths of the values that records stand for, as elements and as entries, are the records' own.
   pub side-paths : (d : ℕ) (l : Bool) (f : Forest) → Fair d l f → (i : ℕ) (p : List Hop)
-      → (itemPaths p i (tagsOf doc f) ≡ recordPaths 9 i p f) × (entryPaths p (entriesOf doc f) ≡ recordPaths 10 i p f)
+      → (itemPaths p i (tagsOf doc f) ≡ recordPaths doc 9 i p f) × (entryPaths p (entriesOf doc f) ≡ recordPaths doc 10 i p f)
   unfolding tagPaths itemPaths entryPaths tagsOf entriesOf recordPaths hopOf
   side-paths d l none g i p = (refl, refl)
   side-paths d l (node h inner later) g i p =
@@ -116,7 +105,7 @@ module _ (doc : List ℕ) where
       (rw (a, x), rw (b, y))
 
   -- The paths of a document's tags are those of its records: the tag at place k of the file is record k.
-  pub tree-paths : (d : ℕ) (h : Head) (inner : Forest) → Fair d false inner → paths (valueOf doc h inner) ≡ [] ∷ recordPaths 10 0 [] inner
+  pub tree-paths : (d : ℕ) (h : Head) (inner : Forest) → Fair d false inner → paths (valueOf doc h inner) ≡ [] ∷ recordPaths doc 10 0 [] inner
   unfolding paths tagPaths
   tree-paths d h inner g = ap (λ ps. [] ∷ ps) (side-paths d false inner g 0 [] .1)
 

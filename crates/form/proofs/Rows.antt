@@ -2,7 +2,7 @@
 -- Assumes nothing.
 use Prim.Native.Nat.{ℕ, zero, suc, _+_, _-_, _*_, _≤_, _<_}
 use mathlib.Core.Path.{_≡_, refl, sym, ap, subst, _∙_}
-use mathlib.Core.Logic.{_⊎_, inl, inr}
+use mathlib.Core.Logic.{_⊎_, inl, inr, _↔_}
 use mathlib.Core.List.{List, [], _++_, append-nil}
 use mathlib.Core.Bool.{Bool, true, false}
 use native.Mathlib.Omega.{arith}
@@ -12,54 +12,11 @@ use lib.Dec.{eqb}
 use borrow.Author.Tests.{ne-eqb}
 use Rattle.form.specs.Answer.{pick}
 use Rattle.form.specs.Table.{Head, Forest, none, node, size, width, word, flat, holds}
-use Rattle.form.specs.Tables.{leafFits, firstKind, LeafIs, ContainerIs, Fair, IsTable}
+use Rattle.form.specs.Tables.{firstKind, LeafIs, ContainerIs, Fair, IsTable}
+use Rattle.form.specs.Rows.{ChildIs, Chain, stop, hop, LeafRow, listKindAt, ContainerRow, RowIs, RowsAre}
+use Rattle.form.specs.Records.{Stands, Sits}
 use Rattle.form.proofs.Table.{size-none, width-none}
-use Rattle.form.proofs.Tables.{Stands, Sits, sits-none, sits-node, sits-first, sits-inner, sits-later, sits-words, table-sits, table-length, fair-none, fair-node, fair-name, fair-first, fair-inner, fair-later, RecordAt, record-at}
-
--- ---- what is looked at
-
--- Record j as a child in a container that ends at e: it ends after itself and not past e, and an element of a list (l) has no name.
-pub record ChildIs (t : List ℕ) (l : Bool) (e j : ℕ) : Type 0 where
-  pub on : j < word t j 7
-  pub within : word t j 7 ≤ e
-  pub nameless : l ≡ true → (word t j 1 ≡ 0) × (word t j 2 ≡ 0)
-
--- Children from record j up to e, each beginning where the one before it ends, and how many.
-pub data Chain (t : List ℕ) (l : Bool) (e : ℕ) : ℕ → ℕ → Type 0 where
-  stop : Chain t l e e 0
-  hop : {j c : ℕ} → ChildIs t l e j → Chain t l e (word t j 7) c → Chain t l e j (suc c)
-
--- Record i as one that holds no records, in a document of d bytes.
-pub record LeafRow (d : ℕ) (t : List ℕ) (i : ℕ) : Type 0 where
-  pub fits : leafFits (word t i 0) (word t i 4) (word t i 5) ≡ true
-  pub body : word t i 3 + word t i 4 ≤ d
-  pub plain : word t i 6 ≡ 0
-  pub next : word t i 7 ≡ i + 1
-
--- The list kind that record i must have: the kind of the record after it, if it is a list with children.
-unfoldable pub listKindAt : List ℕ → ℕ → ℕ
-listKindAt t i = pick (eqb (word t i 0) 9) (pick (eqb (word t i 5) 0) 0 (word t (i + 1) 0)) 0
-
--- Record i of n as a list or a compound.
-pub record ContainerRow (t : List ℕ) (n i : ℕ) : Type 0 where
-  pub kind : holds (word t i 0) ≡ true
-  pub start : word t i 3 ≡ 0
-  pub long : word t i 4 ≡ 0
-  pub listed : word t i 6 ≡ listKindAt t i
-  pub within : word t i 7 ≤ n
-  pub tiled : Chain t (eqb (word t i 0) 9) (word t i 7) (i + 1) (word t i 5)
-
--- Record i of n.
-pub record RowIs (d : ℕ) (t : List ℕ) (n i : ℕ) : Type 0 where
-  pub name : word t i 1 + word t i 2 ≤ d
-  pub rest : LeafRow d t i ⊎ ContainerRow t n i
-
--- All of n records, the first of which is a compound that holds the others.
-pub record RowsAre (d : ℕ) (t : List ℕ) (n : ℕ) : Type 0 where
-  pub some : 0 < n
-  pub compound : word t 0 0 ≡ 10
-  pub whole : word t 0 7 ≡ n
-  pub each : (i : ℕ) → i < n → RowIs d t n i
+use Rattle.form.proofs.Tables.{sits-none, sits-node, sits-first, sits-inner, sits-later, sits-words, table-sits, table-length, fair-none, fair-node, fair-name, fair-first, fair-inner, fair-later, RecordAt, record-at}
 
 -- ---- the tests, case by case
 
@@ -299,3 +256,8 @@ rows-table d w n len t =
       fair = fair-node d false (headAt w 0) (i .inner) none (record { within = row .name; nameless = λ (e : false ≡ true). absurd (let y : _≡_ {A = ℕ} 0 1 = cc in omega arith) }) (i .sort) (i .fair) (fair-none d false);
       these = sym (sym (append-nil (flat 0 f)) ∙ ap (λ (l : List ℕ). flat 0 f ++ l) (sym rest) ∙ sits-words w 0 f sits);
     }
+
+-- Rule 7 record by record says of some words what the tree says of them.
+pub rows-iff : (d : ℕ) (w : List ℕ) → IsTable d w ↔ ((n : ℕ) × (length w ≡ 8 * n) × RowsAre d w n)
+rows-iff d w =
+    ((λ t. (1 + size (t .inner), table-length d w t, table-rows d w (1 + size (t .inner)) (table-length d w t) t)), λ r. rows-table d w (r .0) (r .1) (r .2))

@@ -4,7 +4,7 @@ use Prim.Native.Nat.{ℕ, suc, _+_, _*_, _≤_, _<_}
 use mathlib.Core.Path.{_≡_, refl, sym, ap, subst, _∙_}
 use mathlib.Core.Logic.{_⊎_, inl, inr}
 use mathlib.Core.List.{List, [], _∷_, _++_, append-assoc, append-nil}
-use mathlib.Core.Bool.{Bool, true, false}
+use mathlib.Core.Bool.{Bool, false}
 use native.Mathlib.Omega.{arith}
 use native.Mathlib.Decide.{ℕ-discrete, decLt}
 use lib.ListN.{length, getD, take, drop, length-drop, replicate, length-replicate}
@@ -12,30 +12,13 @@ use lib.Seq.{drop-cons, drop-drop, drop-at, getD-drop, length-take-le}
 use lib.Dec.{eqb}
 use Rattle.form.specs.Answer.{recordLimit}
 use Rattle.form.specs.Spans.{over}
-use Rattle.form.specs.Table.{Head, Forest, none, node, size, width, _⊕_, words, word, flat, wrote, widthOf}
-use Rattle.form.specs.Tables.{leafFits, LeafIs, ContainerIs, NameIs, Fair, IsTable, Within}
+use Rattle.form.specs.Table.{Head, Forest, none, node, size, _⊕_, words, word, flat, wrote}
+use Rattle.form.specs.Records.{Stands, Sits}
+use Rattle.form.specs.Tables.{LeafIs, ContainerIs, NameIs, Fair, IsTable, Within}
 use Rattle.form.proofs.Table.{flat-length}
 use Rattle.form.proofs.Leaves.{held-kind, leaf-kind}
 
 -- ---- where the words of records stand
-
--- Record n of a table has a head's words, and ends at e.
-pub record Stands (t : List ℕ) (n : ℕ) (h : Head) (e : ℕ) : Type 0 where
-  pub room : 8 * n + 8 ≤ length t
-  pub kind : word t n 0 ≡ h .kind
-  pub name : word t n 1 ≡ h .name
-  pub name-length : word t n 2 ≡ h .name-length
-  pub start : word t n 3 ≡ h .start
-  pub size : word t n 4 ≡ h .size
-  pub count : word t n 5 ≡ h .count
-  pub list-kind : word t n 6 ≡ h .list-kind
-  pub end : word t n 7 ≡ e
-
--- The words of some records stand in a table from record n on.
-unfoldable pub Sits : List ℕ → ℕ → Forest → Type 0
-Sits t n none = Unit {0}
-Sits t n (node h inner later) =
-    Stands t n h (n + 1 + size inner) × Sits t (n + 1) inner × Sits t (n + 1 + size inner) later
 
 -- An empty row of records stands anywhere.
 pub sits-none : (t : List ℕ) (n : ℕ) → Sits t n none
@@ -338,28 +321,3 @@ pub record-at : (d : ℕ) (w : List ℕ) (t : IsTable d w) (i : ℕ) → i < 1 +
 unfolding size
 record-at d w t i l =
     record-in d w (1 + size (t .inner)) false 0 (node (t .head) (t .inner) none) (table-sits d w t) (t .fair) (omega arith) i (omega arith) (omega arith)
-
--- ---- an example
-
--- The words of document 01's third marked document, 0A00016101000162FF00, form a table.
-pub marked-table : IsTable 10 (10 ∷ 3 ∷ 1 ∷ 0 ∷ 0 ∷ 1 ∷ 0 ∷ 2 ∷ 1 ∷ 7 ∷ 1 ∷ 8 ∷ 1 ∷ 0 ∷ 0 ∷ 2 ∷ [])
-unfolding Fair flat size width leafFits widthOf
-marked-table =
-    let never : false ≡ true → ⊥ = λ e. (let y : _≡_ {A = ℕ} 0 1 = cc in omega arith) in
-    record {
-      head = record { kind = 10; name = 3; name-length = 1; start = 0; size = 0; count = 1; list-kind = 0 };
-      inner = node (record { kind = 1; name = 7; name-length = 1; start = 8; size = 1; count = 0; list-kind = 0 }) none none;
-      compound = refl;
-      fair = (
-        record { within = omega arith; nameless = λ e. absurd (never e) },
-        inr (record { kind = refl; start = refl; long = refl; count = refl; listed = refl }),
-        (
-          record { within = omega arith; nameless = λ e. absurd (never e) },
-          inl (record { fits = refl; body = omega arith; plain = refl; bare = refl }),
-          tt,
-          tt,
-        ),
-        tt,
-      );
-      these = refl;
-    }

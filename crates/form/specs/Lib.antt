@@ -3,12 +3,13 @@ pub mod Spans
 pub mod Numbers
 pub mod Strings
 pub mod Decoding
-pub mod Vectors
 pub mod Tree
 pub mod Layout
 pub mod Table
 pub mod Tables
+pub mod Rows
 pub mod Reading
 pub mod Writing
 pub mod Paths
+pub mod Records
 pub mod Query

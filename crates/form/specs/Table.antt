@@ -69,6 +69,10 @@ widthOf k = getD (0 ∷ 1 ∷ 2 ∷ 4 ∷ 8 ∷ 4 ∷ 8 ∷ 1 ∷ 0 ∷ 0 ∷ 0 
 abbrev pub holds : ℕ → Bool
 holds kind = eqb kind 9 || eqb kind 10
 
+-- The kinds of arrays.
+abbrev pub isArray : ℕ → Bool
+isArray kind = eqb kind 7 || (eqb kind 11 || eqb kind 12)
+
 -- ---- the values that records stand for
 
 module _ (doc : List ℕ) where

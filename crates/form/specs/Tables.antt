@@ -8,7 +8,7 @@ use mathlib.Core.Bool.{Bool, true, false, _&&_, _||_}
 use lib.ListN.{length}
 use lib.Dec.{ltb, eqb}
 use Rattle.form.specs.Answer.{pick, documentLimit, recordLimit}
-use Rattle.form.specs.Table.{Head, Forest, none, node, width, flat, widthOf, holds}
+use Rattle.form.specs.Table.{Head, Forest, none, node, width, flat, widthOf, holds, isArray}
 
 -- Rule 4: the payload's length and the count of what holds no records. Kinds 1 to 6 have a fixed length, strings any, arrays that of
 -- their elements.
@@ -16,7 +16,7 @@ unfoldable pub leafFits : ℕ → ℕ → ℕ → Bool
 leafFits kind len count =
     pick (eqb kind 8) (eqb count 0)
     (pick (ltb kind 7) (ltb 0 kind && (eqb len (widthOf kind) && eqb count 0))
-    (pick (eqb kind 7 || (eqb kind 11 || eqb kind 12)) (eqb len (count * widthOf kind)) false))
+    (pick (isArray kind) (eqb len (count * widthOf kind)) false))
 
 -- The kind of the first of some records; 0 where there is none.
 unfoldable pub firstKind : Forest → ℕ

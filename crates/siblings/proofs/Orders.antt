@@ -11,7 +11,8 @@ use borrow.Author.Tests.{ltb-true, ltb-false}
 use lib.ListN.{length}
 use Rattle.form.specs.Spans.{part}
 use Rattle.siblings.specs.Names.{nameOf}
-use Rattle.siblings.specs.Links.{be, num, rank, Le}
+use Rattle.form.specs.Numbers.{value}
+use Rattle.siblings.specs.Links.{num, rank, Le}
 use Rattle.siblings.specs.Lists.{Told, Picked, Lowered}
 use Rattle.siblings.proofs.Numbers.{num-is}
 use Rattle.siblings.specs.declared.Order.{Order}
@@ -29,10 +30,10 @@ ordered-rest x y u v Order.Same e h = omega arith
 ordered-rest x y u v Order.More e h = omega arith
 
 pub spans-num : (doc : List ℕ) (a n b m : ℕ) (r : Order) → a + n ≤ length doc → b + m ≤ length doc → n ≡ m
-    → Ordered (be (part doc a n)) (be (part doc b n)) r → Ordered (num (part doc a n)) (num (part doc b m)) r
+    → Ordered (value (part doc a n)) (value (part doc b n)) r → Ordered (num (part doc a n)) (num (part doc b m)) r
 spans-num doc a n b m r la lb e h =
     subst (λ k. b + k ≤ length doc → Ordered (num (part doc a n)) (num (part doc b k)) r) e
-    (λ l. rw (num-is doc a n la, num-is doc b n l) (shift (256 ^ n) (be (part doc a n)) (be (part doc b n)) r h)) lb
+    (λ l. rw (num-is doc a n la, num-is doc b n l) (shift (256 ^ n) (value (part doc a n)) (value (part doc b n)) r h)) lb
 
 module _ (doc t : List ℕ) (i j : ℕ) (si : i < 4294967296) (sj : j < 4294967296) where
   pub rank-less : num (nameOf doc t i) < num (nameOf doc t j) → rank doc t i < rank doc t j

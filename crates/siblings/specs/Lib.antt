@@ -5,4 +5,3 @@ pub mod Forests
 pub mod Holding
 pub mod Orders
 pub mod Cells
-pub mod Marked

@@ -7,12 +7,8 @@ use mathlib.Core.Path.{_≡_}
 use mathlib.Core.Logic.{_⊎_}
 use lib.ListN.{length, getD, set}
 use lib.Dec.{eqb}
+use Rattle.form.specs.Numbers.{bigEndian}
 use Rattle.siblings.specs.Names.{nameOf}
-
--- bytes as a number, the first the highest
-unfoldable pub be : List ℕ → ℕ
-be [] = 0
-be (x ∷ xs) = x * 256 ^ length xs + be xs
 
 -- four bytes as a number
 unfoldable pub fourOf : List ℕ → ℕ → ℕ
@@ -22,9 +18,9 @@ fourOf xs k = ((getD xs k 0 * 256 + getD xs (k + 1) 0) * 256 + getD xs (k + 2) 0
 unfoldable pub eightOf : List ℕ → ℕ → ℕ
 eightOf xs k = fourOf xs k * 4294967296 + fourOf xs (k + 4)
 
--- the same with a digit 1 before them, so that what is longer is more
+-- bytes as a number (rule 1), with a digit 1 before them, so that what is longer is more
 unfoldable pub num : List ℕ → ℕ
-num xs = 256 ^ length xs + be xs
+num xs = 256 ^ length xs + bigEndian xs
 
 -- a record's place in the order: its name, then its number
 unfoldable pub rank : List ℕ → List ℕ → ℕ → ℕ

@@ -6,10 +6,11 @@ ghost use mathlib.Core.Bool.{false, not};
 ghost use Prim.Native.Nat.{ℕ, suc, _+_, _-_, _*_, _≤_, _<_};
 ghost use mathlib.Core.Logic.{_⊎_};
 ghost use lib.ListN.{length, getD};
+ghost use Rattle.form.specs.Numbers.{bigEndian};
 ghost use Rattle.form.specs.Spans.{part, same};
 ghost use Rattle.siblings.specs.Holding.{among as amongOf, Holds};
 ghost use Rattle.siblings.specs.Names.{nameOf, endOf, siblings, firstRepeat};
-ghost use Rattle.siblings.specs.Links.{be, fourOf, eightOf, num, rank, slotOf, link, linked, Mem, walk, Agree, Fit};
+ghost use Rattle.siblings.specs.Links.{fourOf, eightOf, num, rank, slotOf, link, linked, Mem, walk, Agree, Fit};
 ghost use Rattle.siblings.specs.Lists.{Told, Alike, Lowered, Picked, Two, Lists, Row, Sorts, Chained, Unlinked, Least, Taken, Family, foundOf, Climbs, Rises};
 ghost use Rattle.siblings.specs.Forests.{placeOut, refusalOf};
 ghost use Rattle.siblings.specs.Orders.{Ordered};
@@ -92,7 +93,7 @@ fn eight(doc: &[u8], at: usize) -> usize
 // The order of the n bytes at a and at b, one by one.
 fn order_rest(doc: &[u8], a: usize, b: usize, n: usize) -> Order
     requires { ⌜ (a + n ≤ length (now doc)) × (b + n ≤ length (now doc)) ⌝ }
-    ensures { λ r. ⌜ Ordered (be (part (now (doc .entry)) a n)) (be (part (now (doc .entry)) b n)) r ⌝ }
+    ensures { λ r. ⌜ Ordered (bigEndian (part (now (doc .entry)) a n)) (bigEndian (part (now (doc .entry)) b n)) r ⌝ }
 {
     let mut i: usize = 0;
     while i < n {
@@ -112,7 +113,7 @@ fn order_rest(doc: &[u8], a: usize, b: usize, n: usize) -> Order
 // The order of the n bytes at a and at b, eight by eight.
 fn order_bytes(doc: &[u8], a: usize, b: usize, n: usize) -> Order
     requires { ⌜ (a + n ≤ length (now doc)) × (b + n ≤ length (now doc)) ⌝ }
-    ensures { λ r. ⌜ Ordered (be (part (now (doc .entry)) a n)) (be (part (now (doc .entry)) b n)) r ⌝ }
+    ensures { λ r. ⌜ Ordered (bigEndian (part (now (doc .entry)) a n)) (bigEndian (part (now (doc .entry)) b n)) r ⌝ }
 {
     let mut i: usize = 0;
     while 7 < n - i {

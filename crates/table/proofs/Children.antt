@@ -6,7 +6,7 @@ use mathlib.Core.List.{List}
 use mathlib.Core.Bool.{Bool}
 use native.Mathlib.Omega.{arith}
 use Rattle.form.specs.Table.{word}
-use Rattle.form.proofs.Rows.{ChildIs, Chain, stop, hop}
+use Rattle.form.specs.Rows.{ChildIs, Chain, stop, hop}
 
 -- A chain from a record that is a child.
 record Unhopped (t : List ℕ) (l : Bool) (e j : ℕ) : Type 0 where

@@ -9,7 +9,8 @@ use native.Mathlib.Omega.{arith}
 use lib.Dec.{eqb, leb}
 use borrow.Author.Tests.{eqb-true, eqb-false, leb-true, leb-false}
 use Rattle.form.specs.Table.{word, holds}
-use Rattle.form.proofs.Rows.{Chain, LeafRow, listKindAt, ContainerRow, RowIs, chain-le, chain-one}
+use Rattle.form.specs.Rows.{Chain, LeafRow, listKindAt, ContainerRow, RowIs}
+use Rattle.form.proofs.Rows.{chain-le, chain-one}
 use Rattle.form.proofs.Leaves.{fits-held}
 use Rattle.table.specs.Check.{Says, HopsAre}
 use Rattle.table.specs.declared.Hops.{Hops}

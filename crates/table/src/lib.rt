@@ -5,12 +5,11 @@ ghost use mathlib.Core.Bool.{true};
 ghost use Prim.Native.Nat.{ℕ, _+_, _*_, _≤_, _<_, _^_};
 ghost use lib.ListN.{length};
 ghost use Rattle.form.specs.Spans.{over};
-ghost use Rattle.form.specs.Table.{word as wordOf, widthOf, holds};
+ghost use Rattle.form.specs.Table.{word as wordOf, widthOf, holds, isArray};
 ghost use Rattle.form.specs.Tables.{leafFits};
-ghost use Rattle.form.proofs.Leaves.{isArray};
-ghost use Rattle.form.proofs.Rows.{ChildIs, LeafRow, listKindAt, ContainerRow, RowIs};
+ghost use Rattle.form.specs.Rows.{ChildIs, LeafRow, listKindAt, ContainerRow, RowIs};
 ghost use Rattle.table.specs.Records.{recordWords, leafOf, containerOf, Small};
-ghost use Rattle.table.specs.Check.{VerdictIs, Says, HopsAre};
+ghost use Rattle.table.specs.Check.{VerdictIs, verdictOut, Answers, Says, HopsAre};
 
 // How many words a record has.
 pub const WORDS: usize = 8;
@@ -348,7 +347,7 @@ fn records_agree(doc_len: usize, table: &[u32], n: usize) -> bool
 // Rule 7: whether the words form a table over a document of doc_len bytes (refusal 9 comes before 10). Linear in the records, with no
 // stack.
 pub fn is_table(doc_len: usize, table: &[u32]) -> Verdict
-    ensures { λ r. ⌜ VerdictIs «doc_len» (now (table .entry)) r ⌝ }
+    ensures { λ r. ⌜ (VerdictIs «doc_len» (now (table .entry)) r) × (Answers «doc_len» (now (table .entry)) (verdictOut r)) ⌝ }
 {
     let n = table.len() / WORDS;
     if form::DOCUMENT < doc_len {

@@ -4,7 +4,7 @@ use native.Mathlib.Omega.{arith}
 use Prim.Native.Nat.{ℕ, _+_, _-_, _≤_, _<_}
 use mathlib.Core.Path.{_≡_}
 use Rattle.form.specs.Spans.{part}
-use Rattle.siblings.specs.Links.{be}
+use Rattle.form.specs.Numbers.{value}
 use Rattle.siblings.proofs.Numbers.{start-same, eight-less, eight-same}
 use Rattle.siblings.proofs.Orders.{ordered-rest}
 use Rattle.siblings.proofs.order_bytes.Statement.{statement}
@@ -15,7 +15,7 @@ use Rattle.siblings.proofs.eight.Reads as eight-reads
 use Rattle.siblings.proofs.order_rest.Reads as order-rest-reads
 
 abbrev Inv-loop : tie.InvT-loop
-Inv-loop doc a b n i₀ i = (i ≤ n) × (be (part doc a n) + be (part doc (b + i) (n - i)) ≡ be (part doc b n) + be (part doc (a + i) (n - i)))
+Inv-loop doc a b n i₀ i = (i ≤ n) × (value (part doc a n) + value (part doc (b + i) (n - i)) ≡ value (part doc b n) + value (part doc (a + i) (n - i)))
 
 abbrev μ-loop : tie.MeasureT-loop
 μ-loop doc a b n i₀ i = n - i
@@ -81,7 +81,7 @@ loop-again c =
     let p = k .before .pre in (
       omega (arith, l .loop-test .taken),
       eight-same (a .doc .now) (λ j. omega (arith, k .shared-slice-known .given j)) (a .a) (a .b) (a .n) (l .before .loop .i) (l .loop-test .taken) (p .0) (p .1)
-          (be (part (a .doc .now) (a .a) (a .n))) (be (part (a .doc .now) (a .b) (a .n)))
+          (value (part (a .doc .now) (a .a) (a .n))) (value (part (a .doc .now) (a .b) (a .n)))
           (omega (arith, c .before .if1 .left, c .if2 .left, e .eight2 .ensures, e .before .eight .ensures)) (l .before .loop .inv .1),
     )
 

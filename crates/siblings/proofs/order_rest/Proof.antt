@@ -6,7 +6,7 @@ use Prim.Native.Nat.{ℕ, _+_, _-_, _≤_, _<_}
 use mathlib.Core.Path.{_≡_, sym, _∙_}
 use lib.ListN.{getD, length}
 use Rattle.form.specs.Spans.{part}
-use Rattle.siblings.specs.Links.{be}
+use Rattle.form.specs.Numbers.{value}
 use Rattle.siblings.proofs.Numbers.{start-same, stop-same, step-less, step-same}
 use Rattle.siblings.proofs.order_rest.Statement.{statement}
 use Rattle.siblings.proofs.order_rest.Tie as tie
@@ -14,7 +14,7 @@ use Rattle.siblings.proofs.order_rest.Reads as reads
 use Rattle.siblings.proofs.order_rest.Lts as lts
 
 abbrev Inv-loop : tie.InvT-loop
-Inv-loop doc a b n i₀ i = (i ≤ n) × (be (part doc a n) + be (part doc (b + i) (n - i)) ≡ be (part doc b n) + be (part doc (a + i) (n - i)))
+Inv-loop doc a b n i₀ i = (i ≤ n) × (value (part doc a n) + value (part doc (b + i) (n - i)) ≡ value (part doc b n) + value (part doc (a + i) (n - i)))
 
 abbrev μ-loop : tie.MeasureT-loop
 μ-loop doc a b n i₀ i = n - i
@@ -69,7 +69,7 @@ loop-again c =
     let p = l .before .before .pre in (
       omega arith,
       step-same (a .doc .now) (λ j. omega (arith, c .before .before .before .shared-slice-known .given j)) (a .a) (a .b) (a .n) (l .before .loop .i) (l .loop-test .taken) (p .0) (p .1)
-          (be (part (a .doc .now) (a .a) (a .n))) (be (part (a .doc .now) (a .b) (a .n))) (omega (arith, c .before .if1 .left, c .if2 .left)) (l .before .loop .inv .1),
+          (value (part (a .doc .now) (a .a) (a .n))) (value (part (a .doc .now) (a .b) (a .n))) (omega (arith, c .before .if1 .left, c .if2 .left)) (l .before .loop .inv .1),
     )
 
 returns-3 : tie.Need-returns-3 Inv-loop μ-loop

@@ -4,7 +4,7 @@ use borrow.Author.Count.{below-more}
 use borrow.Author.Tests.{not-true, not-false}
 use Prim.Native.Nat.{ℕ, _-_, _≤_, _<_}
 use native.Mathlib.Omega.{arith}
-use Rattle.form.proofs.Rows.{RowIs}
+use Rattle.form.specs.Rows.{RowIs}
 use Rattle.table.proofs.Tests.{says-yes, says-no}
 use Rattle.table.proofs.records_agree.Statement.{statement}
 use Rattle.table.proofs.records_agree.Tie as tie
