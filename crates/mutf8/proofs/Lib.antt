@@ -1,5 +1,2 @@
-pub mod Groups
-pub mod Fronts
 pub mod Walks
 pub mod Alike
-pub mod Puts

@@ -6,15 +6,19 @@ use mathlib.Core.List.{List, [], _∷_}
 use native.Mathlib.Omega.{arith}
 use borrow.Author.Tests.{lt-ltb, le-ltb, le-leb, eq-eqb, ne-eqb}
 use lib.ListN.{length, drop, length-drop}
-use Rattle.form.specs.Decoding.{Sequence, is, stuck, good, bad, unitOf, paired, unpaired, scalarOf, utf8Of, Judged}
+use Rattle.form.specs.Strings.{scalarBytes}
+use Rattle.form.specs.Decoding.{Sequence, is, stuck, Verdict, good, bad, verdictBy, unitOf, paired, unpaired, scalarOf, utf8Of, isGood, wellFormed, Judged}
 use Rattle.form.proofs.Picks.{pick-eq, pick-lt, pick-le}
 use Rattle.form.proofs.Coding.{Coding}
 use Rattle.form.proofs.Scalars.{scalar-of}
 use Rattle.form.proofs.Walks as W
-use Rattle.mutf8.specs.declared.Front.{Front}
-use Rattle.mutf8.specs.declared.Front.the-variants.{Is}
-use Rattle.mutf8.specs.Answers.{sequenceOf}
-use Rattle.mutf8.proofs.Fronts.{told}
+use Rattle.chars.specs.declared.Front.{Front}
+use Rattle.chars.specs.declared.Front.the-variants.{Is}
+use Rattle.chars.specs.Answers.{sequenceOf}
+use Rattle.chars.proofs.Fronts.{told}
+use Rattle.mutf8.specs.declared.Checked.{Checked}
+use Rattle.mutf8.specs.declared.Checked.the-variants.{Good, Bad}
+use Rattle.mutf8.specs.Answers.{verdictOf, checkedOut, dueOut}
 use Rattle.mutf8.specs.Runs.{Walked, none, more, commonOf, Passed, Stepped}
 
 stuck-is : {c n : ℕ} → stuck ≡ is c n → ⊥
@@ -100,3 +104,18 @@ module _ (𝓒 : Coding) where
   -- one turn, by what a call answered
   pub reach : (s : List ℕ) (i c n : ℕ) (r : Front) → r ≡ Is c n → sequenceOf r ≡ one (drop i s) → (0 < n) × (i + n ≤ length s)
   reach s i c n r q p = let e = told (Is c n) p q in W.reach 𝓒 s i c n (within s i c n e) e
+
+-- ---- a verdict as the test of refusal 4
+
+pub judged-by : (s : List ℕ) (r v : Checked) → r ≡ v → Judged scalarBytes scalarOf s (verdictOf r) → isGood (verdictOf v) ≡ wellFormed s
+judged-by s r v e j = ap isGood (sym (ap verdictOf e) ∙ j .is)
+
+-- ---- a verdict as document 01's answer
+
+checked-due : (n : ℕ) (r : Checked) {v : Verdict} → verdictOf r ≡ v → checkedOut n r ≡ dueOut n v
+checked-due n Good e = ap (dueOut n) e
+checked-due n (Bad k) e = ap (dueOut n) e
+
+pub checked-is : {enc : ℕ → List ℕ} {one : List ℕ → Sequence} {s : List ℕ} (n : ℕ) (r : Checked)
+    → Judged enc one s (verdictOf r) → Judged enc one s (verdictOf r) × (checkedOut n r ≡ dueOut n (verdictBy one s))
+checked-is n r j = (j, checked-due n r (j .is))

@@ -1,30 +1,23 @@
--- What the answers of this crate mean: each of its enums as the answer of rule 2's definitions.
+-- What the answer of this crate means: its enum as the verdict of rule 2's definitions, and as document 01's answer.
 -- Assumes nothing.
-use Prim.Native.Nat.{ℕ, _+_, _≤_, _<_}
-use mathlib.Core.Path.{_≡_}
-use mathlib.Core.List.{List}
-use lib.ListN.{length}
-use Rattle.form.specs.Spans.{over}
-use Rattle.form.specs.Decoding.{Sequence, is, stuck, Verdict, good, bad}
-use Rattle.mutf8.specs.declared.Front.{Front}
-use Rattle.mutf8.specs.declared.Front.the-variants.{Is, Stuck}
+use Prim.Native.Nat.{ℕ}
+use Rattle.form.specs.Answer.{Out, got, no}
+use Rattle.form.specs.Decoding.{Verdict, good, bad}
 use Rattle.mutf8.specs.declared.Checked.{Checked}
 use Rattle.mutf8.specs.declared.Checked.the-variants.{Good, Bad}
-use Rattle.mutf8.specs.declared.Put.{Put}
-use Rattle.mutf8.specs.declared.Put.the-variants.{To, Full}
 
--- What stands at a place: rule 2's value and how many bytes it takes, or nothing that can be read.
-abbrev pub sequenceOf : Front → Sequence
-sequenceOf (Is c n) = is c n
-sequenceOf Stuck = stuck
-
--- The verdict on a slice: well formed, or the offset of refusals 4 and 15.
+-- The verdict on a slice: well formed, or the offset at which the first sequence that can't be read begins.
 abbrev pub verdictOf : Checked → Verdict
 verdictOf Good = good
 verdictOf (Bad k) = bad k
 
--- What writing the bytes bs of rule 2 at a place of o leaves. Where they fit they stand there, all else is as it was, and the answer is
--- the place behind them; where they don't, nothing has changed.
-abbrev pub Wrote : List ℕ → ℕ → List ℕ → Put → List ℕ → Type 0
-Wrote o at bs (To n) o′ = (n ≡ at + length bs) × (n ≤ length o) × (o′ ≡ over o at bs)
-Wrote o at bs Full o′ = (length o < at + length bs) × (o′ ≡ o)
+-- Document 01's answer for each case of a check whose refusal has the number n, which is 4 for modified UTF-8 and 15 for UTF-8: accepted, or
+-- refused at the offset.
+abbrev pub checkedOut : ℕ → Checked → Out (Unit {0})
+checkedOut n Good = got tt
+checkedOut n (Bad k) = no n k
+
+-- The answer that is due on a verdict of rule 2.
+abbrev pub dueOut : ℕ → Verdict → Out (Unit {0})
+dueOut n good = got tt
+dueOut n (bad k) = no n k

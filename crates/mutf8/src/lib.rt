@@ -1,225 +1,20 @@
-// Modified UTF-8 (rule 2) and UTF-8: the value at a place, whether a slice is well formed and where it is not, and one value written.
+// Modified UTF-8 (rule 2) and UTF-8: whether a slice is well formed, and where it is not.
 // Text is passed in blocks of 64 bytes without a branch for each byte; what no block takes is read value by value.
 ghost use mathlib.Core.Path.{_≡_};
 ghost use mathlib.Core.Bool.{true};
-ghost use Prim.Native.Nat.{ℕ, _+_, _*_, _%_, _≤_, _<_};
-ghost use lib.ListN.{length, drop};
-ghost use Rattle.form.specs.Spans.{over};
-ghost use Rattle.form.specs.Strings.{twoBytes, threeBytes, unitBytes, scalarBytes, utf8Bytes};
-ghost use Rattle.form.specs.Decoding.{six, twoOf, threeOf, fourOf, unitOf, pairOf, scalarOf, utf8Of, wellFormed, Judged};
-ghost use Rattle.mutf8.specs.Answers.{sequenceOf, verdictOf, Wrote};
+ghost use Prim.Native.Nat.{ℕ, _+_, _≤_, _<_};
+ghost use lib.ListN.{length};
+ghost use Rattle.form.specs.Answer.{badString, badText};
+ghost use Rattle.form.specs.Strings.{scalarBytes, utf8Bytes};
+ghost use Rattle.form.specs.Decoding.{scalarOf, utf8Of, verdict, utf8Verdict, wellFormed, Judged};
+ghost use Rattle.mutf8.specs.Answers.{verdictOf, checkedOut, dueOut};
 ghost use Rattle.mutf8.specs.Runs.{Passed, Stepped, Plain, Fits, Fitting, Edge};
-
-// What stands at a place: a value and how many bytes it takes, or nothing that can be read.
-pub enum Front {
-    Is(u32, usize),
-    Stuck,
-}
+use chars::Front;
 
 // Well formed, or the offset at which the first sequence that can't be read begins.
 pub enum Checked {
     Good,
     Bad(usize),
-}
-
-// The place behind what was written, or no room for it.
-pub enum Put {
-    To(usize),
-    Full,
-}
-
-// A six-bit group shifted in below what is there.
-fn join(hi: u32, b: u8) -> u32
-    requires { ⌜ hi < 65536 ⌝ }
-    ensures { λ r. ⌜ r ≡ six hi b ⌝ }
-{
-    (hi << 6) | ((b & 0x3F) as u32)
-}
-
-// A unit in two bytes: C0 80 is 0, and no other below 128 is written so.
-fn two(a: u8, b: u8) -> Front
-    ensures { λ r. ⌜ sequenceOf r ≡ twoOf a b ⌝ }
-{
-    if b < 128 {
-        return Front::Stuck;
-    }
-    if 192 <= b {
-        return Front::Stuck;
-    }
-    let u = join((a % 32) as u32, b);
-    if u == 0 {
-        return Front::Is(u, 2);
-    }
-    if u < 128 {
-        return Front::Stuck;
-    }
-    Front::Is(u, 2)
-}
-
-// A unit in three bytes: none below 2048.
-fn three(a: u8, b: u8, c: u8) -> Front
-    ensures { λ r. ⌜ sequenceOf r ≡ threeOf a b c ⌝ }
-{
-    if b < 128 {
-        return Front::Stuck;
-    }
-    if 192 <= b {
-        return Front::Stuck;
-    }
-    if c < 128 {
-        return Front::Stuck;
-    }
-    if 192 <= c {
-        return Front::Stuck;
-    }
-    let u = join(join((a % 16) as u32, b), c);
-    if u < 2048 {
-        return Front::Stuck;
-    }
-    Front::Is(u, 3)
-}
-
-// The 16-bit unit at a place.
-fn unit_at(s: &[u8], at: usize) -> Front
-    ensures { λ r. ⌜ sequenceOf r ≡ unitOf (drop at (now (s .entry))) ⌝ }
-{
-    if s.len() <= at {
-        return Front::Stuck;
-    }
-    let a = s[at];
-    if a == 0 {
-        return Front::Stuck;
-    }
-    if a < 128 {
-        return Front::Is(a as u32, 1);
-    }
-    if a < 192 {
-        return Front::Stuck;
-    }
-    let left = s.len() - at;
-    if left < 2 {
-        return Front::Stuck;
-    }
-    let b = s[at + 1];
-    if a < 224 {
-        return two(a, b);
-    }
-    if 240 <= a {
-        return Front::Stuck;
-    }
-    if left < 3 {
-        return Front::Stuck;
-    }
-    let c = s[at + 2];
-    three(a, b, c)
-}
-
-// The two halves of a pair assembled into one scalar value.
-fn pair(hi: u32, lo: u32) -> u32
-    ensures { λ r. ⌜ r ≡ pairOf hi lo ⌝ }
-{
-    0x10000 + (((hi & 0x3FF) << 10) | (lo & 0x3FF))
-}
-
-// The scalar value of modified UTF-8 at a place.
-pub fn scalar_at(s: &[u8], at: usize) -> Front
-    ensures { λ r. ⌜ sequenceOf r ≡ scalarOf (drop at (now (s .entry))) ⌝ }
-{
-    match unit_at(s, at) {
-        Front::Is(u, n) => {
-            if u < 0xD800 {
-                return Front::Is(u, n);
-            }
-            if 0xE000 <= u {
-                return Front::Is(u, n);
-            }
-            if 0xDC00 <= u {
-                return Front::Stuck;
-            }
-            match unit_at(s, at + n) {
-                Front::Is(v, m) => {
-                    if v < 0xDC00 {
-                        return Front::Stuck;
-                    }
-                    if 0xE000 <= v {
-                        return Front::Stuck;
-                    }
-                    Front::Is(pair(u, v), n + m)
-                }
-                Front::Stuck => Front::Stuck,
-            }
-        }
-        Front::Stuck => Front::Stuck,
-    }
-}
-
-// A scalar value of UTF-8 in four bytes.
-fn four(a: u8, b: u8, c: u8, d: u8) -> Front
-    ensures { λ r. ⌜ sequenceOf r ≡ fourOf a b c d ⌝ }
-{
-    if b < 128 {
-        return Front::Stuck;
-    }
-    if 192 <= b {
-        return Front::Stuck;
-    }
-    if c < 128 {
-        return Front::Stuck;
-    }
-    if 192 <= c {
-        return Front::Stuck;
-    }
-    if d < 128 {
-        return Front::Stuck;
-    }
-    if 192 <= d {
-        return Front::Stuck;
-    }
-    let u = join(join(join((a % 8) as u32, b), c), d);
-    if u < 0x10000 {
-        return Front::Stuck;
-    }
-    if 0x110000 <= u {
-        return Front::Stuck;
-    }
-    Front::Is(u, 4)
-}
-
-// The scalar value of UTF-8 at a place.
-pub fn utf8_at(s: &[u8], at: usize) -> Front
-    ensures { λ r. ⌜ sequenceOf r ≡ utf8Of (drop at (now (s .entry))) ⌝ }
-{
-    if s.len() <= at {
-        return Front::Stuck;
-    }
-    let a = s[at];
-    if a == 0 {
-        return Front::Is(0, 1);
-    }
-    if 240 <= a {
-        if 248 <= a {
-            return Front::Stuck;
-        }
-        if s.len() - at < 4 {
-            return Front::Stuck;
-        }
-        return four(a, s[at + 1], s[at + 2], s[at + 3]);
-    }
-    match unit_at(s, at) {
-        Front::Is(u, n) => {
-            if u == 0 {
-                return Front::Stuck;
-            }
-            if u < 0xD800 {
-                return Front::Is(u, n);
-            }
-            if u < 0xE000 {
-                return Front::Stuck;
-            }
-            Front::Is(u, n)
-        }
-        Front::Stuck => Front::Stuck,
-    }
 }
 
 // The greater of the two.
@@ -486,16 +281,12 @@ fn reach_after(reach: usize, i: usize, j: usize) -> usize
     reach + 32
 }
 
-// A place so far on, within a length.
-fn ahead(length: usize, at: usize, reach: usize) -> usize
-    requires { ⌜ (at ≤ length) × (0 < reach) ⌝ }
-    ensures { λ r. ⌜ (at ≤ r) × (r ≤ length) × (at < length → at < r) ⌝ }
+// A place so far on, or the end where that comes first.
+fn ahead(end: usize, at: usize, reach: usize) -> usize
+    requires { ⌜ (at ≤ end) × (0 < reach) ⌝ }
+    ensures { λ r. ⌜ (at ≤ r) × (r ≤ end) × (at < end → at < r) ⌝ }
 {
-    if length - at < reach {
-        length
-    } else {
-        at + reach
-    }
+    if end - at < reach { end } else { at + reach }
 }
 
 // Goes on value by value of modified UTF-8, up to `stop` or one that can't be read.
@@ -509,7 +300,7 @@ fn steps(s: &[u8], at: usize, stop: usize) -> usize
             i = i + 1;
             continue;
         }
-        match scalar_at(s, i) {
+        match chars::scalar_at(s, i) {
             Front::Is(_, n) => {
                 i = i + n;
             }
@@ -550,9 +341,9 @@ fn judge(s: &[u8]) -> Checked
     Checked::Good
 }
 
-// Whether the whole of s is modified UTF-8.
+// Whether the whole of s is modified UTF-8; where not, refusal 4 at the offset.
 pub fn check(s: &[u8]) -> Checked
-    ensures { λ r. ⌜ Judged scalarBytes scalarOf (now (s .entry)) (verdictOf r) ⌝ }
+    ensures { λ r. ⌜ (Judged scalarBytes scalarOf (now (s .entry)) (verdictOf r)) × (checkedOut badString r ≡ dueOut badString (verdict (now (s .entry)))) ⌝ }
 {
     if is_plain(s) {
         return Checked::Good;
@@ -584,7 +375,7 @@ fn utf8_steps(s: &[u8], at: usize, stop: usize) -> usize
             i = i + 1;
             continue;
         }
-        match utf8_at(s, i) {
+        match chars::utf8_at(s, i) {
             Front::Is(_, n) => {
                 i = i + n;
             }
@@ -615,96 +406,12 @@ fn judge_utf8(s: &[u8]) -> Checked
     Checked::Good
 }
 
-// Whether the whole of s is UTF-8.
+// Whether the whole of s is UTF-8; where not, refusal 15 at the offset.
 pub fn check_utf8(s: &[u8]) -> Checked
-    ensures { λ r. ⌜ Judged utf8Bytes utf8Of (now (s .entry)) (verdictOf r) ⌝ }
+    ensures { λ r. ⌜ (Judged utf8Bytes utf8Of (now (s .entry)) (verdictOf r)) × (checkedOut badText r ≡ dueOut badText (utf8Verdict (now (s .entry)))) ⌝ }
 {
     if is_plain(s) {
         return Checked::Good;
     }
     judge_utf8(s)
-}
-
-// How many bytes a scalar value takes in modified UTF-8.
-pub fn length_of(c: u32) -> usize
-    ensures { λ r. ⌜ r ≡ length (scalarBytes c) ⌝ }
-{
-    if c == 0 {
-        return 2;
-    }
-    if c < 128 {
-        return 1;
-    }
-    if c < 2048 {
-        return 2;
-    }
-    if c < 0x10000 {
-        return 3;
-    }
-    6
-}
-
-// The lowest six-bit group, as a byte that follows a lead byte.
-fn group(u: u32) -> u8
-    ensures { λ r. ⌜ r ≡ 128 + u % 64 ⌝ }
-{
-    ((u & 0x3F) as u8) | 0x80
-}
-
-// Two bytes: the upper group on a lead byte, and the lower.
-fn put_two(u: u32, out: &mut [u8], at: usize)
-    requires { ⌜ (u < 2048) × (at + 2 ≤ length (now out)) ⌝ }
-    ensures { λ r. ⌜ now (out .exit) ≡ over (now (out .entry)) at (twoBytes u) ⌝ }
-{
-    out[at] = ((u >> 6) as u8) | 0xC0;
-    out[at + 1] = group(u);
-}
-
-// Three bytes: the upper group on a lead byte, and two below it.
-fn put_three(u: u32, out: &mut [u8], at: usize)
-    requires { ⌜ (u < 65536) × (at + 3 ≤ length (now out)) ⌝ }
-    ensures { λ r. ⌜ now (out .exit) ≡ over (now (out .entry)) at (threeBytes u) ⌝ }
-{
-    out[at] = ((u >> 12) as u8) | 0xE0;
-    out[at + 1] = group(u >> 6);
-    out[at + 2] = group(u);
-}
-
-// A 16-bit unit in one, two or three bytes.
-fn put_unit(u: u32, out: &mut [u8], at: usize)
-    requires { ⌜ (u < 65536) × (at + length (unitBytes u) ≤ length (now out)) ⌝ }
-    ensures { λ r. ⌜ now (out .exit) ≡ over (now (out .entry)) at (unitBytes u) ⌝ }
-{
-    if u == 0 {
-        put_two(u, out, at);
-        return;
-    }
-    if u < 128 {
-        out[at] = u as u8;
-        return;
-    }
-    if u < 2048 {
-        put_two(u, out, at);
-        return;
-    }
-    put_three(u, out, at);
-}
-
-// A scalar value in modified UTF-8 at a place: above the basic plane as its two halves.
-pub fn put_scalar(c: u32, out: &mut [u8], at: usize) -> Put
-    requires { ⌜ (c < 1114112) × (at ≤ length (now out)) ⌝ }
-    ensures { λ r. ⌜ Wrote (now (out .entry)) at (scalarBytes c) r (now (out .exit)) ⌝ }
-{
-    let size = length_of(c);
-    if out.len() - at < size {
-        return Put::Full;
-    }
-    if c < 0x10000 {
-        put_unit(c, out, at);
-        return Put::To(at + size);
-    }
-    let v = c - 0x10000;
-    put_unit(0xD800 + (v >> 10), out, at);
-    put_unit(0xDC00 + (v & 0x3FF), out, at + 3);
-    Put::To(at + size)
 }

@@ -1,26 +1,24 @@
 -- Steps of the proofs that are about plain values: they stand here, over variables, since `rw` at the terms of a place is slow or refused.
 -- Assumes nothing.
-use Prim.Native.Nat.{ℕ, _+_, _-_, _*_, _≤_, _<_}
+use Prim.Native.Nat.{ℕ, _+_, _*_, _≤_, _<_}
 use mathlib.Core.List.{List}
 use mathlib.Core.Path.{_≡_, refl, sym, ap, _∙_}
-use lib.ListN.{length, replicate, getD}
+use lib.ListN.{length, replicate}
 use mathlib.Core.Bool.{Bool, true, false, not}
 use Rattle.form.specs.Answer.{Out, got, no, _>>_, guard}
 use Rattle.form.specs.Table.{Forest, none, node, size, width, wrote, widthOf, holds}
-use Rattle.form.specs.Spans.{over, part}
-use Rattle.form.specs.Decoding.{wellFormed}
-use Rattle.form.specs.Reading.{Inside, One, Run, heldOne, ReadIs, reading, named, bytesAt, stringAt, leafAt, entryAt}
+use Rattle.form.specs.Spans.{over}
+use Rattle.form.specs.Reading.{Inside, One, Run, heldOne, ReadIs, reading, bytesAt, leafAt}
 use Rattle.siblings.specs.declared.Found.{Found}
 use Rattle.siblings.specs.Forests.{placeOut}
 use Rattle.form.proofs.Table.{wrote-head}
-use Rattle.form.proofs.Fields.{bytes-got, bytes-no, leaf-fixed, entry-got}
+use Rattle.form.proofs.Fields.{bytes-got, bytes-no, leaf-fixed}
 use Rattle.table.specs.declared.Record.{Record}
 use Rattle.table.specs.Records.{recordWords, containerOf}
-use Rattle.reader.specs.declared.Item.{Item}
 use Rattle.reader.specs.declared.Step.{Step}
 use Rattle.reader.specs.declared.Answer.{Answer}
 use Rattle.reader.specs.declared.Ran.{Ran}
-use Rattle.reader.specs.Steps.{Ends, Filled, Next, Stepped, Went, Kept, Settled, Finished, Spoiled, readOut, itemOut}
+use Rattle.reader.specs.Steps.{Filled, Next, Stepped, Went, Kept, Settled, Finished, Spoiled, readOut}
 use native.Mathlib.Omega.{arith}
 use borrow.Author.Tests.{ne-eqb}
 
@@ -34,28 +32,6 @@ fixed-got doc kind at w h e l = leaf-fixed doc kind at h ∙ ap (λ x. bytesAt d
 
 pub fixed-no : (doc : List ℕ) (kind at w : ℕ) → kind < 7 → w ≡ widthOf kind → length doc < at + w → leafAt doc kind at ≡ no 1 at
 fixed-no doc kind at w h e l = leaf-fixed doc kind at h ∙ ap (λ x. bytesAt doc x 0 at) (sym e) ∙ bytes-no doc w 0 at l
-
--- the part that is judged is the content
-pub judged-part : (doc : List ℕ) (a n : ℕ) {b : Bool} → wellFormed (part doc a (a + n - a)) ≡ b → wellFormed (part doc a n) ≡ b
-judged-part doc a n e = let k : n ≡ a + n - a = omega arith in rw k e
-
--- an entry of a kind that was read before
-pub named-as : (doc : List ℕ) (at k j s l x : ℕ) → k ≡ j → entryAt doc at ≡ got (named j (record { start = s; size = l; count = 0; next = x })) → itemOut (Item.Named k s l x) ≡ entryAt doc at
-named-as doc at k j s l x e f = ap (λ y. got (named y (record { start = s; size = l; count = 0; next = x }))) e ∙ sym f
-
--- an entry whose name ends at r
-pub named-end : (doc : List ℕ) (at r : ℕ) → at < length doc → (getD doc at 0 ≡ 0 → ⊥) → getD doc at 0 ≤ 12
-    → stringAt doc (at + 1) ≡ got (record { start = at + 1 + 2; size = r - (at + 1 + 2); count = 0; next = r })
-    → itemOut (Item.Named (getD doc at 0) (at + 3) (r - (at + 3)) r) ≡ entryAt doc at
-named-end doc at r h k l e =
-    let q : at + 3 ≡ at + 1 + 2 = omega arith in
-    ap (λ a. got (named (getD doc at 0) (record { start = a; size = r - a; count = 0; next = r }))) q ∙ sym (entry-got doc at h k e l)
-
--- a string whose end is known
-pub string-ends : (doc : List ℕ) (at n r : ℕ) → r ≡ at + 2 + n → stringAt doc at ≡ got (record { start = at + 2; size = n; count = 0; next = at + 2 + n }) → Ends doc at r
-string-ends doc at n r e g h =
-    let k : n ≡ r - (at + 2) = omega arith in
-    (g ∙ ap (λ m. got (record { start = at + 2; size = m; count = 0; next = at + 2 + n })) k ∙ ap (λ m. got (record { start = at + 2; size = r - (at + 2); count = 0; next = m })) (sym e), omega arith)
 
 -- a container's own record, written before those in it
 pub held-table : (n : ℕ) {doc : List ℕ} {cap : ℕ} {o : Out Inside} {at′ n′ count inner at : ℕ} {t t₁ : List ℕ}

@@ -1,20 +1,16 @@
--- What the contracts of this crate cite: each enum of the code as the definitions' answer, and what a step leaves in the table.
+-- What the contracts of this crate cite: the public answer as the definition's, and what a step leaves in the table.
 -- Assumes nothing.
-use Prim.Native.Nat.{ℕ, _+_, _-_, _*_, _≤_, _<_, _^_}
+use Prim.Native.Nat.{ℕ, _+_, _*_, _≤_, _<_, _^_}
 use mathlib.Core.Path.{_≡_}
-use mathlib.Core.List.{List, [], _∷_}
-use lib.ListN.{length, replicate, take}
+use mathlib.Core.List.{List}
+use lib.ListN.{length, take}
 use mathlib.Core.Bool.{Bool, not}
 use Rattle.form.specs.Answer.{Out, got, no, _>>_, guard}
 use Rattle.siblings.specs.Holding.{Holds}
 use Rattle.siblings.specs.Lists.{Family}
-use Rattle.form.specs.Table.{Head, Forest, none, node, size, width, words, wrote}
-use Rattle.form.specs.Reading.{Span, Entry, end, named, ListHead, One, Inside, Run, Counts, stringAt}
+use Rattle.form.specs.Table.{none, node, size, width, wrote}
+use Rattle.form.specs.Reading.{One, Inside, Run, Counts}
 use Rattle.reader.specs.declared.Answer.{Answer}
-use Rattle.reader.specs.declared.Num.{Num}
-use Rattle.reader.specs.declared.Part.{Part}
-use Rattle.reader.specs.declared.Start.{Start}
-use Rattle.reader.specs.declared.Item.{Item}
 use Rattle.reader.specs.declared.Step.{Step}
 use Rattle.reader.specs.declared.Kids.{Kids}
 use Rattle.reader.specs.declared.Ran.{Ran}
@@ -23,27 +19,6 @@ use Rattle.reader.specs.declared.Ran.{Ran}
 abbrev pub readOut : Answer → Out Counts
 readOut (Answer.Accepted c n) = got (record { consumed = c; records = n })
 readOut (Answer.Refused n p) = no n p
-
-abbrev pub numOut : Num → Out ℕ
-numOut (Num.Is n) = got n
-numOut (Num.Short p) = no 1 p
-
-abbrev pub partOut : Part → Out Span
-partOut (Part.Is s l c x) = got (record { start = s; size = l; count = c; next = x })
-partOut (Part.No n p) = no n p
-
-abbrev pub startOut : Start → Out ListHead
-startOut (Start.Is k n) = got (record { kind = k; count = n })
-startOut (Start.No n p) = no n p
-
-abbrev pub itemOut : Item → Out Entry
-itemOut Item.End = got end
-itemOut (Item.Named k s l x) = got (named k (record { start = s; size = l; count = 0; next = x }))
-itemOut (Item.No n p) = no n p
-
--- a place that is not 0 is that behind the string at `at`
-abbrev pub Ends : List ℕ → ℕ → ℕ → Type 0
-Ends doc at r = 0 < r → (stringAt doc at ≡ got (record { start = at + 2; size = r - (at + 2); count = 0; next = r })) × (at + 2 ≤ r)
 
 -- what the functions below the public one require
 pub record Ready (doc table : List ℕ) (cap at n : ℕ) : Type 0 where

@@ -1,58 +1,25 @@
-// Rules 3 to 6: a document read into a table of records. Each function has the name of the definition in form/specs/Reading.antt that
-// it meets; io.rs of the crate reads in the same order.
+// Rules 3 to 6: a document read into a table of records, field by field. Each function has the name of the definition in
+// form/specs/Reading.antt that it meets; io.rs of the crate reads in the same order.
 ghost use mathlib.Core.Path.{_≡_};
-ghost use Prim.Native.Nat.{ℕ, suc, _+_, _*_, _≤_, _<_, _^_};
-ghost use lib.ListN.{length, replicate, getD};
-ghost use Rattle.form.specs.Table.{none, holds, widthOf};
-ghost use Rattle.form.specs.Spans.{over, same, part};
-ghost use Rattle.siblings.specs.Holding.{among, Holds};
-ghost use Rattle.form.specs.Reading.{ReadIs, numberAt, bytesAt, stringAt, arrayAt, leafAt, leafOne, listHeadAt, entryAt, payloadBy, insideAt, containerAt, listAt, compoundAt, documentAt, roomOf, elements as elementsOf, entries as entriesOf};
-ghost use Rattle.reader.specs.Steps.{readOut, numOut, partOut, startOut, itemOut, Ends, Ready, Named, Stepped, Held, Went, Known, Settled, Finished, Spoiled};
+ghost use Prim.Native.Nat.{ℕ, suc, _+_, _≤_, _<_};
+ghost use lib.ListN.{length, replicate};
+ghost use Rattle.form.specs.Table.{none};
+ghost use Rattle.form.specs.Spans.{part};
+ghost use Rattle.form.specs.Reading.{ReadIs, leafOne, payloadBy, insideAt, listAt, documentAt, roomOf, elements as elementsOf, entries as entriesOf};
+ghost use Rattle.siblings.specs.Holding.{among};
 ghost use Rattle.siblings.specs.Names.{firstRepeat};
 ghost use Rattle.siblings.specs.Forests.{refusalOf};
+ghost use Rattle.reader.specs.Steps.{readOut, Ready, Named, Stepped, Held, Went, Known, Settled, Finished, Spoiled};
+use fields::Item;
+use fields::Part;
+use fields::Start;
+use fields::wide;
 use siblings::Found;
 
 // The answer to a read: the bytes consumed and the records written, or the number and the place of the refusal.
 pub enum Answer {
     Accepted { consumed: usize, records: usize },
     Refused { number: u8, place: usize },
-}
-
-enum Num {
-    Is(usize),
-    Short(usize),
-}
-
-enum Part {
-    Is {
-        start: usize,
-        len: usize,
-        count: usize,
-        next: usize,
-    },
-    No {
-        number: u8,
-        place: usize,
-    },
-}
-
-enum Start {
-    Is { kind: u8, count: usize },
-    No { number: u8, place: usize },
-}
-
-enum Item {
-    End,
-    Named {
-        kind: u8,
-        start: usize,
-        len: usize,
-        next: usize,
-    },
-    No {
-        number: u8,
-        place: usize,
-    },
 }
 
 enum Step {
@@ -78,259 +45,6 @@ enum Ran {
     No { number: u8, place: usize },
 }
 
-fn wide(x: u8) -> usize
-    ensures { λ r. ⌜ r ≡ x ⌝ }
-{
-    x as usize
-}
-
-// The big-endian number in the n bytes at `at`.
-fn number(doc: &[u8], n: usize, at: usize) -> Num
-    requires { ⌜ (n ≤ 4) × (at ≤ length (now doc)) ⌝ }
-    ensures { λ r. ⌜ numOut r ≡ numberAt (now (doc .entry)) n at ⌝ }
-{
-    if doc.len() - at < n {
-        return Num::Short(at);
-    }
-    Num::Is(raw::number_at(doc, at, n) as usize)
-}
-
-// The n bytes at `at`.
-fn bytes_at(doc: &[u8], n: usize, count: usize, at: usize) -> Part
-    requires { ⌜ at ≤ length (now doc) ⌝ }
-    ensures { λ r. ⌜ partOut r ≡ bytesAt (now (doc .entry)) n count at ⌝ }
-{
-    if doc.len() - at < n {
-        return Part::No {
-            number: form::DATA_ENDS,
-            place: at,
-        };
-    }
-    Part::Is {
-        start: at,
-        len: n,
-        count,
-        next: at + n,
-    }
-}
-
-// A string: its length, its content (1), which is well formed (4).
-fn string_at(doc: &[u8], at: usize) -> Part
-    requires { ⌜ at ≤ length (now doc) ⌝ }
-    ensures { λ r. ⌜ partOut r ≡ stringAt (now (doc .entry)) at ⌝ }
-{
-    match number(doc, 2, at) {
-        Num::Short(p) => Part::No {
-            number: form::DATA_ENDS,
-            place: p,
-        },
-        Num::Is(n) => {
-            let start = at + 2;
-            if doc.len() - start < n {
-                return Part::No {
-                    number: form::DATA_ENDS,
-                    place: start,
-                };
-            }
-            let end = start + n;
-            if !mutf8::is_well_formed(&doc[start..end]) {
-                return Part::No {
-                    number: form::BAD_STRING,
-                    place: start,
-                };
-            }
-            Part::Is {
-                start,
-                len: n,
-                count: 0,
-                next: end,
-            }
-        }
-    }
-}
-
-// The place behind a string that is accepted, as nearly all are; else 0, and `string_at` says why not.
-fn string_end(doc: &[u8], at: usize) -> usize
-    requires { ⌜ at ≤ length (now doc) ⌝ }
-    ensures { λ r. ⌜ Ends (now (doc .entry)) at r ⌝ }
-{
-    if doc.len() - at < 2 {
-        return 0;
-    }
-    let start = at + 2;
-    let n = raw::number_at(doc, at, 2) as usize;
-    if doc.len() - start < n {
-        return 0;
-    }
-    let end = start + n;
-    if mutf8::is_well_formed(&doc[start..end]) {
-        return end;
-    }
-    0
-}
-
-// An array: its count (1, 5), then its elements as one field (1).
-fn array_at(doc: &[u8], w: usize, at: usize) -> Part
-    requires { ⌜ (w ≤ 8) × (at ≤ length (now doc)) ⌝ }
-    ensures { λ r. ⌜ partOut r ≡ arrayAt (now (doc .entry)) w at ⌝ }
-{
-    match number(doc, 4, at) {
-        Num::Short(p) => Part::No {
-            number: form::DATA_ENDS,
-            place: p,
-        },
-        Num::Is(n) => {
-            if n < BELOW_ZERO {
-                bytes_at(doc, n * w, n, at + 4)
-            } else {
-                Part::No {
-                    number: form::NEGATIVE_COUNT,
-                    place: at,
-                }
-            }
-        }
-    }
-}
-
-// A count's four bytes from here on are below 0 as an i32.
-const BELOW_ZERO: usize = 2147483648;
-
-// How many bytes kinds 1 to 6 take, and an element of kinds 7, 11 and 12 (rule 4).
-fn width_of(kind: u8) -> usize
-    requires { ⌜ kind ≤ 12 ⌝ }
-    ensures { λ r. ⌜ (r ≡ widthOf kind) × (r ≤ 8) ⌝ }
-{
-    table::width_of(wide(kind))
-}
-
-// A payload that holds no records.
-fn leaf_at(doc: &[u8], kind: u8, at: usize) -> Part
-    requires { ⌜ (kind ≤ 12) × (at ≤ length (now doc)) ⌝ }
-    ensures { λ r. ⌜ partOut r ≡ leafAt (now (doc .entry)) kind at ⌝ }
-{
-    if kind < 7 {
-        bytes_at(doc, width_of(kind), 0, at)
-    } else if kind == 8 {
-        string_at(doc, at)
-    } else {
-        array_at(doc, width_of(kind), at)
-    }
-}
-
-// A list's kind and count.
-fn list_head(doc: &[u8], at: usize) -> Start
-    requires { ⌜ at ≤ length (now doc) ⌝ }
-    ensures { λ r. ⌜ startOut r ≡ listHeadAt (now (doc .entry)) at ⌝ }
-{
-    if doc.len() <= at {
-        return Start::No {
-            number: form::DATA_ENDS,
-            place: at,
-        };
-    }
-    let kind = doc[at];
-    match number(doc, 4, at + 1) {
-        Num::Short(p) => Start::No {
-            number: form::DATA_ENDS,
-            place: p,
-        },
-        Num::Is(n) => {
-            if 12 < kind {
-                return Start::No {
-                    number: form::TAG_ID,
-                    place: at,
-                };
-            }
-            if n == 0 {
-                return Start::Is { kind: 0, count: 0 };
-            }
-            if kind == 0 {
-                return Start::No {
-                    number: form::TAG_ID,
-                    place: at,
-                };
-            }
-            if n < BELOW_ZERO {
-                Start::Is { kind, count: n }
-            } else {
-                Start::No {
-                    number: form::NEGATIVE_COUNT,
-                    place: at + 1,
-                }
-            }
-        }
-    }
-}
-
-// An entry of some kind, whose name is judged step by step.
-fn named(doc: &[u8], kind: u8, at: usize) -> Item
-    requires { ⌜ (at < length (now doc)) × (kind ≡ getD (now doc) at 0) × (kind ≡ 0 → ⊥) ⌝ }
-    ensures { λ r. ⌜ itemOut r ≡ entryAt (now (doc .entry)) at ⌝ }
-{
-    match string_at(doc, at + 1) {
-        Part::No { number, place } => Item::No { number, place },
-        Part::Is {
-            start,
-            len,
-            count: _,
-            next,
-        } => {
-            if 12 < kind {
-                return Item::No {
-                    number: form::TAG_ID,
-                    place: at,
-                };
-            }
-            Item::Named {
-                kind,
-                start,
-                len,
-                next,
-            }
-        }
-    }
-}
-
-// An entry's kind and name, or a compound's end.
-fn entry_at(doc: &[u8], at: usize) -> Item
-    requires { ⌜ at ≤ length (now doc) ⌝ }
-    ensures { λ r. ⌜ itemOut r ≡ entryAt (now (doc .entry)) at ⌝ }
-{
-    if doc.len() <= at {
-        return Item::No {
-            number: form::DATA_ENDS,
-            place: at,
-        };
-    }
-    let kind = doc[at];
-    if kind == 0 {
-        return Item::End;
-    }
-    let next = string_end(doc, at + 1);
-    if next == 0 {
-        return named(doc, kind, at);
-    }
-    if 12 < kind {
-        return Item::No {
-            number: form::TAG_ID,
-            place: at,
-        };
-    }
-    Item::Named {
-        kind,
-        start: at + 3,
-        len: next - (at + 3),
-        next,
-    }
-}
-
-// Whether a kind holds records.
-fn is_container(kind: u8) -> bool
-    ensures { λ r. ⌜ r ≡ holds kind ⌝ }
-{
-    table::is_container(wide(kind))
-}
-
 // A payload of kinds 1 to 6, read and written as record ix.
 fn fixed(
     doc: &[u8],
@@ -345,7 +59,7 @@ fn fixed(
     requires { ⌜ (Named (now doc) (now table) cap at ix kind name «name_len») × (ix < cap) × (kind < 7) ⌝ }
     ensures { λ r. ⌜ Stepped (now (doc .entry)) cap (leafOne (now (doc .entry)) kind name «name_len» at) at ix (now (table .entry)) (now (table .exit)) r ⌝ }
 {
-    let width = width_of(kind);
+    let width = fields::width_of(kind);
     if doc.len() - at < width {
         return Step::No {
             number: form::DATA_ENDS,
@@ -377,7 +91,7 @@ fn leaf(
     requires { ⌜ (Named (now doc) (now table) cap at ix kind name «name_len») × (ix < cap) ⌝ }
     ensures { λ r. ⌜ Stepped (now (doc .entry)) cap (leafOne (now (doc .entry)) kind name «name_len» at) at ix (now (table .entry)) (now (table .exit)) r ⌝ }
 {
-    match leaf_at(doc, kind, at) {
+    match fields::leaf_at(doc, kind, at) {
         Part::No { number, place } => Step::No { number, place },
         Part::Is {
             start,
@@ -440,7 +154,7 @@ fn larger(
     requires { ⌜ (Named (now doc) (now table) cap at ix kind name «name_len») × (ix < cap) ⌝ }
     ensures { λ r. ⌜ Stepped (now (doc .entry)) cap (payloadBy (now (doc .entry)) cap (insideAt (now (doc .entry)) cap depth) kind name «name_len» at ix) at ix (now (table .entry)) (now (table .exit)) r ⌝ }
 {
-    if !is_container(kind) {
+    if !fields::is_container(kind) {
         return leaf(doc, kind, name, name_len, at, table, cap, ix);
     }
     match inside(doc, kind, at, depth, table, cap, ix + 1) {
@@ -503,7 +217,7 @@ fn list(doc: &[u8], at: usize, depth: usize, table: &mut [u32], cap: usize, ix: 
     requires { ⌜ Ready (now doc) (now table) cap at ix ⌝ }
     ensures { λ r. ⌜ Held (now (doc .entry)) cap (listAt (now (doc .entry)) (payloadBy (now (doc .entry)) cap (insideAt (now (doc .entry)) cap depth)) at ix) at ix (now (table .entry)) (now (table .exit)) r ⌝ }
 {
-    match list_head(doc, at) {
+    match fields::list_head(doc, at) {
         Start::No { number, place } => Kids::No { number, place },
         Start::Is { kind, count } => match elements(
             doc,
@@ -626,7 +340,7 @@ fn entries(doc: &[u8], at: usize, depth: usize, table: &mut [u32], cap: usize, i
     let mut next = ix;
     let mut count: usize = 0;
     loop {
-        match entry_at(doc, here) {
+        match fields::entry_at(doc, here) {
             Item::No { number, place } => return settle(doc, table, ix, next, number, place),
             Item::End => return finish(doc, table, ix, next, here + 1, count),
             Item::Named {
@@ -692,7 +406,7 @@ fn document(doc: &[u8], table: &mut [u32]) -> Step
     }
     let kind = doc[0];
     if kind == 10 {
-        match string_at(doc, 1) {
+        match fields::string_at(doc, 1) {
             Part::No { number, place } => Step::No { number, place },
             Part::Is {
                 start,
@@ -710,7 +424,7 @@ fn document(doc: &[u8], table: &mut [u32]) -> Step
 }
 
 // All words to 0.
-fn clear(table: &mut [u32])
+pub fn clear(table: &mut [u32])
     ensures { λ _. ⌜ now (table .exit) ≡ replicate (length (now (table .entry))) 0 ⌝ }
 {
     let mut i: usize = 0;

@@ -1,5 +1,8 @@
 -- Right since what is all plain is good, and else `judge` has the verdict.
 use borrow.Author.Needs.{needs}
+use Rattle.form.specs.Answer.{badString}
+use Rattle.mutf8.specs.declared.Checked.{Checked}
+use Rattle.mutf8.proofs.Walks.{checked-is}
 use Rattle.mutf8.proofs.Alike.{plain-good}
 use Rattle.mutf8.proofs.check.Statement.{statement}
 use Rattle.mutf8.proofs.check.Tie as tie
@@ -9,6 +12,6 @@ check-spec =
     tie.close
     (tie.spec
     (λ c κs. search needs)  -- is-plain-requires
-    (λ c. plain-good _ (c .before .is-plain .ensures (c .if1 .taken)))  -- returns
+    (λ c. checked-is badString Checked.Good (plain-good _ (c .before .is-plain .ensures (c .if1 .taken))))  -- returns
     (λ c κs. search needs)  -- judge-requires
-    (λ c. search needs))  -- returns-2
+    (λ c. checked-is badString (c .judge .result) (c .judge .ensures)))  -- returns-2

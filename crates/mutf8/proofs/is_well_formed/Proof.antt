@@ -1,7 +1,7 @@
 -- Right since what is all plain is well formed, and else `judge` gives the computed verdict.
 use borrow.Author.Needs.{needs}
 use Rattle.mutf8.proofs.Alike.{plain-well}
-use Rattle.mutf8.proofs.Fronts.{judged-by}
+use Rattle.mutf8.proofs.Walks.{judged-by}
 use Rattle.mutf8.proofs.is_well_formed.Statement.{statement}
 use Rattle.mutf8.proofs.is_well_formed.Tie as tie
 

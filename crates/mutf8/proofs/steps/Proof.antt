@@ -6,7 +6,7 @@ use lib.ListN.{length}
 use Rattle.form.specs.Decoding.{scalarOf}
 use Rattle.form.proofs.Scalars.{mutf8}
 use Rattle.mutf8.specs.Runs.{Walked, none}
-use Rattle.mutf8.proofs.Fronts.{told}
+use Rattle.chars.proofs.Fronts.{told}
 use Rattle.mutf8.proofs.Walks.{common-scalar, walked-more, reach}
 use Rattle.mutf8.proofs.Alike.{walked-plain}
 use Rattle.mutf8.proofs.steps.Statement.{statement}

@@ -6,7 +6,7 @@ use lib.ListN.{length}
 use Rattle.form.specs.Decoding.{utf8Of}
 use Rattle.form.proofs.Utf8.{utf8}
 use Rattle.mutf8.specs.Runs.{Walked, none}
-use Rattle.mutf8.proofs.Fronts.{told}
+use Rattle.chars.proofs.Fronts.{told}
 use Rattle.mutf8.proofs.Walks.{common-utf8, walked-more, reach}
 use Rattle.mutf8.proofs.Alike.{walked-plain}
 use Rattle.mutf8.proofs.utf8_steps.Statement.{statement}

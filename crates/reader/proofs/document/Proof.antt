@@ -7,16 +7,12 @@ use Rattle.form.specs.Answer.{got}
 use Rattle.form.specs.Reading.{Span, stringAt}
 use Rattle.form.proofs.Fields.{string-within}
 use Rattle.form.proofs.Payloads.{document-long, document-none, document-kind, document-no, document-got, room-le, room-fits}
-use Rattle.reader.specs.Steps.{partOut}
+use Rattle.fields.specs.Answers.{partOut}
 use Rattle.reader.proofs.Steps.{stepped-from}
 use Prim.Native.Nat.{_≤_}
 use lib.ListN.{length}
 use Rattle.reader.proofs.document.Statement.{statement}
 use Rattle.reader.proofs.document.Tie as tie
-use Rattle.reader.proofs.document.Reads as reads
-use Rattle.reader.proofs.document.Lts as lts
-use Rattle.reader.proofs.root.Reads as root-reads
-use Rattle.reader.proofs.string_at.Reads as string-at-reads
 
 -- the root's name
 abbrev span : tie.After-known-told2 → Span

@@ -5,18 +5,12 @@ use native.Mathlib.Omega.{arith}
 use mathlib.Core.Path.{_≡_, refl, sym, ap, _∙_}
 use Rattle.form.specs.Answer.{got}
 use Rattle.form.specs.Reading.{Span, leafAt}
-use Rattle.form.proofs.Fields.{Leaf, leaf-within}
+use Rattle.form.proofs.Fields.{leaf-within}
 use Rattle.form.proofs.Payloads.{leaf-one-no, leaf-one-got}
 use Rattle.form.proofs.Table.{size-none, wrote-leaf}
-use Rattle.reader.specs.Steps.{partOut}
+use Rattle.fields.specs.Answers.{partOut}
 use Rattle.reader.proofs.leaf.Statement.{statement}
 use Rattle.reader.proofs.leaf.Tie as tie
-use Rattle.reader.proofs.leaf.Reads as reads
-use Rattle.reader.proofs.leaf.Lts as lts
-use Rattle.reader.proofs.leaf_at.Reads as leaf-at-reads
-use Rattle.table.proofs.leaf.Reads as table-leaf-reads
-use Rattle.table.proofs.put.Reads as put-reads
-use Rattle.reader.proofs.wide.Reads as wide-reads
 
 -- the span that was read
 abbrev span : tie.After-known-told2 → Span

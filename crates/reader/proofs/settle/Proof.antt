@@ -4,37 +4,27 @@ use Rattle.reader.proofs.Steps.{settled-at, settled-none}
 use borrow.Author.Needs.{needs}
 use Rattle.reader.proofs.settle.Statement.{statement}
 use Rattle.reader.proofs.settle.Tie as tie
-use Rattle.reader.proofs.settle.Reads as reads
-use Rattle.reader.proofs.settle.Lts as lts
-use Rattle.siblings.proofs.repeat_place.Reads as repeat-place-reads
 
--- src/lib.rt:588:11
 repeat-place-requires : tie.Need-repeat-place-requires
 repeat-place-requires c κs = search needs
 
--- src/lib.rt:589:19
 enum-known-p : tie.Need-enum-known-p
 enum-known-p c = search needs
 
--- src/lib.rt:593:27
 enum-told : tie.Need-enum-told
 enum-told c = search needs
 
--- src/lib.rt:584:1
 same-length : tie.Need-same-length
 same-length c = search needs
 
--- src/lib.rt:584:1
 returns : tie.Need-returns
 returns c =
     let f = c .before .before .before .before .before in
     (settled-at _ _ _ _ (rw (c .before .p .given .1) at (f .repeat-place .ensures .0)), f .repeat-place .ensures .1)
 
--- src/lib.rt:584:1
 same-length-2 : tie.Need-same-length-2
 same-length-2 c = search needs
 
--- src/lib.rt:584:1
 returns-2 : tie.Need-returns-2
 returns-2 c =
     let f = c .before .before .before .before in

@@ -1,11 +1,10 @@
 -- What `elements` leaves to show. The invariant: the records so far, then the elements left, are the whole.
 -- Assumes nothing.
-use Rattle.siblings.proofs.Kept.{kept-less, kept-from}
-use Prim.Native.Nat.{ℕ, _+_, _*_, _-_, _≤_, _<_}
+use Rattle.siblings.proofs.Kept.{kept-from}
+use Prim.Native.Nat.{ℕ, _-_, _≤_}
 use mathlib.Core.List.{List}
-use mathlib.Core.Path.{_≡_, refl, sym, ap, _∙_}
+use mathlib.Core.Path.{_≡_, refl, _∙_}
 use native.Mathlib.Omega.{arith}
-use borrow.Author.Needs.{needs}
 use borrow.Fn.Kinds.{In, Out}
 use lib.ListN.{length}
 use Rattle.form.specs.Reading.{Reader, elements as elementsOf, payloadBy, insideAt}

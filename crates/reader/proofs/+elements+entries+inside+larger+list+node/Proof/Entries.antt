@@ -5,25 +5,24 @@ use Prim.Native.Nat.{ℕ, suc, _+_, _*_, _-_, _≤_, _<_}
 use mathlib.Core.List.{List}
 use mathlib.Core.Path.{_≡_, refl, sym, ap, _∙_}
 use native.Mathlib.Omega.{arith}
-use borrow.Author.Needs.{needs}
 use borrow.Fn.Kinds.{In, Out}
 use lib.ListN.{length, take}
 use Rattle.form.specs.Answer.{got, no}
-use Rattle.form.specs.Reading.{Reader, Span, end, named, hasName, entryAt, entries as entriesOf, payloadBy, insideAt}
-use Rattle.form.specs.Spans.{part}
+use Rattle.form.specs.Reading.{Reader, Span, end, named, entryAt, entries as entriesOf, payloadBy, insideAt}
 use Rattle.form.proofs.Fields.{Within, entry-within, entry-in}
 use Rattle.form.specs.Table.{Forest, none}
-use Rattle.siblings.specs.Holding.{NamesIn, Holds}
+use Rattle.siblings.specs.Holding.{Holds}
 use Rattle.siblings.proofs.Holding.{among-is}
 use Rattle.form.proofs.Payloads.{payload-name}
 use Rattle.siblings.proofs.Kept.{wrote-kept, kept-from, kept-wrote, payload-free}
 use Rattle.siblings.proofs.Forests.{family-of, once-of}
 use Rattle.siblings.proofs.Deferred.{Going, going-start, going-length, going-next, deferred-head-no, deferred-end, deferred-no, deferred-next, entry-start}
-use Rattle.reader.specs.Steps.{itemOut, Known, Kept}
+use Rattle.fields.specs.Answers.{itemOut}
+use Rattle.reader.specs.Steps.{Known, Kept}
 use Rattle.reader.proofs.Steps.{stepped-no, settled-went, spoiled-went, finished-went}
 use Rattle.reader.proofs.entries.Reads as entries
 use Rattle.reader.proofs.entries.Kinds as kinds
-use Rattle.reader.proofs.entry_at.Reads as entry-at
+use Rattle.fields.proofs.entry_at.Reads as entry-at
 use Rattle.reader.proofs.settle.Reads as settle
 use Rattle.reader.proofs.finish.Reads as finish
 use Rattle.reader.proofs.spoiled.Reads as spoiled

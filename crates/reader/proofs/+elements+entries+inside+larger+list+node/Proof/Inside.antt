@@ -1,9 +1,8 @@
 -- What `inside` leaves to show.
 -- Assumes nothing.
-use Prim.Native.Nat.{ℕ, _+_, _*_, _-_, _≤_, _<_}
-use mathlib.Core.Path.{_≡_, refl, sym, ap, _∙_}
+use Prim.Native.Nat.{ℕ, _-_}
+use mathlib.Core.Path.{refl, _∙_}
 use native.Mathlib.Omega.{arith}
-use borrow.Author.Needs.{needs}
 use borrow.Fn.Kinds.{In, Out}
 use Rattle.form.proofs.Payloads.{inside-deep, inside-list, inside-compound, compound-no, compound-got}
 use Rattle.form.proofs.Table.{width-le-size}

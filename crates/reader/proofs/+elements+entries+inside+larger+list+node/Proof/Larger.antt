@@ -1,22 +1,21 @@
 -- What `larger` leaves to show.
 -- Assumes nothing.
 use Rattle.siblings.proofs.Kept.{kept-less}
-use Prim.Native.Nat.{ℕ, _+_, _*_, _-_, _≤_, _<_}
-use mathlib.Core.Path.{_≡_, refl, sym, ap, _∙_}
+use Prim.Native.Nat.{ℕ, _+_, _-_}
+use mathlib.Core.Path.{_≡_, sym, _∙_}
 use native.Mathlib.Omega.{arith}
-use borrow.Author.Needs.{needs}
 use borrow.Fn.Kinds.{In, Out}
 use Rattle.form.proofs.Payloads.{payload-leaf, payload-no, payload-got}
 use Rattle.reader.proofs.Steps.{held-table}
 use Rattle.form.specs.Table.{holds}
 use borrow.Author.Tests.{not-true, not-false}
-use mathlib.Core.Bool.{true, false}
+use mathlib.Core.Bool.{true}
 use Rattle.reader.proofs.larger.Reads as larger
 use Rattle.reader.proofs.larger.Kinds as kinds
 use Rattle.reader.proofs.inside.Reads as inside
-use Rattle.reader.proofs.is_container.Reads as is-container
+use Rattle.fields.proofs.is_container.Reads as is-container
 use Rattle.reader.proofs.leaf.Reads as leaf
-use Rattle.reader.proofs.wide.Reads as wide
+use Rattle.fields.proofs.wide.Reads as wide
 use Rattle.table.proofs.container.Reads as container
 use Rattle.table.proofs.put.Reads as put
 use Rattle.reader.proofs.+elements+entries+inside+larger+list+node.Lts-larger as lts

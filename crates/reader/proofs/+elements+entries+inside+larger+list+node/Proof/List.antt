@@ -1,18 +1,17 @@
 -- What `list` leaves to show.
 -- Assumes nothing.
-use Prim.Native.Nat.{ℕ, _+_, _*_, _-_, _≤_, _<_}
+use Prim.Native.Nat.{ℕ, _-_}
 use mathlib.Core.Path.{_≡_, refl, sym, ap, _∙_}
 use native.Mathlib.Omega.{arith}
-use borrow.Author.Needs.{needs}
 use borrow.Fn.Kinds.{In, Out}
 use Rattle.form.specs.Answer.{got}
 use Rattle.form.specs.Reading.{listHeadAt}
 use Rattle.form.proofs.Fields.{list-head-within}
 use Rattle.form.proofs.Payloads.{list-head-no, list-no, list-got}
-use Rattle.reader.specs.Steps.{startOut}
+use Rattle.fields.specs.Answers.{startOut}
 use Rattle.reader.proofs.list.Reads as list
 use Rattle.reader.proofs.list.Kinds as kinds
-use Rattle.reader.proofs.list_head.Reads as list-head
+use Rattle.fields.proofs.list_head.Reads as list-head
 use Rattle.reader.proofs.elements.Reads as elements
 use Rattle.reader.proofs.+elements+entries+inside+larger+list+node.Lts-list as lts
 use Rattle.reader.proofs.+elements+entries+inside+larger+list+node.Proof.Common.{elements-below, list-at}

@@ -1,0 +1,2 @@
+-- Lemmas on plain values, for the proofs of this crate.
+mod Names

@@ -1,0 +1,42 @@
+-- Right since each way through the code is a law of the definition.
+-- Assumes nothing.
+use borrow.Author.Needs.{needs}
+use native.Mathlib.Omega.{arith}
+use mathlib.Core.Path.{sym, ap, _∙_}
+use Rattle.form.proofs.Fields.{entry-no, entry-kind, entry-got}
+use Rattle.fields.specs.Answers.{partOut}
+use Rattle.fields.proofs.Names.{named-as}
+use Rattle.fields.proofs.named.Statement.{statement}
+use Rattle.fields.proofs.named.Tie as tie
+
+returns : tie.Need-returns
+returns c =
+    let at-start = c .before .before in
+    let at-name = at-start .before .before in
+    let p = at-name .before .before .pre in
+    sym (entry-kind _ _ (p .0) (λ z. p .2 (p .1 ∙ z)) (sym (at-name .string-at .ensures) ∙ ap partOut (at-start .start .given .1)) (omega (arith, p .1, c .if1 .taken)))
+
+returns-2 : tie.Need-returns-2
+returns-2 c =
+    let at-name = c .before .before .before in
+    let p = at-name .before .before .pre in
+    sym (entry-no _ _ (p .0) (λ z. p .2 (p .1 ∙ z)) (sym (at-name .string-at .ensures) ∙ ap partOut (c .before .number .given .1)))
+
+returns-3 : tie.Need-returns-3
+returns-3 c =
+    let at-start = c .before .before in
+    let at-name = at-start .before .before in
+    let p = at-name .before .before .pre in
+    named-as _ _ _ _ _ _ _ (p .1) (entry-got _ _ (p .0) (λ z. p .2 (p .1 ∙ z)) (sym (at-name .string-at .ensures) ∙ ap partOut (at-start .start .given .1)) (omega (arith, p .1, c .if1 .left)))
+
+pub named-spec : {M : Type 1} → statement M
+named-spec =
+    tie.close
+    (tie.spec
+    (λ c. search needs)  -- add-string-at
+    (λ c κs. search needs)  -- string-at-requires
+    (λ c. search needs)  -- enum-known-number
+    (λ c. search needs)  -- enum-known-start
+    returns
+    returns-2
+    returns-3)

@@ -1,0 +1,36 @@
+-- What the answers of this crate mean: each of its enums as the answer of the definitions of rules 3 to 5.
+-- Assumes nothing.
+use Prim.Native.Nat.{ℕ, _+_, _-_, _≤_, _<_}
+use mathlib.Core.Path.{_≡_}
+use mathlib.Core.List.{List}
+use Rattle.form.specs.Answer.{Out, got, no, dataEnds}
+use Rattle.form.specs.Reading.{Span, Entry, end, named, ListHead, stringAt}
+use Rattle.fields.specs.declared.Num.{Num}
+use Rattle.fields.specs.declared.Part.{Part}
+use Rattle.fields.specs.declared.Start.{Start}
+use Rattle.fields.specs.declared.Item.{Item}
+
+-- A number, or refusal 1 where the data ends before it.
+abbrev pub numOut : Num → Out ℕ
+numOut (Num.Is n) = got n
+numOut (Num.Short p) = no dataEnds p
+
+-- A field's span, or the number and the place of its refusal.
+abbrev pub partOut : Part → Out Span
+partOut (Part.Is s l c x) = got (record { start = s; size = l; count = c; next = x })
+partOut (Part.No n p) = no n p
+
+-- A list's kind and count, or its refusal.
+abbrev pub startOut : Start → Out ListHead
+startOut (Start.Is k n) = got (record { kind = k; count = n })
+startOut (Start.No n p) = no n p
+
+-- A compound's end, an entry's kind and the span of its name, or its refusal.
+abbrev pub itemOut : Item → Out Entry
+itemOut Item.End = got end
+itemOut (Item.Named k s l x) = got (named k (record { start = s; size = l; count = 0; next = x }))
+itemOut (Item.No n p) = no n p
+
+-- A place that is not 0 is that behind the string at `at`.
+abbrev pub Ends : List ℕ → ℕ → ℕ → Type 0
+Ends doc at r = 0 < r → (stringAt doc at ≡ got (record { start = at + 2; size = r - (at + 2); count = 0; next = r })) × (at + 2 ≤ r)
