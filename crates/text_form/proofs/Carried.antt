@@ -3,7 +3,7 @@
 use Prim.Native.Nat.{ℕ, suc, _-_, _*_, _^_, _<_}
 use mathlib.Core.Bool.{Bool, true, false, not, _&&_}
 use mathlib.Core.List.{List, [], _∷_, _++_}
-use native.Mathlib.Omega.{arith}
+use mathlib.Core.Path.{refl}
 use lib.Dec.{T, leb, eqb}
 use lib.IntN.{ℤ, pos, negsuc, natAbs, _-ℤ_}
 use lib.ListN.{length}
@@ -14,7 +14,8 @@ use Rattle.form.specs.Answer.{Out, pick}
 use Rattle.form.specs.Numbers.{valuesIn}
 use Rattle.text_form.specs.Values.{nearestTo, scaled, toSingle}
 use Rattle.text_form.specs.Numbers.{Number, byte, short, int, long, float, double, isDigit, isPoint, isLetter, empty, has, before, behind, digits, worth, power, exponent, exponentIn, lastOf, butLast, stem, negative, unsigned, suffixed, wholeOf, wholeNumber, valueOf, decimalOf, decimal, realNumber, decimalNumber, number}
-use Rattle.text_form.proofs.Gives.{Gives, Any, gives-got, gives-no, gives-bind, gives-guard, gives-pick}
+use Rattle.text_form.specs.Lexing.{among}
+use Rattle.text_form.proofs.Gives.{ofNumber, Gives, Any, gives-got, gives-no, gives-bind, gives-guard, gives-pick}
 
 -- The double that a number carries, if it does, has a property.
 abbrev pub Carries : (Float → Type 0) → Number → Type 0
@@ -25,21 +26,23 @@ Carries P (long z) = Unit {0}
 Carries P (float x) = P x
 Carries P (double x) = P x
 
--- ---- whole numbers are refused with 18 alone
+-- ---- whole numbers and exponents
 
-whole-any : (s : Bool) (l : List ℕ) (place : ℕ) → Gives Any (wholeOf s l place)
-unfolding wholeOf
+whole-any : (s : Bool) (l : List ℕ) (place : ℕ) → Gives ofNumber Any (wholeOf s l place)
+unfolding wholeOf among
 whole-any s l place =
-    gives-guard (not (empty l) && digits l) _ _ _ (omega arith) (λ _. gives-guard (leb (worth 0 l) (pick s (2 ^ 63) (2 ^ 63 - 1))) _ _ _ (omega arith) (λ _. gives-got tt))
+    gives-guard (not (empty l) && digits l) _ _ _ refl (λ _. gives-guard (leb (worth 0 l) (pick s (2 ^ 63) (2 ^ 63 - 1))) _ _ _ refl (λ _. gives-got tt))
 
-power-any : (s : Bool) (l : List ℕ) (place : ℕ) → Gives Any (power s l place)
-power-any s l place = gives-guard (not (empty l) && digits l) _ _ _ (omega arith) (λ _. gives-got tt)
+power-any : (s : Bool) (l : List ℕ) (place : ℕ) → Gives ofNumber Any (power s l place)
+unfolding among
+power-any s l place = gives-guard (not (empty l) && digits l) _ _ _ refl (λ _. gives-got tt)
 
-exponent-any : (l : List ℕ) (place : ℕ) → Gives Any (exponentIn l place)
+exponent-any : (l : List ℕ) (place : ℕ) → Gives ofNumber Any (exponentIn l place)
+unfolding among
 exponent-any l place = gives-pick (has (isLetter 101) l) (λ _. go (behind (isLetter 101) l)) (λ _. gives-got tt)
   where
-    go : (k : List ℕ) → Gives Any (exponent k place)
-    go [] = gives-no (omega arith)
+    go : (k : List ℕ) → Gives ofNumber Any (exponent k place)
+    go [] = gives-no refl
     go (b ∷ k) = gives-pick (eqb b 45) (λ _. power-any true k place) (λ _. gives-pick (eqb b 43) (λ _. power-any false k place) (λ _. power-any false (b ∷ k) place))
 
 -- ---- a property of roundings and of zeros
@@ -54,24 +57,26 @@ module _ (P : Float → Type 0) (rounded : (s : Bool) (a c : ℕ) → P (round b
   nearest-carries s w (pos k) = rounded s (w * 10 ^ k) 1
   nearest-carries s w (negsuc k) = rounded s w (10 ^ suc k)
 
-  scaled-carries : (s : Bool) (w : ℕ) (p : ℤ) (place : ℕ) → Gives P (scaled s w p place)
+  scaled-carries : (s : Bool) (w : ℕ) (p : ℤ) (place : ℕ) → Gives ofNumber P (scaled s w p place)
+  unfolding among
   scaled-carries s w p place =
-      gives-pick (eqb w 0) (λ _. gives-got (zeros s)) (λ _. gives-pick (leb w (2 ^ 53) && leb (natAbs p) 22) (λ _. gives-got (nearest-carries s w p)) (λ _. gives-no (omega arith)))
+      gives-pick (eqb w 0) (λ _. gives-got (zeros s)) (λ _. gives-pick (leb w (2 ^ 53) && leb (natAbs p) 22) (λ _. gives-got (nearest-carries s w p)) (λ _. gives-no refl))
 
-  value-carries : (s : Bool) (whole fraction : List ℕ) (exponent : Out ℤ) (place : ℕ) → Gives Any exponent → Gives P (valueOf s whole fraction exponent place)
+  value-carries : (s : Bool) (whole fraction : List ℕ) (exponent : Out ℤ) (place : ℕ) → Gives ofNumber Any exponent → Gives ofNumber P (valueOf s whole fraction exponent place)
+  unfolding among
   value-carries s whole fraction exponent place h =
       let l = whole ++ fraction in
-      gives-guard (not (empty l) && digits l) _ _ _ (omega arith)
+      gives-guard (not (empty l) && digits l) _ _ _ refl
       (λ _. gives-bind exponent (λ e. scaled s (worth 0 l) (e -ℤ pos (length fraction)) place) h (λ e _. scaled-carries s (worth 0 l) (e -ℤ pos (length fraction)) place))
 
-  decimal-carries : (s : Bool) (l : List ℕ) (place : ℕ) → Gives P (decimalOf s l place)
-  unfolding decimalOf
+  decimal-carries : (s : Bool) (l : List ℕ) (place : ℕ) → Gives ofNumber P (decimalOf s l place)
+  unfolding decimalOf among
   decimal-carries s l place =
       let r = behind isPoint l in
-      gives-guard (has isPoint l) _ _ _ (omega arith)
+      gives-guard (has isPoint l) _ _ _ refl
       (λ _. value-carries s (before isPoint l) (before (isLetter 101) r) (exponentIn r place) place (exponent-any r place))
 
-  real-carries : (single : Bool) (o : Out Float) → Gives P o → Gives (Carries P) (realNumber single o)
+  real-carries : (single : Bool) (o : Out Float) → Gives ofNumber P o → Gives ofNumber (Carries P) (realNumber single o)
   real-carries single o h = gives-bind o _ h (λ x k. gives-got (go single x k))
     where
       go : (b : Bool) (x : Float) → P x → Carries P (pick b (float x) (double x))
@@ -89,15 +94,15 @@ module _ (P : Float → Type 0) (rounded : (s : Bool) (a c : ℕ) → P (round b
       go false false false false true = whole-carries z
       go false false false false false = tt
 
-  pub number-carries : (l : List ℕ) (place : ℕ) → Gives (Carries P) (number l place)
-  unfolding number wholeNumber decimalNumber
+  pub number-carries : (l : List ℕ) (place : ℕ) → Gives ofNumber (Carries P) (number l place)
+  unfolding number wholeNumber decimalNumber among
   number-carries l place = gives-pick (has isPoint l)
       (λ _. gives-pick (isLetter 102 (lastOf l)) (λ _. real true (butLast l))
       (λ _. gives-pick (isLetter 100 (lastOf l)) (λ _. real false (butLast l))
-      (λ _. gives-pick (isDigit (lastOf l)) (λ _. real false l) (λ _. gives-no (omega arith)))))
+      (λ _. gives-pick (isDigit (lastOf l)) (λ _. real false l) (λ _. gives-no refl))))
       (λ _. gives-bind (wholeOf (negative (stem l)) (unsigned (stem l)) place) _ (whole-any (negative (stem l)) (unsigned (stem l)) place) (λ z _. gives-got (suffixed-carries (lastOf l) z)))
     where
-      real : (b : Bool) (k : List ℕ) → Gives (Carries P) (realNumber b (decimal k place))
+      real : (b : Bool) (k : List ℕ) → Gives ofNumber (Carries P) (realNumber b (decimal k place))
       real b k = real-carries b (decimal k place) (decimal-carries (negative k) (unsigned k) place)
 
 -- ---- bits
@@ -111,7 +116,7 @@ unfolding fits
 zero-held s = tt
 
 -- A double token's double is one that the format holds.
-pub number-held : (l : List ℕ) (place : ℕ) → Gives (Carries (Held binary64)) (number l place)
+pub number-held : (l : List ℕ) (place : ℕ) → Gives ofNumber (Carries (Held binary64)) (number l place)
 number-held = number-carries (Held binary64) (round-fits binary64) zero-held
 
 -- The single nearest to any double is held too.

@@ -1,6 +1,5 @@
 pub mod Values
+pub mod Nearest
 pub mod Numbers
 pub mod Lexing
 pub mod Text
-pub mod Marked
-pub mod Readings

@@ -3,10 +3,10 @@
 use Prim.Native.Nat.{ℕ, _+_, _-_, _*_, _^_}
 use mathlib.Core.Bool.{Bool, true, false, not, _&&_, _||_}
 use mathlib.Core.List.{List, [], _∷_, _++_}
-use lib.Dec.{leb, eqb}
+use lib.Dec.{T, leb, eqb}
 use lib.IntN.{ℤ, pos, _-ℤ_}
 use lib.ListN.{length, getD, take}
-use lib.Ieee.{Float, binary64, ofInt}
+use lib.Ieee.{Float, binary64, ofInt, isNan}
 use Rattle.form.specs.Answer.{Out, got, no, _>>=_, _>>_, guard, pick, badNumber}
 use Rattle.text_form.specs.Values.{signed, scaled}
 
@@ -18,6 +18,15 @@ pub data Number : Type 0 where
   long : ℤ → Number
   float : Float → Number
   double : Float → Number
+
+-- A double that a number carries is no NaN, so that its bits can be asked for (rule 13 gives none).
+abbrev pub noNan : Number → Type 0
+noNan (byte z) = Unit {0}
+noNan (short z) = Unit {0}
+noNan (int z) = Unit {0}
+noNan (long z) = Unit {0}
+noNan (float x) = T (not (isNan x))
+noNan (double x) = T (not (isNan x))
 
 -- ---- bytes
 

@@ -406,14 +406,14 @@ module _ (t : List ℕ) (room : ℕ) where
 abbrev pub documentOf : Block → Document
 documentOf b = record { name = []; root = b .entries }
 
--- The bytes of the text consumed through the root's `}`, and the length of the output.
+-- The bytes of the text consumed through the root's `}`, and the bytes written to the output.
 pub record Lengths : Type 0 where
   pub consumed : ℕ
-  pub length : ℕ
+  pub written : ℕ
 
 -- What a parse answers of these, or its refusal.
 abbrev pub lengthsOf : Out Block → Out Lengths
-lengthsOf (got b) = got (record { consumed = b .next; length = b .used })
+lengthsOf (got b) = got (record { consumed = b .next; written = b .used })
 lengthsOf (no n p) = no n p
 
 -- The output after a parse: the document's layout from 0 on and the rest as it was; after a refusal all zero.
