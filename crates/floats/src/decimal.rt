@@ -36,7 +36,7 @@ const TENS: [f64; 23] = [
 ];
 
 // 10^p, held exactly (rule 13).
-pub fn ten(p: usize) -> f64
+fn ten(p: usize) -> f64
     requires { ⌜ p ≤ 22 ⌝ }
     ensures { λ r. ⌜ HasValue r false (10 ^ p) 1 ⌝ }
 {

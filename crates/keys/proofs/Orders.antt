@@ -55,7 +55,7 @@ below-trans (x ∷ xs) (y ∷ ys) (z ∷ zs) e f = go (below-trans xs ys zs) (be
     go ih (inr h) (inl k) = below-head x z xs zs (omega (arith, h .0))
     go ih (inr h) (inr k) = rw (h .0 ∙ k .0, below-tail z xs zs) (ih (h .1) (k .1))
 
-below-self : (xs : List ℕ) → below xs xs ≡ false
+pub below-self : (xs : List ℕ) → below xs xs ≡ false
 unfolding below
 below-self [] = refl
 below-self (x ∷ xs) = rw (le-ltb x x (omega arith), eq-eqb x x refl) (below-self xs)

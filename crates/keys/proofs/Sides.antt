@@ -4,15 +4,16 @@ use Prim.Native.Nat.{ℕ, _+_, _-_, _≤_, _<_}
 use mathlib.Core.List.{List}
 use mathlib.Core.Bool.{true, false}
 use mathlib.Core.Logic.{_⊎_, inl, inr}
-use mathlib.Core.Path.{_≡_}
+use mathlib.Core.Path.{_≡_, refl, sym, ap, _∙_}
 use native.Mathlib.Omega.{arith}
 use lib.ListN.{getD}
 use Rattle.form.proofs.Picks.{lt-or}
 use Rattle.form.specs.Spans.{same}
 use Rattle.text_form.specs.Text.{known}
-use Rattle.keys.proofs.Orders.{below-trans, below-apart, above-apart}
+use Rattle.keys.proofs.Orders.{true-false, below-self, below-trans, below-apart, above-apart}
 use Rattle.keys.proofs.Names.{known-here, known-not}
-use Rattle.keys.specs.Keys.{nameAt, namesIn, below, Rising, Sides, FreeIn}
+use Rattle.keys.specs.Keys.{nameAt, namesIn, below, Rising, Sides, FreeIn, SpotIs}
+use Rattle.keys.specs.declared.Spot.{Spot}
 
 module _ {o k : List ℕ} {base top at : ℕ} (run : Rising o k base top at) (s : List ℕ) where
   pub sides-start : Sides o k base top s base top
@@ -79,3 +80,23 @@ module _ {o k : List ℕ} {base top at : ℕ} (run : Rising o k base top at) (s 
       go : (j : ℕ) → base ≤ j → j < top → (j < a) ⊎ (a ≤ j) → same (nameAt o (getD k j 0)) s ≡ false
       go j l m (inl p) = below-apart (nameAt o (getD k j 0)) s (sides .before j l p)
       go j l m (inr p) = above-apart s (nameAt o (getD k j 0)) (sides .behind j (omega arith) m)
+
+-- ---- one index
+
+-- a key belongs at no index before another at which it belongs
+sides-not : {o k : List ℕ} {base top : ℕ} {s : List ℕ} {i j : ℕ} → Sides o k base top s i i → Sides o k base top s j j → i < j → ⊥
+sides-not {o} {k} {base} {top} {s} {i} {j} a b h =
+    let n = nameAt o (getD k i 0) in
+    true-false (sym (below-trans s n s (a .behind i (omega arith) (omega (arith, b .high))) (b .before i (a .low) h)) ∙ below-self s)
+
+-- Two answers that the promise of `spot_of` allows are one.
+pub one-spot : (o k : List ℕ) (base top : ℕ) (s : List ℕ) (r r′ : Spot) → SpotIs o k base top s r → SpotIs o k base top s r′ → r ≡ r′
+one-spot o k base top s Spot.Taken Spot.Taken a b = refl
+one-spot o k base top s Spot.Taken (Spot.Free j) a b = true-false (sym a ∙ b .new)
+one-spot o k base top s (Spot.Free i) Spot.Taken a b = true-false (sym b ∙ a .new)
+one-spot o k base top s (Spot.Free i) (Spot.Free j) a b = go (lt-or i j) (lt-or j i)
+  where
+    go : (i < j) ⊎ (j ≤ i) → (j < i) ⊎ (i ≤ j) → Spot.Free i ≡ Spot.Free j
+    go (inl h) z = absurd (sides-not (a .sides) (b .sides) h)
+    go (inr h) (inl m) = absurd (sides-not (b .sides) (a .sides) m)
+    go (inr h) (inr m) = let e : i ≡ j = omega arith in ap Spot.Free e

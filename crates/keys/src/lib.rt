@@ -7,7 +7,7 @@ ghost use Prim.Native.Nat.{_+_, _-_, _≤_, _<_, min};
 ghost use lib.ListN.{length, take, drop};
 ghost use Rattle.form.specs.Spans.{part};
 ghost use Rattle.text_form.specs.Text.{known};
-ghost use Rattle.keys.specs.Keys.{sizeAt, nameAt, namesIn, OrderIs, Rising, FreeIn, SpotIn, jointOf, Runs, Kept, SpotIs, Comes, Added, Lifted, Merging};
+ghost use Rattle.keys.specs.Keys.{sizeAt, nameAt, namesIn, OrderIs, Rising, FreeIn, SpotIn, jointOf, Runs, Kept, SpotIs, putIn, Comes, Added, Lifted, Merging};
 
 // The order of two names.
 enum Order {
@@ -188,7 +188,8 @@ fn merge(out: &[u8], keys: &mut [u32], base: usize, mid: usize, n: usize) -> usi
 // full it is merged into the first.
 pub fn add(out: &[u8], keys: &mut [u32], base: usize, top: usize, index: usize, place: u32)
     requires { ⌜ Comes (now out) (now keys) base top index place ⌝ }
-    ensures { λ _. ⌜ Added (now (out .entry)) (now (keys .entry)) base top place (now (keys .exit)) ⌝ }
+    ensures is { λ _. ⌜ Added (now (out .entry)) (now (keys .entry)) base top place (now (keys .exit)) ⌝ }
+    ensures put { λ _. ⌜ ((top - jointOf base top ≡ 511 → ⊥) → now (keys .exit) ≡ putIn (now (keys .entry)) top index place) ⌝ }
 {
     put_in(keys, top, index, place);
     let mid = joint(base, top);

@@ -6,14 +6,13 @@ use mathlib.Core.List.{List}
 use Rattle.form.specs.Answer.{Out, got, no, _>>_, guard, badText}
 use Rattle.form.proofs.Answer.{got-no}
 use Rattle.text_form.specs.Lexing.{Stops, numeral, found, tokenAt, judgedText, onCharacter, lexed}
-use Rattle.text_form.specs.Numbers.{Number, float, double}
+use Rattle.text_form.specs.Numbers.{Number, float, double, noNan}
 use Rattle.tokens.specs.Answers.{tokenIs, dataIs, lexedOut}
 use Rattle.tokens.specs.Quiet.{Quiet}
 use Rattle.tokens.specs.declared.Token.{Token}
 use Rattle.tokens.specs.declared.Token.the-variants.{OpenCurly, ClosedCurly, OpenSquare, ClosedSquare, Comma, Colon, Semicolon, Str, Byte, Short, Int, Long, Float, Double}
 use Rattle.tokens.specs.declared.TokenData.{TokenData as Data}
 use Rattle.tokens.specs.declared.Lexed.{Lexed as Answer}
-use Rattle.numbers.proofs.NoNan.{noNan}
 use Rattle.lexer.proofs.Quiet.{token-quiet}
 
 -- What is behind two questions is the answer where there is one.

@@ -8,7 +8,7 @@ use mathlib.Core.List.{List}
 use native.Mathlib.Omega.{arith}
 use lib.Dec.{leb, eqb}
 use lib.ListN.{length, getD, List·getD-eq-default}
-use Rattle.form.specs.Answer.{Out, got}
+use Rattle.form.specs.Answer.{got}
 use Rattle.form.specs.Spans.{part}
 use Rattle.form.proofs.Picks.{pick-eq, lt-or}
 use Rattle.text_form.specs.Numbers.{Number, isDigit, number}
@@ -81,19 +81,25 @@ by-sign set t i b (numeral n) z e = absurd (omega (arith, z))
 
 -- ---- both
 
-module _ (t : List ℕ) (p : ℕ) (f : Front) (place : f .place ≡ skip t p) (byte : f .byte ≡ getD t (f .place) 0) where
+module _ (t : List ℕ) (p : ℕ) (f : Front) (is : FrontIs t p f) where
+  byte-there : f .byte ≡ getD t (f .place) 0
+  byte-there = is .byte ∙ ap (λ (i : ℕ). getD t i 0) (sym (is .place))
+
   -- 0 is what the end has
   before-end : 0 < f .byte → f .place < length t
   before-end z = go (lt-or (f .place) (length t))
     where
       go : (f .place < length t) ⊎ (length t ≤ f .place) → f .place < length t
       go (inl h) = h
-      go (inr h) = absurd (omega (arith, z, byte, List·getD-eq-default t 0 h))
+      go (inr h) = absurd (omega (arith, z, byte-there, List·getD-eq-default t 0 h))
 
-  pub front-is : FrontIs t p f
-  front-is = record {
-    sign = λ set k z e. sym (token-here set t p (f .place) place _ (before-end (omega (arith, z, e))) refl) ∙ by-sign set t (f .place) (getD t (f .place) 0) k z (sym byte ∙ e);
-    token = λ set d n e.
-        let h = from-got (InFront (getD t (skip t p) 0) (skip t p)) (tokenAt set t p) (found d n) (at-front set t p) e in
-        (h .0 ∙ sym place, λ z. byte ∙ ap (λ (i : ℕ). getD t i 0) place ∙ h .1 z);
-  }
+  -- a sign's character in front: the token is that sign
+  pub front-sign : (set : Stops) (k : Token) → 0 < signOf k → f .byte ≡ signOf k → tokenAt set t p ≡ sign k (f .place)
+  front-sign set k z e =
+      sym (token-here set t p (f .place) (is .place) _ (before-end (omega (arith, z, e))) refl) ∙ by-sign set t (f .place) (getD t (f .place) 0) k z (sym byte-there ∙ e)
+
+  -- a token stands where its front does, and is a sign only by its character
+  pub front-token : (set : Stops) (d : TokenData) (n : ℕ) → tokenAt set t p ≡ got (found d n) → (d .index ≡ f .place) × (0 < signOf (d .token) → f .byte ≡ signOf (d .token))
+  front-token set d n e =
+      let h = from-got (InFront (getD t (skip t p) 0) (skip t p)) (tokenAt set t p) (found d n) (at-front set t p) e in
+      (h .0 ∙ sym (is .place), λ z. is .byte ∙ h .1 z)

@@ -8,10 +8,10 @@ use lib.Dec.{leb, eqb}
 use lib.ListN.{length, getD}
 use Rattle.form.specs.Answer.{got}
 use Rattle.form.specs.Spans.{part}
-use Rattle.text_form.specs.Numbers.{Number, isDigit, number}
+use Rattle.text_form.specs.Numbers.{Number, noNan, isDigit, number}
 use Rattle.text_form.specs.Lexing.{Stops, Token, openCurly, closedCurly, openSquare, closedSquare, comma, colon, semicolon, string, numeral, TokenData, Lexed, found, ended, word, unquoted, quoted, made, unquotedAt, quotedAt, tokenBy, skip, tokenAt}
 use Rattle.text_form.proofs.Moves.{Holds, holds-bind, either-way, from-got}
-use Rattle.numbers.proofs.NoNan.{noNan, number-no-nan}
+use Rattle.numbers.proofs.NoNan.{number-no-nan}
 
 -- A token's number, if it has one, is no NaN.
 abbrev QuietToken : Token → Type 0

@@ -2,19 +2,19 @@
 -- Assumes nothing.
 use Prim.Native.Nat.{ℕ, zero, suc, _+_, _-_, _≤_, _<_}
 use mathlib.Core.Path.{_≡_, refl, sym, ap, _∙_}
-use mathlib.Core.Bool.{Bool, true, false, not, _&&_}
+use mathlib.Core.Bool.{Bool, true, false, not, _&&_, _||_}
 use mathlib.Core.List.{List}
 use mathlib.Core.Logic.{_⊎_, inl, inr}
 use native.Mathlib.Nat.{eq-or-lt-of-le}
 use native.Mathlib.Omega.{arith}
-use borrow.Author.Tests.{lt-ltb, ne-eqb}
-use lib.Dec.{ltb, eqb}
+use borrow.Author.Tests.{leb-true, lt-ltb, ne-eqb}
+use lib.Dec.{ltb, leb, eqb}
 use lib.ListN.{length, getD, drop, drop-of-length-le}
 use Rattle.form.specs.Answer.{pick}
 use Rattle.form.proofs.Drops.{drop1}
 use Rattle.text_form.specs.Lexing.{Stops, default, key, value, first, later, Scan, among, blank, begins, stopSet, within, stops, level, grown, after, Word, wordOf, slurp, begun, word, skipBy, skip}
 use Rattle.text_form.proofs.Moves.{either-way}
-use Rattle.lexer.specs.Runs.{Ordinary, Run, Bounded, extended}
+use Rattle.lexer.specs.Runs.{between, ordinary, runBy, runEnd, Bounded, extended}
 
 -- ---- the numbers stay small
 
@@ -58,6 +58,61 @@ module _ (i : ℕ) where
   }
 
 -- ---- an ordinary character
+
+-- What it is not.
+pub record Ordinary (b : ℕ) : Type 0 where
+  pub low : 44 < b
+  pub high : b < 123
+  pub colon : b ≡ 58 → ⊥
+  pub semicolon : b ≡ 59 → ⊥
+  pub opening : b ≡ 91 → ⊥
+  pub backslash : b ≡ 92 → ⊥
+  pub closing : b ≡ 93 → ⊥
+
+unlike : _≡_ {A = Bool} false true → ⊥
+unlike e = let z : _≡_ {A = ℕ} 0 1 = cc in omega arith
+
+-- a byte between two
+both : (a z b : ℕ) → between a z b ≡ true → (a ≤ b) × (b ≤ z)
+both a z b e = go (leb a b) (leb b z) refl refl e
+  where
+    go : (x y : Bool) → leb a b ≡ x → leb b z ≡ y → (x && y) ≡ true → (a ≤ b) × (b ≤ z)
+    go true true p q h = (leb-true a b p, leb-true b z q)
+    go true false p q h = absurd (unlike h)
+    go false y p q h = absurd (unlike h)
+
+-- none of its three ranges has a byte that rule 11 names
+pub ordinary-is : (b : ℕ) → ordinary b ≡ true → Ordinary b
+ordinary-is b e = go (between 45 57 b) (between 60 90 b) refl refl e
+  where
+    go : (x y : Bool) → between 45 57 b ≡ x → between 60 90 b ≡ y → (x || (y || between 94 122 b)) ≡ true → Ordinary b
+    go true y p q h = let k = both 45 57 b p in record {
+      low = omega (arith, k);
+      high = omega (arith, k);
+      colon = λ z. omega (arith, k, z);
+      semicolon = λ z. omega (arith, k, z);
+      opening = λ z. omega (arith, k, z);
+      backslash = λ z. omega (arith, k, z);
+      closing = λ z. omega (arith, k, z);
+    }
+    go false true p q h = let k = both 60 90 b q in record {
+      low = omega (arith, k);
+      high = omega (arith, k);
+      colon = λ z. omega (arith, k, z);
+      semicolon = λ z. omega (arith, k, z);
+      opening = λ z. omega (arith, k, z);
+      backslash = λ z. omega (arith, k, z);
+      closing = λ z. omega (arith, k, z);
+    }
+    go false false p q h = let k = both 94 122 b h in record {
+      low = omega (arith, k);
+      high = omega (arith, k);
+      colon = λ z. omega (arith, k, z);
+      semicolon = λ z. omega (arith, k, z);
+      opening = λ z. omega (arith, k, z);
+      backslash = λ z. omega (arith, k, z);
+      closing = λ z. omega (arith, k, z);
+    }
 
 module _ (b : ℕ) (o : Ordinary b) where
   no-stop : (set : Stops) → among (stopSet set) b ≡ false
@@ -119,21 +174,48 @@ module _ (b : ℕ) (o : Ordinary b) where
         lt-ltb b 128 (omega (arith, o .high)),
       ) refl
 
--- ---- a run of them, one by one
+-- ---- a run of them
 
-module _ (t : List ℕ) (from : ℕ) where
-  pub run-none : from ≤ length t → Run t from from
-  run-none h = record { low = omega arith; high = h; each = λ k x y. absurd (omega (arith, x, y)) }
+-- Such bytes stand from a place up to another.
+pub record Run (t : List ℕ) (from to : ℕ) : Type 0 where
+  pub low : from ≤ to
+  pub high : to ≤ length t
+  pub each : (k : ℕ) → from ≤ k → k < to → Ordinary (getD t k 0)
 
-  pub run-more : (to : ℕ) → Run t from to → to < length t → Ordinary (getD t to 0) → Run t from (to + 1)
-  run-more to r h o = record { low = omega (arith, r .low); high = omega arith; each = λ k x y. go k x (eq-or-lt-of-le (below k y)) }
-    where
-      below : (k : ℕ) → k < to + 1 → k ≤ to
-      below k y = omega (arith, y)
+module _ (t : List ℕ) (i : ℕ) where
+  pub run-more : i < length t → ordinary (getD t i 0) ≡ true → runEnd t i ≡ runEnd t (i + 1)
+  unfolding runEnd runBy
+  run-more h e = rw (drop1 t i h, e) refl
 
-      go : (k : ℕ) → from ≤ k → (k ≡ to) ⊎ (k < to) → Ordinary (getD t k 0)
-      go k x (inl e) = rw e o
-      go k x (inr y) = r .each k x y
+  pub run-stop : i < length t → ordinary (getD t i 0) ≡ false → runEnd t i ≡ i
+  unfolding runEnd runBy
+  run-stop h e = rw (drop1 t i h, e) refl
+
+  pub run-whole : length t ≤ i → runEnd t i ≡ i
+  unfolding runEnd runBy
+  run-whole h = rw (drop-of-length-le t {i = i} h) refl
+
+-- Up to where the run ends such bytes stand.
+pub run-is : (t : List ℕ) (i : ℕ) → i ≤ length t → Run t i (runEnd t i)
+run-is t i h = walk (length t - i) i (omega arith)
+  where
+    nothing : (i : ℕ) → i ≤ length t → Run t i i
+    nothing i h = record { low = omega arith; high = h; each = λ k x y. absurd (omega (arith, x, y)) }
+
+    behind : (i r : ℕ) → Ordinary (getD t i 0) → Run t (i + 1) r → Run t i r
+    behind i r o s = record { low = omega (arith, s .low); high = s .high; each = λ k x y. go k y (eq-or-lt-of-le x) }
+      where
+        go : (k : ℕ) → k < r → (i ≡ k) ⊎ (i < k) → Ordinary (getD t k 0)
+        go k y (inl e) = rw (← e) o
+        go k y (inr x) = s .each k (omega arith) y
+
+    walk : (n i : ℕ) → i + n ≡ length t → Run t i (runEnd t i)
+    walk zero i e = rw (run-whole t i (omega (arith, e))) (nothing i (omega (arith, e)))
+    walk (suc n) i e = go (walk n (i + 1) (omega (arith, e))) (ordinary (getD t i 0)) refl
+      where
+        go : Run t (i + 1) (runEnd t (i + 1)) → (x : Bool) → ordinary (getD t i 0) ≡ x → Run t i (runEnd t i)
+        go s true p = rw (run-more t i (omega (arith, e)) p) (behind i (runEnd t (i + 1)) (ordinary-is (getD t i 0) p) s)
+        go s false p = rw (run-stop t i (omega (arith, e)) p) (nothing i (omega (arith, e)))
 
 -- ---- the walk from a place
 

@@ -1,12 +1,12 @@
 -- The code's state within an unquoted token and its answers as those of the definitions.
 -- Assumes nothing.
-use Prim.Native.Nat.{ℕ, _<_}
+use Prim.Native.Nat.{ℕ}
 use mathlib.Core.Path.{_≡_}
 use mathlib.Core.List.{List}
+use lib.ListN.{getD}
 use Rattle.form.specs.Answer.{Out, got, _>>=_}
 use Rattle.text_form.specs.Numbers as numbers
 use Rattle.text_form.specs.Lexing as rule
-use Rattle.text_form.specs.Text.{signOf}
 use Rattle.lexer.specs.declared.Front.{Front}
 use Rattle.lexer.specs.declared.words.State.{State}
 use Rattle.lexer.specs.declared.words.Word.{Word}
@@ -33,8 +33,7 @@ numeralAt o i w n = do
   k ← o
   got (rule.made (rule.numeral k) i w n)
 
--- What stands in front of the token from p on: the token's index, and a sign's character exactly where the token is that sign.
+-- What stands in front of the token from p on: the first place that is not blank, and its byte; 0 at the text's end.
 pub record FrontIs (t : List ℕ) (p : ℕ) (f : Front) : Type 0 where
-  pub sign : (set : rule.Stops) (k : rule.Token) → 0 < signOf k → f .byte ≡ signOf k → rule.tokenAt set t p ≡ rule.sign k (f .place)
-  pub token : (set : rule.Stops) (d : rule.TokenData) (n : ℕ) → rule.tokenAt set t p ≡ got (rule.found d n)
-      → (d .index ≡ f .place) × (0 < signOf (d .token) → f .byte ≡ signOf (d .token))
+  pub place : f .place ≡ rule.skip t p
+  pub byte : f .byte ≡ getD t (rule.skip t p) 0

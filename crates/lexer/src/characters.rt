@@ -2,12 +2,9 @@
 // and the runs of blanks and of such bytes.
 use tokens::Stops;
 ghost use mathlib.Core.Path.{_≡_};
-ghost use mathlib.Core.Bool.{true};
-ghost use Prim.Native.Nat.{_≤_};
-ghost use lib.ListN.{length};
 ghost use Rattle.text_form.specs.Lexing.{among, blank, begins, stopSet, skip};
 ghost use Rattle.tokens.specs.Answers.{stopsIs};
-ghost use Rattle.lexer.specs.Runs.{Ordinary, Run};
+ghost use Rattle.lexer.specs.Runs.{ordinary, runEnd};
 
 // ASCII whitespace; 0x0B is none (rule 10).
 pub fn is_blank(b: u8) -> bool
@@ -59,7 +56,7 @@ pub fn first_byte(b: u8) -> usize
 
 // Letters, digits and some signs, `- . _` among them: every unquoted token takes them (rule 11).
 fn is_ordinary(b: u8) -> bool
-    ensures { λ r. ⌜ (r ≡ true → Ordinary b) ⌝ }
+    ensures { λ r. ⌜ r ≡ ordinary b ⌝ }
 {
     match b {
         45..=57 => true,
@@ -71,8 +68,7 @@ fn is_ordinary(b: u8) -> bool
 
 // The first place from a place on at which no such byte stands.
 pub fn run_end(text: &[u8], at: usize) -> usize
-    requires { ⌜ at ≤ length (now text) ⌝ }
-    ensures { λ r. ⌜ Run (now (text .entry)) at r ⌝ }
+    ensures { λ r. ⌜ r ≡ runEnd (now (text .entry)) at ⌝ }
 {
     let mut i = at;
     while i < text.len() {

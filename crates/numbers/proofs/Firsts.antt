@@ -133,20 +133,27 @@ module _ (x y : ℕ) (s : List ℕ) (at to r : ℕ) (f : FirstAt x y s at to r) 
   pub part-lacks : to ≤ r → has (either x y) (slice at to s) ≡ false
   part-lacks h = has-none (either x y) (slice at to s) (omega (arith, length-slice at to s k, f .is, f .low))
 
--- the first byte that is x or y, behind bytes that are neither; and none
-pub first-is : (x y : ℕ) (s : List ℕ) (at to r : ℕ) → at ≤ r → r < to → to ≤ length s → has (either x y) (slice at r s) ≡ false → either x y (getD s r 0) ≡ true → FirstAt x y s at to r
-first-is x y s at to r l h k n e =
-    let t = either x y in
+-- the place of the first byte that passes, behind bytes that do not; and of none
+pub place-found : (t : ℕ → Bool) (s : List ℕ) (at to r : ℕ) → at ≤ r → r < to → to ≤ length s → has t (slice at r s) ≡ false → t (getD s r 0) ≡ true
+    → r ≡ at + length (before t (slice at to s))
+place-found t s at to r l h k n e =
     let parts : slice at to s ≡ slice at r s ++ (getD s r 0 ∷ slice (r + 1) to s) =
     slice-split at r to s l (omega arith) k ∙ ap (λ (q : List ℕ). slice at r s ++ q) (slice-first r to s h k) in
     let front : before t (slice at to s) ≡ slice at r s = ap (before t) parts ∙ before-found t (slice at r s) (getD s r 0) (slice (r + 1) to s) n e in
     let many : length (before t (slice at to s)) ≡ r - at = ap length front ∙ length-slice at r s (omega arith) in
-    record { is = omega (arith, many); low = l; high = omega arith }
+    omega (arith, many)
+
+pub place-lacks : (t : ℕ → Bool) (s : List ℕ) (at to : ℕ) → at ≤ to → to ≤ length s → has t (slice at to s) ≡ false → to ≡ at + length (before t (slice at to s))
+place-lacks t s at to l k n =
+    let many : length (before t (slice at to s)) ≡ to - at = ap length (before-all t (slice at to s) n) ∙ length-slice at to s k in
+    omega (arith, many)
+
+-- the same of a byte that is x or y
+pub first-is : (x y : ℕ) (s : List ℕ) (at to r : ℕ) → at ≤ r → r < to → to ≤ length s → has (either x y) (slice at r s) ≡ false → either x y (getD s r 0) ≡ true → FirstAt x y s at to r
+first-is x y s at to r l h k n e = record { is = place-found (either x y) s at to r l h k n e; low = l; high = omega arith }
 
 pub first-lacks : (x y : ℕ) (s : List ℕ) (at to : ℕ) → at ≤ to → to ≤ length s → has (either x y) (slice at to s) ≡ false → FirstAt x y s at to to
-first-lacks x y s at to l k n =
-    let many : length (before (either x y) (slice at to s)) ≡ to - at = ap length (before-all (either x y) (slice at to s) n) ∙ length-slice at to s k in
-    record { is = omega (arith, many); low = l; high = omega arith }
+first-lacks x y s at to l k n = record { is = place-lacks (either x y) s at to l k n; low = l; high = omega arith }
 
 -- ---- the tests
 

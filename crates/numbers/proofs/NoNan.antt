@@ -9,7 +9,7 @@ use lib.IntN.{pos}
 use lib.Ieee.{Float, fin, binary64, isNan}
 use Rattle.form.specs.Answer.{got}
 use Rattle.floats.proofs.Rounded.{rounded-no-nan}
-use Rattle.text_form.specs.Numbers.{Number, float, double, number}
+use Rattle.text_form.specs.Numbers.{Number, byte, short, int, long, float, double, noNan, number}
 use Rattle.text_form.proofs.Gives.{gives-it}
 use Rattle.text_form.proofs.Carried.{Carries, number-carries}
 use Rattle.numbers.specs.Answers.{numberOut, quiet}
@@ -17,12 +17,17 @@ use Rattle.numbers.specs.declared.Number.{Number as Answer}
 use Rattle.numbers.specs.declared.Number.the-variants.{Byte, Short, Int, Long, Float as Float64, Double as Double64, Refused}
 
 -- A double that is no NaN.
-abbrev pub real : Float → Type 0
+abbrev real : Float → Type 0
 real x = T (not (isNan x))
 
--- What a number carries is none.
-abbrev pub noNan : Number → Type 0
-noNan n = Carries real n
+-- A number whose double is real carries no NaN.
+carries-real : (n : Number) → Carries real n → noNan n
+carries-real (byte z) h = tt
+carries-real (short z) h = tt
+carries-real (int z) h = tt
+carries-real (long z) h = tt
+carries-real (float x) h = h
+carries-real (double x) h = h
 
 zero-real : (s : Bool) → real (fin s 0 (pos 0))
 unfolding isNan
@@ -30,7 +35,7 @@ zero-real s = tt
 
 -- A number that was accepted carries no NaN: a rounding is none, nor is a zero.
 pub number-no-nan : (l : List ℕ) (place : ℕ) (n : Number) → number l place ≡ got n → noNan n
-number-no-nan l place n e = gives-it e (number-carries real (rounded-no-nan binary64) zero-real l place)
+number-no-nan l place n e = carries-real n (gives-it e (number-carries real (rounded-no-nan binary64) zero-real l place))
 
 -- So does the code's number that meets the definition.
 pub number-quiet : (r : Answer) (l : List ℕ) (place : ℕ) → numberOut r ≡ number l place → quiet r

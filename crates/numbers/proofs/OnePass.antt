@@ -2,7 +2,7 @@
 -- Assumes nothing.
 use mathlib.Core.Path.{_≡_, refl, sym, ap, ap₂, _∙_}
 use mathlib.Core.List.{List, [], _∷_, _++_}
-use mathlib.Core.Bool.{Bool, true, false, _&&_, _||_}
+use mathlib.Core.Bool.{Bool, true, false, not, _&&_, _||_}
 use Prim.Native.Nat.{ℕ, suc, _+_, _-_, _*_, _^_, _≤_, _<_}
 use native.Mathlib.Nat.{le-trans, pow-le-pow-right}
 use native.Mathlib.Omega.{arith}
@@ -14,13 +14,13 @@ use lib.Seq.{slice}
 use lib.Ieee.{binary64, ofInt}
 use Rattle.form.specs.Answer.{got, pick}
 use Rattle.text_form.specs.Values.{signed}
-use Rattle.text_form.specs.Numbers.{byte, short, int, long, float, double, isDigit, isPoint, isLetter, isSuffix, has, negative, digits, worth, suffixed, number}
-use Rattle.numbers.specs.Rows.{wholeDigits, either, RunAt}
+use Rattle.text_form.specs.Numbers.{byte, short, int, long, float, double, isDigit, isPoint, isLetter, isSuffix, has, before, negative, digits, worth, suffixed, number}
+use Rattle.numbers.specs.Rows.{wholeDigits, either, notDigit, RunAt}
 use Rattle.numbers.specs.declared.runs.Row.{Row}
 use Rattle.numbers.specs.declared.digits.Digits.the-variants.{Value}
 use Rattle.numbers.proofs.Slices.{slice-none, slice-first, slice-one, slice-last}
 use Rattle.numbers.proofs.Rows.{digits-append, worth-append, whole-is}
-use Rattle.numbers.proofs.Firsts.{has-behind, the-point}
+use Rattle.numbers.proofs.Firsts.{has-behind, place-found, place-lacks, the-point}
 use Rattle.numbers.proofs.Tokens.{unsigned-le, some-bytes, whole-number}
 use Rattle.numbers.proofs.Grammar.{number-without}
 
@@ -88,6 +88,18 @@ ten-most n k h g = let p : 10 ^ k ≤ 10 ^ 18 = pow-le-pow-right {n = 10} (omega
 pub in-range : (b : Bool) (n : ℕ) → n < 10 ^ 18 → leb n (pick b (2 ^ 63) (2 ^ 63 - 1)) ≡ true
 in-range true n h = le-leb n (2 ^ 63) (omega arith)
 in-range false n h = le-leb n (2 ^ 63 - 1) (omega arith)
+
+-- where a row ends: at a byte that is no digit, and at the last place
+digits-only : (l : List ℕ) → digits l ≡ true → has notDigit l ≡ false
+unfolding digits has
+digits-only [] e = refl
+digits-only (b ∷ l) e = let w = and-both (isDigit b) (digits l) e in ap₂ (λ (x y : Bool). not x || y) (w .0) (digits-only l (w .1))
+
+pub row-stops : (s : List ℕ) (at to i : ℕ) → at ≤ i → i < to → to ≤ length s → digits (slice at i s) ≡ true → isDigit (getD s i 0) ≡ false → i ≡ at + length (before notDigit (slice at to s))
+row-stops s at to i l h k d e = place-found notDigit s at to i l h k (digits-only (slice at i s) d) (ap not e)
+
+pub row-whole : (s : List ℕ) (at to i : ℕ) → at ≤ i → i ≡ to → to ≤ length s → digits (slice at i s) ≡ true → i ≡ at + length (before notDigit (slice at to s))
+row-whole s at to i l q k d = q ∙ place-lacks notDigit s at to (omega arith) k (digits-only (slice at to s) (ap (λ (n : ℕ). digits (slice at n s)) (sym q) ∙ d))
 
 -- digits are none of two bytes that are none
 pub digits-lack : (x y : ℕ) → isDigit x ≡ false → isDigit y ≡ false → (l : List ℕ) → digits l ≡ true → has (either x y) l ≡ false

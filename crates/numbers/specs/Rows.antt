@@ -42,8 +42,14 @@ pub record FirstAt (x y : ℕ) (s : List ℕ) (at to r : ℕ) : Type 0 where
   pub low : at ≤ r
   pub high : r ≤ to
 
--- Digits from at on, behind those of first, and none beyond to: where they end, and their number, which 18 digits at most keep small.
+-- A byte that is no digit.
+abbrev pub notDigit : ℕ → Bool
+notDigit b = not (isDigit b)
+
+-- Digits from at on, behind those of first, up to the first byte that is none or to `to`: where they end, and their number, which 18
+-- digits at most keep small.
 pub record RunAt (s : List ℕ) (first at to : ℕ) (r : Row) : Type 0 where
+  pub ends : r .end ≡ at + length (before notDigit (slice at to s))
   pub low : at ≤ r .end
   pub high : r .end ≤ to
   pub row : digits (slice at (r .end) s) ≡ true

@@ -12,7 +12,8 @@ use Rattle.form.specs.Table.{none, node, size, word, holds, valueOf}
 use Rattle.form.specs.Tables.{Fair, IsTable}
 use Rattle.form.specs.Paths.{fits, matches}
 use Rattle.form.specs.Query.{shallow}
-use Rattle.form.proofs.Tables.{Stands, sits-first, sits-inner, table-sits, fair-name, fair-inner}
+use Rattle.form.specs.Records.{Stands}
+use Rattle.form.proofs.Tables.{sits-first, sits-inner, table-sits, fair-name, fair-inner}
 use Rattle.form.proofs.Depths.{shallow-parts}
 use Rattle.form.proofs.Paths.{tree-paths}
 use Rattle.steps.specs.Steps.{span, stepsFrom, QueryIn}

@@ -9,8 +9,9 @@ use native.Mathlib.Omega.{arith}
 use lib.Dec.{eqb}
 use Rattle.form.specs.Table.{Head, Forest, none, node, size, word, holds}
 use Rattle.form.specs.Tables.{Fair, LeafIs, ContainerIs}
+use Rattle.form.specs.Records.{Stands, Sits}
 use Rattle.form.proofs.Table.{size-none}
-use Rattle.form.proofs.Tables.{Stands, Sits, sits-first, sits-inner, sits-later, fair-name, fair-first, fair-inner, fair-later, same-forest}
+use Rattle.form.proofs.Tables.{sits-first, sits-inner, sits-later, fair-name, fair-first, fair-inner, fair-later, same-forest}
 use Rattle.query.specs.Sides.{Side}
 
 -- The first of some records: its words, those in it, and those after it.

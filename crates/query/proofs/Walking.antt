@@ -14,7 +14,8 @@ use Rattle.form.specs.Spans.{part}
 use Rattle.form.specs.Table.{Forest, none, size, word, holds}
 use Rattle.form.specs.Paths.{Hop, fits, which}
 use Rattle.form.specs.Query.{shallow}
-use Rattle.form.proofs.Paths.{hopOf, recordPaths, paths-length, which-append, which-length, which-below}
+use Rattle.form.specs.Records.{hopOf, recordPaths}
+use Rattle.form.proofs.Paths.{paths-length, which-append, which-length, which-below}
 use Rattle.steps.specs.Steps.{span, stepsFrom}
 use Rattle.steps.specs.Levels.{recordNo, indexNo, nameOf, hopNo, hopsFrom, RecordIn}
 use Rattle.steps.specs.Three.{goesOn}

@@ -9,7 +9,7 @@ use Rattle.form.specs.Answer.{got, depthLimit, recordLimit}
 use Rattle.form.specs.Table.{Forest, none, size, word, holds}
 use Rattle.form.specs.Tables.{Fair}
 use Rattle.form.specs.Query.{shallow}
-use Rattle.form.proofs.Tables.{Sits}
+use Rattle.form.specs.Records.{Sits}
 use Rattle.steps.specs.Levels.{recordNo, Ready}
 use Rattle.steps.specs.declared.Query.{Query}
 

@@ -9,7 +9,7 @@ use lib.Dec.{ltb}
 use Rattle.form.specs.Answer.{pick}
 use Rattle.form.specs.Table.{Forest, word}
 use Rattle.form.specs.Paths.{Hop, fits, which}
-use Rattle.form.proofs.Paths.{recordPaths}
+use Rattle.form.specs.Records.{recordPaths}
 use Rattle.steps.specs.Steps.{stepsFrom}
 use Rattle.steps.specs.declared.Query.{Query}
 use Rattle.query.specs.Sides.{Held}

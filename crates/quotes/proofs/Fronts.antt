@@ -9,8 +9,8 @@ use lib.ListN.{length, getD, drop, take}
 use Rattle.form.specs.Answer.{Out}
 use Rattle.form.specs.Spans.{part}
 use Rattle.form.specs.Decoding.{utf8Of}
-use Rattle.mutf8.specs.declared.Front.{Front as Utf8Front}
-use Rattle.mutf8.specs.Answers.{sequenceOf}
+use Rattle.chars.specs.declared.Front.{Front as Utf8Front}
+use Rattle.chars.specs.Answers.{sequenceOf}
 use Rattle.text_form.specs.Lexing as rule
 use Rattle.text_form.specs.Lexing.{escapeOf, escaped, written, frontOf}
 use Rattle.quotes.specs.declared.Escape.{Escape}

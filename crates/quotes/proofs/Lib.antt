@@ -1,6 +1,7 @@
 pub mod Parts
 pub mod Escapes
 pub mod Walks
+pub mod Plains
 pub mod Texts
 pub mod Fronts
 pub mod Sofar

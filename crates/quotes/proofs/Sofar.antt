@@ -26,11 +26,12 @@ use Rattle.text_form.specs.Lexing.{Front, Escape, stands, bad, cut, escapeOf, e
 use Rattle.quotes.specs.declared.Front.{Front as Told}
 use Rattle.quotes.specs.declared.Front.the-variants.{Is, Refused}
 use Rattle.quotes.specs.Answers.{frontOut}
-use Rattle.quotes.specs.Runs.{IsPlain, Plain}
+use Rattle.quotes.specs.Runs.{IsPlain, Plain, shortPlain}
 use Rattle.quotes.specs.Puts.{Ready, PutIs, Verbatim}
 use Rattle.quotes.proofs.Fronts.{front-told}
 use Rattle.quotes.proofs.Parts.{part-none, part-first, part-cons, part-drop}
 use Rattle.quotes.proofs.Escapes.{EscapeFits, escape-fits}
+use Rattle.quotes.proofs.Plains.{short-is}
 
 -- ---- how long a scalar value is
 
@@ -218,11 +219,15 @@ module _ (t : List ℕ) (quoted : Bool) (start e : ℕ) where
       go (no n p) q = let z : _≡_ {A = ℕ} 0 1 = cc in absurd (omega arith)
 
 -- a short span that is plain is its own content
-pub verbatim : (t : List ℕ) (start e : ℕ) → start ≤ e → e ≤ length t → e < start + 64 → Plain 92 t start e → Verbatim t start e
-verbatim t start e h k l p = record {
-  short = l;
-  is = λ quoted. sofar-end t quoted start e (part t start (e - start)) e (omega arith) (sofar-plain t quoted start e start e [] h (omega arith) k p (sofar-start t quoted start e));
-}
+pub verbatim : (t : List ℕ) (start e : ℕ) → start ≤ e → e ≤ length t → shortPlain t start e ≡ true → Verbatim t start e
+verbatim t start e h k s =
+    let w = short-is t start e s in
+    let z : start + (e - start) ≡ e = omega arith in
+    let p : Plain 92 t start e = rw z at (w .1) in
+    record {
+      short = omega (arith, w .0);
+      is = λ quoted. sofar-end t quoted start e (part t start (e - start)) e (omega arith) (sofar-plain t quoted start e start e [] h (omega arith) k p (sofar-start t quoted start e));
+    }
 
 -- ---- the loop that measures
 

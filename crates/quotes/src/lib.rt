@@ -4,17 +4,17 @@ ghost use mathlib.Core.Path.{_≡_};
 ghost use mathlib.Core.Bool.{true, _&&_};
 ghost use mathlib.Core.List.{[], _∷_};
 ghost use Prim.Native.Nat.{_+_, _-_, _≤_, _<_};
-ghost use lib.Dec.{leb};
+ghost use lib.Dec.{leb, ltb};
 ghost use lib.ListN.{length};
 ghost use Rattle.form.specs.Spans.{part, over};
-ghost use Rattle.form.specs.Answer.{no, quoteOpen};
+ghost use Rattle.form.specs.Answer.{pick, no, quoteOpen};
 ghost use Rattle.form.specs.Strings.{scalarBytes};
 ghost use Rattle.form.specs.Decoding.{utf8Of};
 ghost use Rattle.form.specs.Writing.{lengthOf, Gives};
 ghost use Rattle.text_form.specs.Lexing.{begins, hexOf, hexes, stands, unicode, escapeOf, quoted, judgedText, onCharacter, escaped, written, frontOf, contentOf, content as single};
 ghost use Rattle.quotes.specs.Answers.{hexOut, escapeIs, quotedOut, textOut, frontOut, contentOut};
-ghost use Rattle.quotes.specs.Runs.{IsPlain, Plain};
-ghost use Rattle.quotes.specs.Puts.{Ready, PutIs, Verbatim, fitted};
+ghost use Rattle.quotes.specs.Runs.{plainByte, mark, plainIn, shortPlain, Plain};
+ghost use Rattle.quotes.specs.Puts.{Ready, PutIs, fitted};
 
 // The number of four hexadecimal digits, or a refusal.
 enum Digits {
@@ -49,7 +49,7 @@ enum Front {
 
 // The length of a string token's content in rule 2's form, or a refusal.
 pub enum Contents {
-    Is { length: usize },
+    Is { bytes: usize },
     Refused { number: u8, place: usize },
 }
 
@@ -195,9 +195,9 @@ fn beginning(b: u8) -> usize
     1
 }
 
-// 0 only where a byte is 1 to 127, and neither a backslash nor q: one less is then at most 126, and a zero byte wraps to 255.
+// 0 where a byte is 1 to 127, and neither a backslash nor q, else 1: one less is then at most 126, and a zero byte wraps to 255.
 fn unplain(q: u8, b: u8) -> u8
-    ensures { λ r. ⌜ (r ≡ 0 → IsPlain q b) ⌝ }
+    ensures { λ r. ⌜ r ≡ mark (plainByte q b) ⌝ }
 {
     if 126 < std::num::wrapping_sub_u8(b, 1) {
         return 1;
@@ -213,7 +213,7 @@ fn unplain(q: u8, b: u8) -> u8
 
 // The greater of the two.
 fn raise(top: u8, x: u8) -> u8
-    ensures { λ r. ⌜ (top ≤ r) × (x ≤ r) ⌝ }
+    ensures { λ r. ⌜ r ≡ pick (ltb top x) x top ⌝ }
 {
     if top < x { x } else { top }
 }
@@ -221,7 +221,7 @@ fn raise(top: u8, x: u8) -> u8
 // Whether n bytes from a place on are plain. No branch for each byte, so that the compiler takes them at once where n is a literal.
 fn all_plain(q: u8, text: &[u8], at: usize, n: usize) -> bool
     requires { ⌜ at + n ≤ length (now text) ⌝ }
-    ensures { λ r. ⌜ (r ≡ true → Plain q (now (text .entry)) at (at + n)) ⌝ }
+    ensures { λ r. ⌜ r ≡ plainIn q (now (text .entry)) at n ⌝ }
 {
     let mut top: u8 = 0;
     let mut k: usize = 0;
@@ -379,9 +379,9 @@ fn written_at(text: &[u8], at: usize, end: usize) -> Front
     requires { ⌜ (at < end) × (end ≤ length (now text)) ⌝ }
     ensures { λ r. ⌜ frontOut r ≡ written (utf8Of (part (now (text .entry)) at (end - at))) ⌝ }
 {
-    match mutf8::utf8_at(&text[..end], at) {
-        mutf8::Front::Is(scalar, bytes) => Front::Is { scalar, bytes },
-        mutf8::Front::Stuck => Front::Refused {
+    match chars::utf8_at(&text[..end], at) {
+        chars::Front::Is(scalar, bytes) => Front::Is { scalar, bytes },
+        chars::Front::Stuck => Front::Refused {
             number: form::BAD_TEXT,
             place: 0,
         },
@@ -405,7 +405,7 @@ fn front_at(text: &[u8], at: usize, end: usize, quoted: bool) -> Front
 // Whether a span is plain, by its first n bytes and its last n, which overlap or meet.
 fn both_plain(text: &[u8], start: usize, end: usize, n: usize) -> bool
     requires { ⌜ (start + n ≤ end) × (end ≤ start + n + n) × (end ≤ length (now text)) ⌝ }
-    ensures { λ r. ⌜ (r ≡ true → Plain 92 (now (text .entry)) start end) ⌝ }
+    ensures { λ r. ⌜ r ≡ plainIn 92 (now (text .entry)) start (end - start) ⌝ }
 {
     if all_plain(92, text, start, n) {
         return all_plain(92, text, end - n, n);
@@ -416,7 +416,7 @@ fn both_plain(text: &[u8], start: usize, end: usize, n: usize) -> bool
 // Whether a span is short and plain, as most are: it is then its own content, within quotes or not (rules 2 and 12).
 pub fn is_plain(text: &[u8], start: usize, end: usize) -> bool
     requires { ⌜ (start ≤ end) × (end ≤ length (now text)) ⌝ }
-    ensures { λ r. ⌜ (r ≡ true → Verbatim (now (text .entry)) start end) ⌝ }
+    ensures { λ r. ⌜ r ≡ shortPlain (now (text .entry)) start end ⌝ }
 {
     let size = end - start;
     if size < 4 {
@@ -453,7 +453,7 @@ pub fn content_length(text: &[u8], start: usize, end: usize, quoted: bool) -> Co
         }
         match front_at(text, i, end, quoted) {
             Front::Is { scalar, bytes } => {
-                n = n + mutf8::length_of(scalar);
+                n = n + chars::length_of(scalar);
                 i = i + bytes;
             }
             Front::Refused { number, place } => {
@@ -461,7 +461,7 @@ pub fn content_length(text: &[u8], start: usize, end: usize, quoted: bool) -> Co
             }
         }
     }
-    Contents::Is { length: n }
+    Contents::Is { bytes: n }
 }
 
 // Copies a span of the text to the output, byte by byte, which the compiler makes wide.
@@ -481,9 +481,9 @@ fn put_value(c: u32, out: &mut [u8], at: usize) -> usize
     requires { ⌜ (c < 1114112) × (at + length (scalarBytes c) ≤ length (now out)) ⌝ }
     ensures { λ r. ⌜ (r ≡ at + length (scalarBytes c)) × (now (out .exit) ≡ over (now (out .entry)) at (scalarBytes c)) ⌝ }
 {
-    match mutf8::put_scalar(c, out, at) {
-        mutf8::Put::To(next) => next,
-        mutf8::Put::Full => at,
+    match chars::put_scalar(c, out, at) {
+        chars::Put::To(next) => next,
+        chars::Put::Full => at,
     }
 }
 
@@ -531,15 +531,15 @@ fn put_fitted(text: &[u8], start: usize, end: usize, quoted: bool, out: &mut [u8
     ensures { λ r. ⌜ Gives (fitted (contentOf (now (text .entry)) quoted start end) (length (now (out .entry)))) (now (out .entry)) (contentOut r) (now (out .exit)) ⌝ }
 {
     match content_length(text, start, end, quoted) {
-        Contents::Is { length } => {
-            if out.len() < length {
+        Contents::Is { bytes } => {
+            if out.len() < bytes {
                 return Contents::Refused {
                     number: form::OUTPUT_FULL,
                     place: 0,
                 };
             }
             put_content(text, start, end, quoted, out, 0);
-            Contents::Is { length }
+            Contents::Is { bytes }
         }
         Contents::Refused { number, place } => Contents::Refused { number, place },
     }

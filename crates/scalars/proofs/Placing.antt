@@ -22,13 +22,12 @@ use Rattle.form.proofs.Digits.{digits-length, digits-narrow}
 use Rattle.form.proofs.Places.{part-over}
 use Rattle.form.proofs.Spans.{part-length}
 use Rattle.form.proofs.Table.{over-over}
-use Rattle.text_form.specs.Numbers.{Number}
+use Rattle.text_form.specs.Numbers.{Number, noNan}
 use Rattle.text_form.specs.Lexing.{Token, TokenData, string, numeral, contentOf}
 use Rattle.text_form.specs.Text.{Value, inRange, ranged, numberTag, stringOf, scalarTag, scalarValue, keyOf, arrayAt}
-use Rattle.numbers.proofs.NoNan.{noNan}
 use Rattle.quotes.specs.Puts.{PutIs, Verbatim}
 use Rattle.scalars.specs.declared.Done.{Done}
-use Rattle.scalars.specs.Done.{TokenFits, Spanned, Did, Agrees, barredBy, placed, wholePlaced, stringPlaced, KeyRoom, KeyIn}
+use Rattle.scalars.specs.Done.{TokenFits, Spanned, Did, Puts, barredBy, placed, wholePlaced, stringPlaced, KeyRoom, KeyIn}
 use Rattle.scalars.proofs.Bounds.{content-bounded}
 use Rattle.scalars.proofs.Rooms.{range-fits, got-same, no-same}
 
@@ -177,20 +176,20 @@ module _ (t : List ℕ) (room want : ℕ) (x : TokenData) (n u : ℕ) where
   scalar-sign e = untagged unexpectedToken (x .index) (e (x .index))
 
 -- A whole number's token, its integer v held as z: what holds of its tag, whichever it is, holds of the scalar.
-pub whole-agrees : (t o : List ℕ) (want : ℕ) (x : TokenData) (n u : ℕ) (make : ℤ → Number) (tag : ℤ → Tag) (w kind : ℕ) (v z : ℤ) (r : Done) (o′ : List ℕ)
+pub whole-puts : (t o : List ℕ) (want : ℕ) (x : TokenData) (n u : ℕ) (make : ℤ → Number) (tag : ℤ → Tag) (w kind : ℕ) (v z : ℤ) (r : Done) (o′ : List ℕ)
     → x .token ≡ numeral (make v) → z ≡ v → ((p : ℕ) → numberTag (make z) p ≡ ranged w z (tag z) p) → kindOf (tag z) ≡ kind → payload (tag z) ≡ intBytes w z
-    → ((g : Tag) → kindOf g ≡ kind → payload g ≡ intBytes w z → Agrees (wholePlaced w z (length o) want g (x .index) n u) o u r o′)
-    → Agrees (scalarValue t (length o) want x n u) o u r o′
-whole-agrees t o want x n u make tag w kind v z r o′ e h f k s g =
-    subst (λ (res : Out Value). Agrees res o u r o′) (scalar-whole t (length o) want x n u w z (tag z) (e ∙ ap (λ (y : ℤ). numeral (make y)) (sym h)) f) (g (tag z) k s)
+    → ((g : Tag) → kindOf g ≡ kind → payload g ≡ intBytes w z → Puts (wholePlaced w z (length o) want g (x .index) n u) o u r o′)
+    → Puts (scalarValue t (length o) want x n u) o u r o′
+whole-puts t o want x n u make tag w kind v z r o′ e h f k s g =
+    subst (λ (res : Out Value). Puts res o u r o′) (scalar-whole t (length o) want x n u w z (tag z) (e ∙ ap (λ (y : ℤ). numeral (make y)) (sym h)) f) (g (tag z) k s)
 
 -- The same of a float's or a double's token and its bits.
-pub real-agrees : (t o : List ℕ) (want : ℕ) (x : TokenData) (n u : ℕ) {m : Number} (tag : Tag) (w kind bits : ℕ) (r : Done) (o′ : List ℕ)
+pub real-puts : (t o : List ℕ) (want : ℕ) (x : TokenData) (n u : ℕ) {m : Number} (tag : Tag) (w kind bits : ℕ) (r : Done) (o′ : List ℕ)
     → x .token ≡ numeral m → ((p : ℕ) → numberTag m p ≡ got tag) → kindOf tag ≡ kind → payload tag ≡ bytesOf w bits
-    → ((g : Tag) → kindOf g ≡ kind → payload g ≡ bytesOf w bits → Agrees (placed (length o) want g (x .index) n u) o u r o′)
-    → Agrees (scalarValue t (length o) want x n u) o u r o′
-real-agrees t o want x n u tag w kind bits r o′ e f k s g =
-    subst (λ (res : Out Value). Agrees res o u r o′) (scalar-real t (length o) want x n u tag e f) (g tag k s)
+    → ((g : Tag) → kindOf g ≡ kind → payload g ≡ bytesOf w bits → Puts (placed (length o) want g (x .index) n u) o u r o′)
+    → Puts (scalarValue t (length o) want x n u) o u r o′
+real-puts t o want x n u tag w kind bits r o′ e f k s g =
+    subst (λ (res : Out Value). Puts res o u r o′) (scalar-real t (length o) want x n u tag e f) (g tag k s)
 
 -- The bytes of an integer in range are the lowest of its 64 bits.
 pub whole-bytes : (w : ℕ) (v v′ : ℤ) (bits : ℕ) → v′ ≡ v → w ≤ 8 → inRange w v ≡ true → bits ≡ bitsOf 8 v′ → intBytes w v ≡ bytesOf w bits
@@ -276,16 +275,22 @@ module _ (t : List ℕ) (q : Bool) (a e p : ℕ) (room : ℕ) where
   key-room s (inr r) h k c l = omega (arith, r, content-bounded t q e k a s h c)
 
   -- A content that was put to the buffer's start.
-  pub key-in : (s o : List ℕ) (r : ℕ) (o′ : List ℕ) → contentOf t q a e ≡ got s → length s ≤ 65535 → length s ≤ length o → PutIs (contentOf t q a e) o 0 r o′ → KeyIn (stringOf t room q a e p) r o′
+  pub key-in : (s o : List ℕ) (r : ℕ) (o′ : List ℕ) → contentOf t q a e ≡ got s → length s ≤ 65535 → length s ≤ length o → PutIs (contentOf t q a e) o 0 r o′
+      → KeyIn (stringOf t room q a e p) o r o′
   key-in s o r o′ c h l j =
       let k = content-put (contentOf t q a e) s o 0 r o′ c j in
       let z : r ≡ length s = omega (arith, k .0) in
       record {
         bytes = s;
         same = string-got t q a e p room s c h;
-        length-is = z;
-        stands = (λ i. take (z i) (k .1 i)) ∙ taken s o l;
+        size-is = z;
+        fits = omega (arith, z, l);
+        wrote = k .1;
       }
+
+-- So it stands there.
+pub key-stands : {res : Out (List ℕ)} {o : List ℕ} {n : ℕ} {o′ : List ℕ} (k : KeyIn res o n o′) → take n o′ ≡ k .bytes
+key-stands {res} {o} k = (λ i. take (k .size-is i) (k .wrote i)) ∙ taken (k .bytes) o (omega (arith, k .size-is, k .fits))
 
 -- ---- a place past the output's end
 

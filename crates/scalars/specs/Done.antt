@@ -7,13 +7,13 @@ use mathlib.Core.Logic.{_⊎_}
 use mathlib.Core.List.{List}
 use lib.Dec.{leb, eqb}
 use lib.IntN.{ℤ}
-use lib.ListN.{length, take}
+use lib.ListN.{length}
 use Rattle.form.specs.Answer.{Out, got, no, _>>=_, _>>_, guard, pick, mixedList, outputFull}
 use Rattle.form.specs.Spans.{over}
 use Rattle.form.specs.Tree as tree
 use Rattle.form.specs.Tree.{Tag, kindOf}
 use Rattle.form.specs.Layout.{payload}
-use Rattle.numbers.proofs.NoNan.{noNan}
+use Rattle.text_form.specs.Numbers.{noNan}
 use Rattle.text_form.specs.Lexing.{Token, openCurly, closedCurly, openSquare, closedSquare, comma, colon, semicolon, string, numeral, TokenData}
 use Rattle.text_form.specs.Text.{Value, ranged, stringOf}
 use Rattle.scalars.specs.declared.Done.{Done}
@@ -52,10 +52,15 @@ pub record Did (res : Out Value) (o : List ℕ) (at next used kind : ℕ) (o′ 
   pub fits : used ≤ length o
   pub wrote : o′ ≡ over o at (payload (value .tag))
 
--- The code's answer agrees with the definitions' one; of the output after a refusal nothing is said.
+-- The code's answer agrees with the definitions' one; of the output after a refusal nothing is said, since the parse then zeroes it.
 abbrev pub Agrees : Out Value → List ℕ → ℕ → Done → List ℕ → Type 0
 Agrees res o at (To n u k) o′ = Did res o at n u k o′
 Agrees res o at (No a p) o′ = res ≡ no a p
+
+-- The same of a scalar, which is put at once: a refusal leaves the output as it was.
+abbrev pub Puts : Out Value → List ℕ → ℕ → Done → List ℕ → Type 0
+Puts res o at (To n u k) o′ = Did res o at n u k o′
+Puts res o at (No a p) o′ = (res ≡ no a p) × (o′ ≡ o)
 
 -- A value that was accepted ends behind `start`, and within a text of m bytes.
 abbrev pub Ahead : ℕ → ℕ → Done → Type 0
@@ -91,14 +96,15 @@ stringPlaced t q a e room want p n u = do
 abbrev pub KeyRoom : ℕ → ℕ → Type 0
 KeyRoom n m = (65535 ≤ m) ⊎ (2 * n ≤ m)
 
--- A key's content stands in the buffer from 0 on, in n bytes.
-pub record KeyIn (res : Out (List ℕ)) (n : ℕ) (buffer : List ℕ) : Type 0 where
+-- A key's content stands in the buffer from 0 on, in n bytes, and the rest of the buffer is as it was.
+pub record KeyIn (res : Out (List ℕ)) (o : List ℕ) (n : ℕ) (o′ : List ℕ) : Type 0 where
   pub bytes : List ℕ
   pub same : res ≡ got bytes
-  pub length-is : n ≡ length bytes
-  pub stands : take n buffer ≡ bytes
+  pub size-is : n ≡ length bytes
+  pub fits : n ≤ length o
+  pub wrote : o′ ≡ over o 0 bytes
 
--- The code's answer on a key agrees with the definitions' one; of the buffer after a refusal nothing is said.
-abbrev pub KeyAgrees : Out (List ℕ) → Key → List ℕ → Type 0
-KeyAgrees res (KeyIs n) buffer = KeyIn res n buffer
-KeyAgrees res (KeyNo a p) buffer = res ≡ no a p
+-- The code's answer on a key agrees with the definitions' one; a refusal leaves the buffer as it was.
+abbrev pub KeyAgrees : Out (List ℕ) → List ℕ → Key → List ℕ → Type 0
+KeyAgrees res o (KeyIs n) o′ = KeyIn res o n o′
+KeyAgrees res o (KeyNo a p) o′ = (res ≡ no a p) × (o′ ≡ o)

@@ -1,8 +1,8 @@
 // Strings, numbers, arrays and keys of a text as the bytes of a document (rules 13 to 15): a value goes to a place of the output.
 // The parser's cycle of lists and compounds calls these three: `scalar`, `array` and `take_key`.
-pub mod copies;
-pub mod elements;
-pub mod ranges;
+mod copies;
+mod elements;
+mod ranges;
 
 use crate::elements::Turn;
 use quotes::Contents;
@@ -20,7 +20,7 @@ ghost use Rattle.form.specs.Layout.{payload, intBytes};
 ghost use Rattle.text_form.specs.Text.{stringOf, scalarValue, keyOf, arrayAt, arrayTag};
 ghost use Rattle.tokens.specs.Answers.{dataIs};
 ghost use Rattle.quotes.specs.Puts.{Verbatim};
-ghost use Rattle.scalars.specs.Done.{Spanned, Agrees, Ahead, placed, wholePlaced, stringPlaced, KeyRoom, KeyAgrees};
+ghost use Rattle.scalars.specs.Done.{Spanned, Agrees, Puts, Ahead, placed, wholePlaced, stringPlaced, KeyRoom, KeyAgrees};
 ghost use Rattle.scalars.specs.Turns.{Wide};
 
 // The next place in the text, the next in the output, and the kind; or a refusal.
@@ -29,9 +29,9 @@ pub enum Done {
     No { number: u8, place: usize },
 }
 
-// A key's length in the buffer, or a refusal.
+// How many bytes of the buffer a key takes, or a refusal.
 pub enum Key {
-    Is { length: usize },
+    Is { size: usize },
     No { number: u8, place: usize },
 }
 
@@ -47,7 +47,7 @@ struct Spot {
 fn put_bits(bits: u64, width: usize, kind: u8, spot: Spot, out: &mut [u8]) -> Done
     requires { ⌜ width ≤ 8 ⌝ }
     ensures { λ r. ⌜ ((tag : Tag) → kindOf tag ≡ kind → payload tag ≡ bytesOf width bits
-        → Agrees (placed (length (now (out .entry))) (spot .want) tag (spot .place) (spot .next) (spot .at)) (now (out .entry)) (spot .at) r (now (out .exit))) ⌝ }
+        → Puts (placed (length (now (out .entry))) (spot .want) tag (spot .place) (spot .next) (spot .at)) (now (out .entry)) (spot .at) r (now (out .exit))) ⌝ }
 {
     let place = spot.place;
     let at = spot.at;
@@ -67,7 +67,7 @@ fn put_bits(bits: u64, width: usize, kind: u8, spot: Spot, out: &mut [u8]) -> Do
 fn put_whole(v: i64, width: usize, kind: u8, spot: Spot, out: &mut [u8]) -> Done
     requires { ⌜ (0 < width) × (width ≤ 8) ⌝ }
     ensures { λ r. ⌜ ((tag : Tag) → kindOf tag ≡ kind → payload tag ≡ intBytes width v
-        → Agrees (wholePlaced width v (length (now (out .entry))) (spot .want) tag (spot .place) (spot .next) (spot .at))
+        → Puts (wholePlaced width v (length (now (out .entry))) (spot .want) tag (spot .place) (spot .next) (spot .at))
         (now (out .entry)) (spot .at) r (now (out .exit))) ⌝ }
 {
     if ranges::in_range(v, width) {
@@ -82,19 +82,19 @@ fn put_whole(v: i64, width: usize, kind: u8, spot: Spot, out: &mut [u8]) -> Done
 // A string that is its own content, and too short for refusal 12: its kind (refusal 11), its room (refusal 13), its length and its bytes.
 fn put_plain(text: &[u8], start: usize, end: usize, spot: Spot, out: &mut [u8]) -> Done
     requires { ⌜ (start ≤ end) × (end ≤ length (now text)) × Verbatim (now text) start end ⌝ }
-    ensures { λ r. ⌜ ((quoted : Bool) → Agrees (stringPlaced (now (text .entry)) quoted start end (length (now (out .entry))) (spot .want) (spot .place) (spot .next) (spot .at))
+    ensures { λ r. ⌜ ((quoted : Bool) → Puts (stringPlaced (now (text .entry)) quoted start end (length (now (out .entry))) (spot .want) (spot .place) (spot .next) (spot .at))
         (now (out .entry)) (spot .at) r (now (out .exit))) ⌝ }
 {
     let place = spot.place;
     let at = spot.at;
-    let length = end - start;
-    let number = ranges::barred(spot.want, 8, out.len(), at, 2 + length);
+    let size = end - start;
+    let number = ranges::barred(spot.want, 8, out.len(), at, 2 + size);
     if number == 0 {
-        raw::put_number(out, at, 2, length as u64);
-        copies::copy_short(text, start, length, out, at + 2);
+        raw::put_number(out, at, 2, size as u64);
+        copies::copy_short(text, start, size, out, at + 2);
         return Done::To {
             next: spot.next,
-            used: at + 2 + length,
+            used: at + 2 + size,
             kind: 8,
         };
     }
@@ -111,23 +111,23 @@ fn put_measured(
     out: &mut [u8],
 ) -> Done
     requires { ⌜ (start ≤ end) × (end ≤ length (now text)) ⌝ }
-    ensures { λ r. ⌜ Agrees (stringPlaced (now (text .entry)) quoted start end (length (now (out .entry))) (spot .want) (spot .place) (spot .next) (spot .at))
+    ensures { λ r. ⌜ Puts (stringPlaced (now (text .entry)) quoted start end (length (now (out .entry))) (spot .want) (spot .place) (spot .next) (spot .at))
         (now (out .entry)) (spot .at) r (now (out .exit)) ⌝ }
 {
     let place = spot.place;
     let at = spot.at;
     match quotes::content_length(text, start, end, quoted) {
         Contents::Refused { number, place } => Done::No { number, place },
-        Contents::Is { length } => {
-            if form::STRING < length {
+        Contents::Is { bytes: size } => {
+            if form::STRING < size {
                 return Done::No {
                     number: form::LONG_STRING,
                     place,
                 };
             }
-            let number = ranges::barred(spot.want, 8, out.len(), at, 2 + length);
+            let number = ranges::barred(spot.want, 8, out.len(), at, 2 + size);
             if number == 0 {
-                raw::put_number(out, at, 2, length as u64);
+                raw::put_number(out, at, 2, size as u64);
                 let used = quotes::put_content(text, start, end, quoted, out, at + 2);
                 return Done::To {
                     next: spot.next,
@@ -150,7 +150,7 @@ fn put_string(
     out: &mut [u8],
 ) -> Done
     requires { ⌜ (start ≤ end) × (end ≤ length (now text)) ⌝ }
-    ensures { λ r. ⌜ Agrees (stringPlaced (now (text .entry)) quoted start end (length (now (out .entry))) (spot .want) (spot .place) (spot .next) (spot .at))
+    ensures { λ r. ⌜ Puts (stringPlaced (now (text .entry)) quoted start end (length (now (out .entry))) (spot .want) (spot .place) (spot .next) (spot .at))
         (now (out .entry)) (spot .at) r (now (out .exit)) ⌝ }
 {
     if quotes::is_plain(text, start, end) {
@@ -169,7 +169,7 @@ pub fn scalar(
     at: usize,
 ) -> Done
     requires { ⌜ Spanned (dataIs «data») (length (now text)) ⌝ }
-    ensures { λ r. ⌜ Agrees (scalarValue (now (text .entry)) (length (now (out .entry))) want (dataIs «data») next at) (now (out .entry)) at r (now (out .exit)) ⌝ }
+    ensures { λ r. ⌜ Puts (scalarValue (now (text .entry)) (length (now (out .entry))) want (dataIs «data») next at) (now (out .entry)) at r (now (out .exit)) ⌝ }
 {
     let index = data.index;
     let place = index.0;
@@ -270,19 +270,19 @@ fn key_measured(
     buffer: &mut [u8],
 ) -> Key
     requires { ⌜ (start ≤ end) × (end ≤ length (now text)) × KeyRoom (length (now text)) (length (now buffer)) ⌝ }
-    ensures { λ r. ⌜ ((room : ℕ) → KeyAgrees (stringOf (now (text .entry)) room quoted start end place) r (now (buffer .exit))) ⌝ }
+    ensures { λ r. ⌜ ((room : ℕ) → KeyAgrees (stringOf (now (text .entry)) room quoted start end place) (now (buffer .entry)) r (now (buffer .exit))) ⌝ }
 {
     match quotes::content_length(text, start, end, quoted) {
         Contents::Refused { number, place } => Key::No { number, place },
-        Contents::Is { length } => {
-            if form::STRING < length {
+        Contents::Is { bytes: size } => {
+            if form::STRING < size {
                 return Key::No {
                     number: form::LONG_STRING,
                     place,
                 };
             }
             let used = quotes::put_content(text, start, end, quoted, buffer, 0);
-            Key::Is { length: used }
+            Key::Is { size: used }
         }
     }
 }
@@ -297,12 +297,12 @@ fn put_key(
     buffer: &mut [u8],
 ) -> Key
     requires { ⌜ (start ≤ end) × (end ≤ length (now text)) × KeyRoom (length (now text)) (length (now buffer)) ⌝ }
-    ensures { λ r. ⌜ ((room : ℕ) → KeyAgrees (stringOf (now (text .entry)) room quoted start end place) r (now (buffer .exit))) ⌝ }
+    ensures { λ r. ⌜ ((room : ℕ) → KeyAgrees (stringOf (now (text .entry)) room quoted start end place) (now (buffer .entry)) r (now (buffer .exit))) ⌝ }
 {
     if quotes::is_plain(text, start, end) {
-        let length = end - start;
-        copies::copy_short(text, start, length, buffer, 0);
-        return Key::Is { length };
+        let size = end - start;
+        copies::copy_short(text, start, size, buffer, 0);
+        return Key::Is { size };
     }
     key_measured(text, quoted, start, end, place, buffer)
 }
@@ -310,7 +310,7 @@ fn put_key(
 // A key's content into a lent buffer (rule 15): a string token (19) of at most 65,535 bytes (12).
 pub fn take_key(text: &[u8], data: TokenData, buffer: &mut [u8]) -> Key
     requires { ⌜ Spanned (dataIs «data») (length (now text)) × KeyRoom (length (now text)) (length (now buffer)) ⌝ }
-    ensures { λ r. ⌜ ((room : ℕ) → KeyAgrees (keyOf (now (text .entry)) room (dataIs «data» .token) (dataIs «data» .index)) r (now (buffer .exit))) ⌝ }
+    ensures { λ r. ⌜ ((room : ℕ) → KeyAgrees (keyOf (now (text .entry)) room (dataIs «data» .token) (dataIs «data» .index)) (now (buffer .entry)) r (now (buffer .exit))) ⌝ }
 {
     let index = data.index;
     let token = data.token;

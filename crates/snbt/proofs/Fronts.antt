@@ -12,6 +12,7 @@ use Rattle.text_form.specs.Text.{signOf, following, colonAt}
 use Rattle.text_form.proofs.Moves.{token-moves}
 use Rattle.lexer.specs.Answers.{FrontIs}
 use Rattle.lexer.specs.declared.Front.{Front}
+use Rattle.lexer.proofs.Fronts.{front-sign, front-token}
 use Rattle.snbt.specs.declared.After.{After}
 use Rattle.snbt.specs.declared.Colon.{Colon}
 use Rattle.snbt.specs.Steps.{AfterIs, ColonIs}
@@ -24,16 +25,16 @@ module _ (t : List ℕ) (p : ℕ) (f : Front) (is : FrontIs t p f) (h : p ≤ le
 
   -- behind a sign the text goes on or ends
   pub sign-within : (k : Token) → 0 < signOf k → f .byte ≡ signOf k → f .place + 1 ≤ length t
-  sign-within k z e = token-moves default t p (ahead k) (f .place + 1) (is .sign default k z e) h .2
+  sign-within k z e = token-moves default t p (ahead k) (f .place + 1) (front-sign t p f is default k z e) h .2
 
   -- ---- what follows an element or an entry
 
   module _ (closing n q : ℕ) where
     pub front-comma : f .byte ≡ 44 → AfterIs t closing p n q (After.Comma (f .place) (f .place + 1))
-    front-comma e = after-comma t closing p n q (ahead comma) (f .place + 1) (is .sign default comma (omega arith) e) h refl
+    front-comma e = after-comma t closing p n q (ahead comma) (f .place + 1) (front-sign t p f is default comma (omega arith) e) h refl
 
     closed : (k : Token) → 0 < signOf k → (signOf k ≡ 44 → ⊥) → closing ≡ signOf k → f .byte ≡ closing → AfterIs t closing p n q (After.Close (f .place) (f .place + 1))
-    closed k z g s e = after-close t closing p n q (ahead k) (f .place + 1) (is .sign default k z (e ∙ s)) h g (sym s)
+    closed k z g s e = after-close t closing p n q (ahead k) (f .place + 1) (front-sign t p f is default k z (e ∙ s)) h g (sym s)
 
     pub front-close : (closing ≡ 93) ⊎ (closing ≡ 125) → f .byte ≡ closing → AfterIs t closing p n q (After.Close (f .place) (f .place + 1))
     front-close (inl s) e = closed closedSquare (omega arith) (λ z. omega (arith, z)) s e
@@ -50,7 +51,7 @@ module _ (t : List ℕ) (p : ℕ) (f : Front) (is : FrontIs t p f) (h : p ≤ le
     pub front-other : (closing ≡ 93) ⊎ (closing ≡ 125) → (f .byte ≡ 44 → ⊥) → (f .byte ≡ closing → ⊥) → (d : TokenData) (m : ℕ) → tokenAt default t p ≡ got (found d m)
         → (room : ℕ) → following t room closing p n q ≡ no unexpectedToken (f .place)
     front-other x g s d m e room =
-        let z = is .token default d m e in
+        let z = front-token t p f is default d m e in
         subst (λ (i : ℕ). following t room closing p n q ≡ no unexpectedToken i) (z .0)
         (after-other t closing p n q d m e h (λ y. g (z .1 (omega (arith, y)) ∙ y)) (λ y. s (z .1 (omega (arith, y, positive x)) ∙ y)) room)
 
@@ -58,10 +59,10 @@ module _ (t : List ℕ) (p : ℕ) (f : Front) (is : FrontIs t p f) (h : p ≤ le
 
   module _ (brace : ℕ) where
     pub front-colon : f .byte ≡ 58 → ColonIs t brace p (Colon.To (f .place + 1))
-    front-colon e = colon-to t brace p (ahead colon) (f .place + 1) (is .sign default colon (omega arith) e) h refl
+    front-colon e = colon-to t brace p (ahead colon) (f .place + 1) (front-sign t p f is default colon (omega arith) e) h refl
 
     pub front-none : (f .byte ≡ 58 → ⊥) → (d : TokenData) (m : ℕ) → tokenAt default t p ≡ got (found d m) → ColonIs t brace p (Colon.No unexpectedToken (f .place))
     front-none g d m e room =
-        let z = is .token default d m e in
+        let z = front-token t p f is default d m e in
         subst (λ (i : ℕ). colonAt t room brace p ≡ no unexpectedToken i) (z .0)
         (colon-none t brace p d m e h (λ y. g (z .1 (omega (arith, y)) ∙ y)) room)

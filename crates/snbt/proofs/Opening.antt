@@ -1,7 +1,7 @@
 -- What a function answers, from what its calls answered, by the cases of the code's enums.
 -- Assumes nothing.
 use Prim.Native.Nat.{ℕ, zero, _+_, _-_, _*_, _≤_, _<_}
-use mathlib.Core.Path.{_≡_, refl, sym, ap, _∙_}
+use mathlib.Core.Path.{_≡_, refl, sym, ap, subst, _∙_}
 use mathlib.Core.Bool.{Bool, true, false, _||_}
 use mathlib.Core.List.{List, [], _∷_, _++_}
 use native.Mathlib.Omega.{arith}
@@ -14,7 +14,8 @@ use Rattle.form.specs.Tree.{kindOf}
 use Rattle.text_form.specs.Lexing.{Stops, first, key, Token, openCurly, closedCurly, openSquare, closedSquare, comma, colon, semicolon, string, numeral, TokenData, Lexed, found, ended, tokenAt, value}
 use Rattle.text_form.specs.Text.{Value, Next, Reads, signOf, colonAt, keyOf, known, letterWidth, listAt, squareAt, arrayAt, entryAt}
 use Rattle.text_form.proofs.Moves.{token-moves, token-span}
-use Rattle.keys.specs.Keys.{Kept, FreeAt, namesIn}
+use Rattle.keys.specs.Keys.{Kept, FreeAt, SpotIs, namesIn}
+use Rattle.keys.specs.declared.Spot.{Spot}
 use Rattle.scalars.specs.declared.Done.{Done}
 use Rattle.scalars.specs.declared.Done.the-variants.{To, No}
 use Rattle.snbt.specs.declared.Opened.{Opened}
@@ -38,7 +39,9 @@ use borrow.Author.Tests.{lt-leb, le-leb}
 use lib.ListN.{set, getD, length-take}
 use lib.Seq.{length-take-le, take-suc}
 use Rattle.text_form.specs.Text.{closeAt}
-use Rattle.scalars.specs.Done.{KeyIn}
+use Rattle.scalars.specs.Done.{KeyIn, KeyAgrees}
+use Rattle.scalars.specs.declared.Key.{Key as TakenKey}
+use Rattle.scalars.proofs.Placing.{key-stands}
 use Rattle.snbt.specs.Turns.{entryTurn, stops}
 use Rattle.snbt.proofs.Steps.{met-at}
 
@@ -103,13 +106,20 @@ module _ (t : List ℕ) (brace last p : ℕ) (names : List (List ℕ)) (d : Toke
   pub keyed-trailing : (last ≡ 0 → ⊥) → (room : ℕ) (val : Reads) (u : ℕ) → entryTurn t room val brace names last p u ≡ no trailingComma last
   keyed-trailing z room val u = turn-trailing t room val brace names last p u (record { td = d; next = m }) (due-found t room key p unmatchedBrace brace d m e) s z
 
+-- a key that was taken, and one that is free, by the case of the answer
+pub key-taken : {res : Out (List ℕ)} {o buffer : List ℕ} {r : TakenKey} {n : ℕ} → r ≡ TakenKey.Is n → KeyAgrees res o r buffer → KeyIn res o n buffer
+key-taken {res} {o} {buffer} e h = subst (λ (r : TakenKey). KeyAgrees res o r buffer) e h
+
+pub spot-free : {o k : List ℕ} {base top : ℕ} {s : List ℕ} {r : Spot} {i : ℕ} → r ≡ Spot.Free i → SpotIs o k base top s r → FreeAt o k base top s i
+spot-free {o} {k} {base} {top} {s} e h = subst (λ (r : Spot). SpotIs o k base top s r) e h
+
 -- a key's content in the buffer
-module _ (t buffer : List ℕ) (x : TokenData) (n : ℕ) (e : (room : ℕ) → KeyIn (keyOf t room (x .token) (x .index)) n buffer) where
+module _ (t o buffer : List ℕ) (x : TokenData) (n : ℕ) (e : (room : ℕ) → KeyIn (keyOf t room (x .token) (x .index)) o n buffer) where
   pub key-is : (room : ℕ) → keyOf t room (x .token) (x .index) ≡ got (take n buffer)
-  key-is room = e room .same ∙ ap got (sym (e room .stands))
+  key-is room = e room .same ∙ ap got (sym (key-stands (e room)))
 
   pub key-length : n ≡ length (take n buffer)
-  key-length = e 0 .length-is ∙ ap length (sym (e 0 .stands))
+  key-length = e 0 .size-is ∙ ap length (sym (key-stands (e 0)))
 
   pub key-within : n ≤ length buffer
   key-within = omega (arith, simp length-take at key-length)

@@ -96,7 +96,7 @@ judged-within t e = go (lt-or 1048576 (length t))
 pub parse-refused : (t o o′ : List ℕ) (n p : ℕ) → parsed t (length o) ≡ no n p → o′ ≡ replicate (length o) 0 → ParseIs t o (no n p) o′
 parse-refused t o o′ n p e f = record { answer-is = sym (ap lengthsOf e); output-is = f ∙ sym (ap (λ (x : Out Block). outputAfter x o) e) }
 
-pub parse-read : (t o o′ : List ℕ) (n u : ℕ) → Rooted (parsed t (length o)) o n u o′ → ParseIs t o (got (record { consumed = n; length = u })) o′
+pub parse-read : (t o o′ : List ℕ) (n u : ℕ) → Rooted (parsed t (length o)) o n u o′ → ParseIs t o (got (record { consumed = n; written = u })) o′
 parse-read t o o′ n u r = record {
   answer-is = rw (r .next-is, r .used-is) (sym (ap lengthsOf (r .same)));
   output-is = r .wrote ∙ sym (ap (λ (x : Out Block). outputAfter x o) (r .same));

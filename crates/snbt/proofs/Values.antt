@@ -27,7 +27,7 @@ use Rattle.keys.proofs.Runs.{kept-same, names-kept, free-same}
 use Rattle.scalars.specs.declared.Done.{Done}
 use Rattle.scalars.specs.declared.Done.the-variants.{To, No}
 use Rattle.snbt.specs.declared.Turn.{Turn}
-use Rattle.scalars.specs.Done.{Did, Agrees, Ahead}
+use Rattle.scalars.specs.Done.{Did, Agrees, Puts, Ahead}
 use Rattle.scalars.specs.Turns.{Wide, bytes, ints, longs}
 use Rattle.snbt.specs.Turns.{Met, Ran, Entered, stops, enters, entryTurn, valueFrom, inner, Turned, Went, blockValue, held, enteredBytes}
 use Rattle.snbt.specs.Steps.{Keyed, SettledIs, Grown, Closed, TurnIs, ValueIs, RunIs, heldDone, unless}
@@ -67,9 +67,9 @@ module _ (t o k : List ℕ) (top at left want : ℕ) (x : TokenData) (n : ℕ) w
   value-by-square r r′ o′ k′ g s v e =
       rw (e, by-sign, value-square t (length o) left (inner t (length o) left) want x n at g s) (held-is want (x .index) _ t o k top at n r o′ k′ v)
 
-  pub value-by-scalar : (r : Done) (o′ : List ℕ) → Met t x n → at ≤ 16 * (x .index) → (signOf (x .token) ≡ 123 → ⊥) → (signOf (x .token) ≡ 91 → ⊥) → Agrees (scalarValue t (length o) want x n at) o at r o′
+  pub value-by-scalar : (r : Done) (o′ : List ℕ) → Met t x n → at ≤ 16 * (x .index) → (signOf (x .token) ≡ 123 → ⊥) → (signOf (x .token) ≡ 91 → ⊥) → Puts (scalarValue t (length o) want x n at) o at r o′
       → ValueIs (valueAt t (length o) left want x n at) t o k top at n r o′ k
-  value-by-scalar (No a b) o′ met h g s e = by-sign ∙ value-scalar t (length o) left (inner t (length o) left) want x n at g s ∙ e
+  value-by-scalar (No a b) o′ met h g s e = by-sign ∙ value-scalar t (length o) left (inner t (length o) left) want x n at g s ∙ e .0
   value-by-scalar (To m u kind) o′ met h g s d =
       let z = scalar-went met (length o) want at (d .value) (d .same) in
       let w = met-within met in (

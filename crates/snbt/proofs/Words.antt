@@ -17,9 +17,8 @@ use Rattle.form.proofs.Spans.{part-length}
 use Rattle.text_form.specs.Numbers.{isDigit}
 use Rattle.text_form.specs.Lexing.{among, default, key, colon, string, Scan, word, begun, stops, found, made, skip, tokenBy, tokenAt, contentOf}
 use Rattle.text_form.specs.Text.{keyOf, known}
-use Rattle.lexer.specs.Runs.{Ordinary, Run}
 use Rattle.lexer.proofs.Among.{blank-out}
-use Rattle.lexer.proofs.Slurps.{Going, going-start, going-run, going-stop, skip-stop}
+use Rattle.lexer.proofs.Slurps.{Ordinary, Run, Going, going-start, going-run, going-stop, skip-stop}
 use Rattle.lexer.proofs.Finds.{unquoted-string, by-word, token-here}
 use Rattle.quotes.specs.Runs.{IsPlain, Plain}
 use Rattle.quotes.proofs.Sofar.{sofar-start, sofar-plain, sofar-end}

@@ -5,7 +5,7 @@ use Rattle.text_form.specs.Text.{Lengths}
 use Rattle.snbt.specs.declared.Parsed.{Parsed}
 use Rattle.snbt.specs.declared.Parsed.the-variants.{Document, Refused}
 
--- The bytes consumed and the length of the output, or the number and the place of the refusal.
+-- The bytes consumed and those written, or the number and the place of the refusal.
 abbrev pub parsedOut : Parsed → Out Lengths
-parsedOut (Document c l) = got (record { consumed = c; length = l })
+parsedOut (Document c w) = got (record { consumed = c; written = w })
 parsedOut (Refused n p) = no n p

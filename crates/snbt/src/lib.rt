@@ -25,9 +25,9 @@ ghost use Rattle.snbt.specs.Answers.{parsedOut};
 ghost use Rattle.snbt.specs.Turns.{Ready, Met, wordData, Worded, entryTurn, inner, blockValue, valueFrom, rootOf};
 ghost use Rattle.snbt.specs.Steps.{DueIs, AfterIs, ItemIs, LetterIs, BarredIs, ListedIs, UnmatchedIs, OpenedIs, ColonIs, NamedIs, KeyedIs, SettledIs, CloseIs, TurnIs, ValueIs, RunIs, heldDone, RootIs};
 
-// The answer of a parse: the bytes of the text consumed and the length of the document, or the number and the place of the refusal.
+// The answer of a parse: the bytes of the text consumed and those of the document written, or the number and the place of the refusal.
 pub enum Parsed {
-    Document { consumed: usize, length: usize },
+    Document { consumed: usize, written: usize },
     Refused { number: u8, place: usize },
 }
 
@@ -369,7 +369,7 @@ fn named(
     let here = index.0;
     match scalars::take_key(text, td, buffer) {
         scalars::Key::No { number, place } => Key::No { number, place },
-        scalars::Key::Is { length } => match keys::spot_of(out, keys, base, top, buffer, length) {
+        scalars::Key::Is { size } => match keys::spot_of(out, keys, base, top, buffer, size) {
             Spot::Taken => Key::No {
                 number: form::NAME_TWICE,
                 place: here,
@@ -383,7 +383,7 @@ fn named(
                     place: p,
                 },
                 Colon::To { next: m } => Key::Is {
-                    size: length,
+                    size,
                     index: i,
                     next: m,
                 },
@@ -1038,7 +1038,7 @@ pub fn parse(text: &[u8], out: &mut [u8]) -> Parsed
             kind: _,
         } => Parsed::Document {
             consumed: next,
-            length: used,
+            written: used,
         },
     }
 }

@@ -12,8 +12,8 @@ use Rattle.form.specs.Answer.{pick}
 use Rattle.form.specs.Spans.{part, same}
 use Rattle.form.specs.Table.{word}
 use Rattle.form.specs.Paths.{Hop, named, item, name, index, any, deep, takes}
+use Rattle.form.specs.Records.{hopOf}
 use Rattle.form.proofs.Spans.{same-head, same-differ, same-lengths, part-length}
-use Rattle.form.proofs.Paths.{hopOf}
 use Rattle.steps.specs.Steps.{stepOf}
 use Rattle.steps.specs.Levels.{recordNo, indexNo, nameOf, hopTo, hopNo, RecordIn, LevelIn, Ready}
 use Rattle.steps.specs.Three.{isDeep}

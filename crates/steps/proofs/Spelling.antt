@@ -16,7 +16,7 @@ use Rattle.form.specs.Paths.{name}
 use Rattle.form.specs.Query.{Spelt, blamed, stepBy, stepAt}
 use Rattle.form.proofs.Fields.{byte-got, number-got, number-no, string-no, string-cut, string-bad, string-got}
 use Rattle.steps.specs.Steps.{stepOf}
-use Rattle.steps.specs.Spelling.{Goes, Reads}
+use Rattle.steps.specs.Spelling.{wordsAt, bytesAt, Goes, Reads}
 use Rattle.steps.specs.declared.Step.{Step as StepWords}
 use Rattle.steps.specs.declared.One.{One}
 use Rattle.steps.specs.declared.One.the-variants.{Next, Bad}
@@ -63,16 +63,16 @@ module _ (q : List ℕ) (at : ℕ) where
           let z : at + 3 ≡ at + 1 + 2 = omega arith in
           name-off (string-bad q (at + 1) (bigEndian (part q (at + 1) 2)) length-is (omega arith) (rw z at w))
 
-      pub name-got : wellFormed (part q (at + 3) (bigEndian (part q (at + 1) 2))) ≡ true → bigEndian (part q (at + 1) 2) < 65536
+      pub name-got : getD q at 0 ≡ 1 → wellFormed (part q (at + 3) (bigEndian (part q (at + 1) 2))) ≡ true → bigEndian (part q (at + 1) 2) < 65536
           → Reads q at (blamed at (stepBy q 1 at)) (Next (wordsOf 1 (at + 3) (bigEndian (part q (at + 1) 2))) (at + 3 + bigEndian (part q (at + 1) 2)))
-      unfolding stepBy stepOf
-      name-got w small =
+      unfolding stepBy stepOf wordsAt bytesAt
+      name-got b w small =
           let n = bigEndian (part q (at + 1) 2) in
           let z : at + 3 ≡ at + 1 + 2 = omega arith in
           let s = string-got q (at + 1) n length-is (omega arith) (rw z at w) in
           record {
             is = rw (s, z);
-            goes = next-goes (wordsOf 1 (at + 3) n) (at + 3 + n) (record { after = omega arith; near = omega arith; name = λ e. fits });
+            goes = next-goes (wordsOf 1 (at + 3) n) (at + 3 + n) (record { words = rw b refl; place = rw b (omega arith); after = omega arith; near = omega arith; name = λ e. fits });
           }
 
   -- ---- 02
@@ -90,15 +90,16 @@ module _ (q : List ℕ) (at : ℕ) where
   unfolding countAt
   index-below h b = index-off {n = negativeCount} {p = at + 1} (rw (number-got q 4 (at + 1) (omega arith), le-ltb (bigEndian (part q (at + 1) 4)) (2 ^ 31) b))
 
-  pub index-got : at + 5 ≤ length q → bigEndian (part q (at + 1) 4) < 2 ^ 31
+  pub index-got : getD q at 0 ≡ 2 → at + 5 ≤ length q → bigEndian (part q (at + 1) 4) < 2 ^ 31
       → Reads q at (blamed at (stepBy q 2 at)) (Next (wordsOf 2 (bigEndian (part q (at + 1) 4)) 0) (at + 5))
-  unfolding stepBy stepOf countAt
-  index-got h b =
+  unfolding stepBy stepOf countAt wordsAt bytesAt
+  index-got two h b =
       let n = bigEndian (part q (at + 1) 4) in
       let s : countAt q (at + 1) ≡ got n = rw (number-got q 4 (at + 1) (omega arith), lt-ltb n (2 ^ 31) b) in
       record {
         is = rw s;
-        goes = next-goes (wordsOf 2 n 0) (at + 5) (record { after = omega arith; near = omega arith; name = λ (e : 2 ≡ 1). absurd (omega arith) });
+        goes = next-goes (wordsOf 2 n 0) (at + 5)
+            (record { words = rw two refl; place = rw two refl; after = omega arith; near = omega arith; name = λ (e : 2 ≡ 1). absurd (omega arith) });
       }
 
   -- ---- the step at a place
@@ -113,21 +114,28 @@ module _ (q : List ℕ) (at : ℕ) where
     kind-is k r e s = record { is = s .is ∙ sym (by-kind k e); goes = s .goes }
 
     -- 03 and 04 are a byte.
-    plain-goes : (k : ℕ) → (k ≡ 1 → ⊥) → Goes q at (wordsOf k 0 0) (at + 1)
-    plain-goes k n = record { after = omega arith; near = omega arith; name = λ (e : k ≡ 1). absurd (n e) }
+    plain-goes : (getD q at 0 ≡ 1 → ⊥) → (getD q at 0 ≡ 2 → ⊥) → Goes q at (wordsOf (getD q at 0) 0 0) (at + 1)
+    unfolding wordsAt bytesAt
+    plain-goes n m = record {
+      words = rw (ne-eqb (getD q at 0) 1 n, ne-eqb (getD q at 0) 2 m) refl;
+      place = rw (ne-eqb (getD q at 0) 1 n, ne-eqb (getD q at 0) 2 m) refl;
+      after = omega arith;
+      near = omega arith;
+      name = λ (e : getD q at 0 ≡ 1). absurd (n e);
+    }
 
     pub any-is : getD q at 0 ≡ 3 → Reads q at (stepAt q at) (Next (wordsOf (getD q at 0) 0 0) (at + 1))
     unfolding stepBy stepOf
     any-is e = record {
       is = rw e (sym (by-kind 3 e));
-      goes = next-goes (wordsOf (getD q at 0) 0 0) (at + 1) (plain-goes (getD q at 0) (λ f. omega arith));
+      goes = next-goes (wordsOf (getD q at 0) 0 0) (at + 1) (plain-goes (λ f. omega arith) (λ f. omega arith));
     }
 
     pub deep-is : getD q at 0 ≡ 4 → Reads q at (stepAt q at) (Next (wordsOf (getD q at 0) 0 0) (at + 1))
     unfolding stepBy stepOf
     deep-is e = record {
       is = rw e (sym (by-kind 4 e));
-      goes = next-goes (wordsOf (getD q at 0) 0 0) (at + 1) (plain-goes (getD q at 0) (λ f. omega arith));
+      goes = next-goes (wordsOf (getD q at 0) 0 0) (at + 1) (plain-goes (λ f. omega arith) (λ f. omega arith));
     }
 
     -- Any other byte is no step.

@@ -6,7 +6,7 @@ use lib.ListN.{length, getD}
 use Rattle.form.specs.Spans.{part}
 use Rattle.form.specs.Table.{word}
 use Rattle.form.specs.Paths.{Hop}
-use Rattle.form.proofs.Paths.{hopOf}
+use Rattle.form.specs.Records.{hopOf}
 use Rattle.steps.specs.Steps.{span, QueryIn}
 use Rattle.steps.specs.declared.Query.{Query}
 

@@ -1,15 +1,14 @@
 // Rule 9's steps: a query's bytes taken apart (refusal 14), and whether the path to a record fits them. The path is lent as `trail`, two
 // words for each level from the root on: the record's number, and its number among its parent's children.
 ghost use mathlib.Core.Path.{_≡_};
-ghost use mathlib.Core.Bool.{false};
 ghost use Prim.Native.Nat.{_+_, _*_, _≤_, _<_};
-ghost use lib.ListN.{length};
+ghost use lib.ListN.{length, getD};
 ghost use lib.Dec.{leb};
 ghost use Rattle.form.specs.Spans.{part, same};
 ghost use Rattle.form.specs.Paths.{takes, fits};
 ghost use Rattle.form.specs.Query.{blamed, stepBy, stepAt};
 ghost use Rattle.steps.specs.Steps.{stepOf, stepsFrom, NameIn};
-ghost use Rattle.steps.specs.Spelling.{Reads, TakenIs};
+ghost use Rattle.steps.specs.Spelling.{noQuery, refusedAt, Reads, TakenIs};
 ghost use Rattle.steps.specs.Levels.{recordNo, indexNo, nameOf, hopTo, hopNo, hopsFrom, RecordIn, LevelIn, Ready};
 ghost use Rattle.steps.specs.Three.{settle, fitOf, goesOn};
 
@@ -53,7 +52,7 @@ enum One {
 
 // 01 and a string.
 fn name_step(q: &[u8], at: usize) -> One
-    requires { ⌜ (at < length (now q)) × (at ≤ 1048608) ⌝ }
+    requires { ⌜ (at < length (now q)) × (at ≤ 1048608) × (getD (now q) at 0 ≡ 1) ⌝ }
     ensures { λ r. ⌜ Reads (now (q .entry)) at (blamed at (stepBy (now (q .entry)) 1 at)) r ⌝ }
 {
     if q.len() - at < 3 {
@@ -78,7 +77,7 @@ fn name_step(q: &[u8], at: usize) -> One
 
 // 02 and an i32 that is not below 0.
 fn index_step(q: &[u8], at: usize) -> One
-    requires { ⌜ (at < length (now q)) × (at ≤ 1048608) ⌝ }
+    requires { ⌜ (at < length (now q)) × (at ≤ 1048608) × (getD (now q) at 0 ≡ 2) ⌝ }
     ensures { λ r. ⌜ Reads (now (q .entry)) at (blamed at (stepBy (now (q .entry)) 2 at)) r ⌝ }
 {
     if q.len() - at < 5 {
@@ -124,7 +123,7 @@ fn one_step(q: &[u8], at: usize) -> One
 
 // No steps.
 fn no_query() -> Query
-    ensures { λ r. ⌜ r .count ≡ 0 ⌝ }
+    ensures { λ r. ⌜ r ≡ noQuery ⌝ }
 {
     let none = Step {
         kind: 0,
@@ -139,7 +138,7 @@ fn no_query() -> Query
 
 // Refusal 14 at a place.
 fn refused(place: usize) -> Taken
-    ensures { λ r. ⌜ (r .ok ≡ false) × (r .place ≡ place) × (r .query .count ≡ 0) ⌝ }
+    ensures { λ r. ⌜ r ≡ refusedAt place ⌝ }
 {
     Taken {
         ok: false,

@@ -12,8 +12,8 @@ use Rattle.form.specs.Spans.{part}
 use Rattle.form.specs.Table.{Head, Forest, none, node, size, _⊕_, holds}
 use Rattle.form.specs.Reading.{hasName}
 use Rattle.form.specs.Writing.{stringFine, payloadFine, judged}
+use Rattle.form.specs.Records.{Stands}
 use Rattle.form.proofs.Answer.{got-no}
-use Rattle.form.proofs.Tables.{Stands}
 use Rattle.siblings.specs.declared.Found.{Found}
 use Rattle.siblings.specs.Names.{firstRepeat}
 use Rattle.siblings.specs.Forests.{repeatIn}

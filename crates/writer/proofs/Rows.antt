@@ -12,8 +12,9 @@ use lib.Dec.{eqb}
 use Rattle.form.specs.Spans.{part, over}
 use Rattle.form.specs.Table.{Head, Forest, none, node, size, word, flat, wrote, holds}
 use Rattle.form.specs.Tables.{Fair, LeafIs, ContainerIs, Within, leafFits}
+use Rattle.form.specs.Records.{Stands}
 use Rattle.form.proofs.Table.{flat-length}
-use Rattle.form.proofs.Tables.{Stands, sits-first, sits-inner, sits-later, sits-alone, sits-words, fair-name, fair-first, fair-inner, fair-later, fair-alone}
+use Rattle.form.proofs.Tables.{sits-first, sits-inner, sits-later, sits-alone, sits-words, fair-name, fair-first, fair-inner, fair-later, fair-alone}
 use Rattle.form.proofs.Leaves.{fits-held}
 use Rattle.form.proofs.Places.{over-part}
 use Rattle.siblings.specs.Holding.{NamesIn, Holds}

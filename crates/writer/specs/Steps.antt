@@ -10,7 +10,7 @@ use Rattle.form.specs.Spans.{over}
 use Rattle.form.specs.Table.{Head, Forest, none, node, size, word}
 use Rattle.form.specs.Tables.{Fair, Within, IsTable}
 use Rattle.form.specs.Writing.{judged, Gives, written, WriteIs}
-use Rattle.form.proofs.Tables.{Sits}
+use Rattle.form.specs.Records.{Sits}
 use Rattle.writer.specs.declared.Answer.{Answer}
 use Rattle.writer.specs.declared.Fine.{Fine}
 use Rattle.writer.specs.declared.Size.{Size}

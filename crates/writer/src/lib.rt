@@ -15,7 +15,7 @@ use table::Verdict;
 
 // The answer to a write: the number of bytes written, or the number and the place of the refusal.
 pub enum Answer {
-    Written { length: usize },
+    Written { bytes: usize },
     Refused { number: u8, place: usize },
 }
 
@@ -374,15 +374,15 @@ fn written(doc: &[u8], table: &mut [u32], out: &mut [u8]) -> Answer
     let end = table::word(table, 0, table::END);
     match judged(doc, table, 0, end, form::DEPTH, false, 0) {
         Size::No { number, place } => Answer::Refused { number, place },
-        Size::Is(length) => {
-            if out.len() < length {
+        Size::Is(bytes) => {
+            if out.len() < bytes {
                 return Answer::Refused {
                     number: form::OUTPUT_FULL,
                     place: 0,
                 };
             }
             put_all(doc, table, 0, end, false, out, 0);
-            Answer::Written { length }
+            Answer::Written { bytes }
         }
     }
 }

@@ -6,11 +6,6 @@ use Rattle.keys.proofs.Runs.{joint-near, added-stays}
 use Rattle.keys.proofs.Merges.{full-whole, full-merged}
 use Rattle.keys.proofs.add.Statement.{statement}
 use Rattle.keys.proofs.add.Tie as tie
-use Rattle.keys.proofs.add.Reads as reads
-use Rattle.keys.proofs.add.Lts as lts
-use Rattle.keys.proofs.joint.Reads as joint-reads
-use Rattle.keys.proofs.merge.Reads as merge-reads
-use Rattle.keys.proofs.put_in.Reads as put-in-reads
 
 put-in-requires : tie.Need-put-in-requires
 put-in-requires c κs = search needs
@@ -37,7 +32,8 @@ returns c =
     let j = m .before .before .before in
     let p = j .before .before .before in
     let s = p .before .before .before .before in
-    full-merged (s .pre) _ (p .put-in .ensures) (j .joint .ensures) (m .before .before .if1 .taken) _ _ (m .merge .ensures) (m .merge .kept .1 .0)
+    let full = m .before .before .if1 .taken in
+    (full-merged (s .pre) _ (p .put-in .ensures) (j .joint .ensures) full _ _ (m .merge .ensures) (m .merge .kept .1 .0), λ h. absurd (h (omega (arith, full, j .joint .ensures))))
 
 same-length-2 : tie.Need-same-length-2
 same-length-2 c = search needs
@@ -48,8 +44,8 @@ returns-2 c =
     let p = j .before .before .before in
     let s = p .before .before .before .before in
     let k = s .pre .kept in
-    added-stays (s .pre) _ (p .put-in .ensures)
-    (omega (arith, k .first .low, k .second .low, j .joint .ensures, c .if1 .left, joint-near (s .args .base) (s .args .top) (omega (arith, k .first .low, k .second .low))))
+    let near = joint-near (s .args .base) (s .args .top) (omega (arith, k .first .low, k .second .low)) in
+    (added-stays (s .pre) _ (p .put-in .ensures) (omega (arith, k .first .low, k .second .low, j .joint .ensures, c .if1 .left, near)), λ h. p .put-in .ensures)
 
 pub add-spec : {M : Type 1} → statement M
 add-spec =

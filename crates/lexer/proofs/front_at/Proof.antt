@@ -1,9 +1,9 @@
 -- `front_at` meets its contract: the byte at the first place that is not blank, or the end.
 -- Assumes nothing.
-use mathlib.Core.Path.{refl, sym}
+use mathlib.Core.Path.{sym, ap, subst}
+use Prim.Native.Nat.{ℕ, _≤_}
 use borrow.Author.Needs.{needs}
-use lib.ListN.{List·getD-eq-default}
-use Rattle.lexer.proofs.Fronts.{front-is}
+use lib.ListN.{length, getD, List·getD-eq-default}
 use Rattle.lexer.proofs.front_at.Statement.{statement}
 use Rattle.lexer.proofs.front_at.Tie as tie
 
@@ -13,5 +13,12 @@ front-at-spec =
     (tie.spec
     (λ c κs. search needs)
     (λ c. search needs)
-    (λ c. front-is _ _ _ (c .before .before .skip-blank .ensures) refl)
-    (λ c. front-is _ _ _ (c .before .skip-blank .ensures) (sym (List·getD-eq-default (c .before .before .before .args .text .now) 0 (c .if1 .left)))))
+    (λ c.
+    let at-skip = c .before .before in
+    let t = at-skip .before .before .args .text .now in
+    let is = at-skip .skip-blank .ensures in
+    record { place = is; byte = ap (λ (i : ℕ). getD t i 0) is })
+    (λ c.
+    let t = c .before .before .before .args .text .now in
+    let is = c .before .skip-blank .ensures in
+    record { place = is; byte = sym (List·getD-eq-default t 0 (subst (λ (i : ℕ). length t ≤ i) is (c .if1 .left))) }))

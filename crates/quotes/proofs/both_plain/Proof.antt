@@ -1,12 +1,23 @@
 -- Right since the two runs overlap or meet.
 -- Assumes nothing.
-use Prim.Native.Nat.{_+_, _-_}
-use mathlib.Core.Path.{_≡_}
+use mathlib.Core.Path.{sym, _∙_}
 use native.Mathlib.Omega.{arith}
 use borrow.Author.Needs.{needs}
-use Rattle.quotes.proofs.Walks.{false-true, plain-join}
+use Rattle.quotes.proofs.Plains.{both-in, first-fails}
 use Rattle.quotes.proofs.both_plain.Statement.{statement}
 use Rattle.quotes.proofs.both_plain.Tie as tie
+
+returns : tie.Need-returns
+returns c =
+    let at-first = c .before .before in
+    let a = at-first .before .before .args in
+    c .all-plain2 .ensures ∙ both-in 92 (a .text .now) (a .start) (a .end) (a .n) (omega arith) (omega arith) (sym (at-first .all-plain .ensures) ∙ c .before .if1 .taken)
+
+returns-2 : tie.Need-returns-2
+returns-2 c =
+    let at-first = c .before in
+    let a = at-first .before .before .args in
+    first-fails 92 (a .text .now) (a .start) (a .end) (a .n) (omega arith) (omega arith) (sym (at-first .all-plain .ensures) ∙ c .if1 .left)
 
 pub both-plain-spec : {M : Type 1} → statement M
 both-plain-spec =
@@ -15,8 +26,5 @@ both-plain-spec =
     (λ c κs. search needs)  -- all-plain-requires
     (λ c. search needs)  -- sub-all-plain
     (λ c κs. search needs)  -- all-plain-requires-2
-    (λ c h.
-    let a = c .before .before .before .before .args in
-    let e : a .end - a .n + a .n ≡ a .end = omega arith in
-    rw e at (plain-join 92 (a .text .now) (a .start) (a .start + a .n) (a .end - a .n) _ (omega arith) (c .before .before .all-plain .ensures (c .before .if1 .taken)) (c .all-plain2 .ensures h)))  -- returns
-    (λ c e. absurd (false-true e)))  -- returns-2
+    returns
+    returns-2)

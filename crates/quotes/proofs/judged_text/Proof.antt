@@ -19,10 +19,10 @@ enum-told-2 : tie.Need-enum-told-2
 enum-told-2 c = search needs
 
 returns-2 : tie.Need-returns-2
-returns-2 c = let a = c .before .before .before .before .before .args in text-judged (a .text .now) _ _ (omega arith) (c .before .before .check-utf8 .ensures) (c .enum-told .given .1)
+returns-2 c = let a = c .before .before .before .before .before .args in text-judged (a .text .now) _ _ (omega arith) (c .before .before .check-utf8 .ensures .0) (c .enum-told .given .1)
 
 returns-3 : tie.Need-returns-3
-returns-3 c = let a = c .before .before .before .before .before .args in text-judged (a .text .now) _ _ (omega arith) (c .before .before .check-utf8 .ensures) (c .enum-told2 .given .1)
+returns-3 c = let a = c .before .before .before .before .before .args in text-judged (a .text .now) _ _ (omega arith) (c .before .before .check-utf8 .ensures .0) (c .enum-told2 .given .1)
 
 pub judged-text-spec : {M : Type 1} → statement M
 judged-text-spec = tie.close (tie.spec returns check-utf8-requires enum-told enum-told-2 returns-2 returns-3)

@@ -5,6 +5,7 @@ use native.Mathlib.Omega.{arith}
 use borrow.Author.Needs.{needs}
 use Rattle.quotes.specs.Runs.{Plain}
 use Rattle.quotes.proofs.Walks.{plain-more}
+use Rattle.quotes.proofs.Plains.{zero-is}
 use Rattle.quotes.proofs.plain_from.Statement.{statement}
 use Rattle.quotes.proofs.plain_from.Tie as tie
 
@@ -26,6 +27,6 @@ plain-from-spec =
     (λ c κs. search needs)  -- unplain-requires
     (λ c. omega arith)  -- add-i
     (λ c. omega arith)  -- loop-less
-    (λ c. (omega arith, omega arith, plain-more _ _ _ _ (c .before .before .before .before .loop .inv .2) (c .before .unplain .ensures (c .if1 .taken))))  -- loop-again
+    (λ c. (omega arith, omega arith, plain-more _ _ _ _ (c .before .before .before .before .loop .inv .2) (zero-is _ _ _ (c .before .unplain .ensures) (c .if1 .taken))))  -- loop-again
     (λ c. c .before .before .before .before .loop .inv)  -- returns
     (λ c. c .before .loop .inv))  -- returns-2

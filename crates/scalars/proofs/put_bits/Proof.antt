@@ -1,7 +1,7 @@
 -- `put_bits` meets its contract: kind and room are asked in their order, and the bytes are the number's, whatever the width.
 -- Assumes nothing.
 use borrow.Author.Needs.{needs}
-use mathlib.Core.Path.{sym, _∙_}
+use mathlib.Core.Path.{refl, sym, _∙_}
 use native.Mathlib.Omega.{arith}
 use lib.ListN.{length}
 use Rattle.form.specs.Numbers.{bytesOf}
@@ -38,7 +38,7 @@ returns-2 : tie.Need-returns-2
 returns-2 c =
     λ tag k s.
     let a = c .before .before .before .args in
-    placed-barred (a .out .now) (a .spot .want) (a .spot .place) (a .spot .next) (a .spot .at) (a .kind) (a .width) (bytesOf (a .width) (a .bits)) (digits-length (a .width) (a .bits)) tag k s (c .before .barred .ensures) (c .if1 .left)
+    (placed-barred (a .out .now) (a .spot .want) (a .spot .place) (a .spot .next) (a .spot .at) (a .kind) (a .width) (bytesOf (a .width) (a .bits)) (digits-length (a .width) (a .bits)) tag k s (c .before .barred .ensures) (c .if1 .left), refl)
 
 pub put-bits-spec : {M : Type 1} → statement M
 put-bits-spec =

@@ -1,8 +1,8 @@
 -- `put_measured` meets its contract: its content is the definition's, then kind and room are asked, then length and content are put.
 -- Assumes nothing.
 use borrow.Author.Needs.{needs}
-use Prim.Native.Nat.{_+_}
-use mathlib.Core.Path.{_≡_, sym, ap, _∙_}
+use Prim.Native.Nat.{_+_, _≤_}
+use mathlib.Core.Path.{_≡_, refl, sym, ap, _∙_}
 use mathlib.Core.List.{List}
 use native.Mathlib.Omega.{arith}
 use lib.ListN.{length}
@@ -16,89 +16,92 @@ use Rattle.scalars.proofs.Placing.{unbarred, content-is, content-no, st
 use Rattle.scalars.proofs.put_measured.Statement.{statement}
 use Rattle.scalars.proofs.put_measured.Tie as tie
 
+-- The content was asked for at the start.
+abbrev start : tie.After-content-length → tie.Start
+start c = c .before .before .before
+
 -- The content whose length was measured.
-measured : (c : tie.After-length) → (s : List _) × (contentOf (c .before .before .before .before .before .args .text .now) (c .before .before .before .before .before .args .quoted) (c .before .before .before .before .before .args .start) (c .before .before .before .before .before .args .end) ≡ got s) × (c .length .given .0 .0 ≡ length s)
-measured c = content-is _ _ (sym (ap contentOut (c .length .given .1)) ∙ c .before .before .content-length .ensures)
+measured : (c : tie.After-size) → let a = start (c .before .before) .args in (s : List _) × (contentOf (a .text .now) (a .quoted) (a .start) (a .end) ≡ got s) × (c .size .given .0 .0 ≡ length s)
+measured c = content-is _ _ (sym (ap contentOut (c .size .given .1)) ∙ c .before .before .content-length .ensures)
 
-content-length-requires : tie.Need-content-length-requires
-content-length-requires c κs = search needs
+-- The length was told before kind and room were asked.
+abbrev sized : tie.After-barred → tie.After-size
+sized c = c .before .before .before
 
-enum-known-number : tie.Need-enum-known-number
-enum-known-number c = search needs
-
-enum-known-length : tie.Need-enum-known-length
-enum-known-length c = search needs
+-- There is room for the length and the content.
+room : (c : tie.Then2) → let z = sized (c .before) in let a = start (z .before .before) .args in a .spot .at + (2 + z .size .given .0 .0) ≤ length (a .out .now)
+room c =
+    let z = sized (c .before) in
+    let a = start (z .before .before) .args in
+    unbarred (a .spot .want) 8 (length (a .out .now)) (a .spot .at) (2 + z .size .given .0 .0) (sym (c .before .barred .ensures) ∙ c .if2 .taken) .1
 
 returns : tie.Need-returns
 returns c =
-    let a = c .before .before .before .before .before .before .before .args in
-    string-12 (a .text .now) (a .quoted) (a .start) (a .end) (a .spot .want) (a .spot .place) (a .spot .next) (a .spot .at) (c .before .before .length .given .0 .0) (a .out .now) (measured (c .before .before)) (c .if1 .taken)
-
-add-barred : tie.Need-add-barred
-add-barred c = search needs
-
-barred-requires : tie.Need-barred-requires
-barred-requires c κs = search needs
+    let z = c .before .before in
+    let a = start (z .before .before) .args in
+    (string-12 (a .text .now) (a .quoted) (a .start) (a .end) (a .spot .want) (a .spot .place) (a .spot .next) (a .spot .at) (z .size .given .0 .0) (a .out .now) (measured z) (c .if1 .taken), refl)
 
 put-number-requires : tie.Need-put-number-requires
-put-number-requires c κs =
-    let a = c .before .before .before .before .before .before .before .before .before .before .args in
-    let n = (c .before .before .before .before .before .length .given .0 .0) in
-    let h = unbarred (a .spot .want) 8 (length (a .out .now)) (a .spot .at) (2 + n) (sym (c .before .before .barred .ensures) ∙ c .before .if2 .taken) .1 in
-    (omega arith, omega (arith, h))
+put-number-requires c κs = (omega arith, omega (arith, room (c .before)))
 
-add-put-content : tie.Need-add-put-content
-add-put-content c =
-    let a = c .before .before .before .before .before .before .before .before .before .before .before .before .before .before .args in
-    let n = (c .before .before .before .before .before .before .before .before .before .length .given .0 .0) in
-    let h = unbarred (a .spot .want) 8 (length (a .out .now)) (a .spot .at) (2 + n) (sym (c .before .before .before .before .before .before .barred .ensures) ∙ c .before .before .before .before .before .if2 .taken) .1 in
-    omega (arith, h)
+-- From the content's call back to where there is room.
+abbrev roomy : tie.After-put-content-arg → tie.Then2
+roomy c = let put = c .before .before .before in put .before .before
 
 put-content-requires : tie.Need-put-content-requires
 put-content-requires c κs =
-    let a = c .before .before .before .before .before .before .before .before .before .before .before .before .before .before .args in
-    let n = (c .before .before .before .before .before .before .before .before .before .length .given .0 .0) in
-    let h = unbarred (a .spot .want) 8 (length (a .out .now)) (a .spot .at) (2 + n) (sym (c .before .before .before .before .before .before .barred .ensures) ∙ c .before .before .before .before .before .if2 .taken) .1 in
-    let m = measured (c .before .before .before .before .before .before .before .before .before) in
+    let h = room (roomy c) in
+    let z = sized (roomy c .before) in
+    let s = start (z .before .before) in
+    let a = s .args in
+    let n = z .size .given .0 .0 in
+    let m = measured z in
     let w = digits-length 2 n in
     let l = ap length (c .before .before .before .put-number .ensures) ∙ over-length (a .out .now) (a .spot .at) (bytesOf 2 n) (omega (arith, h, w)) in
-    record { bytes = m .0; is = m .1; within = c .before .before .before .before .before .before .before .before .before .before .before .before .before .before .pre; fits = omega (arith, h, l, m .2) }
-
-same-length : tie.Need-same-length
-same-length c = search needs
+    record { bytes = m .0; is = m .1; within = s .pre; fits = omega (arith, h, l, m .2) }
 
 returns-2 : tie.Need-returns-2
 returns-2 c =
-    let a = c .before .before .before .before .before .before .before .before .before .before .before .before .before .before .before .before .before .args in
-    string-did (a .text .now) (a .quoted) (a .start) (a .end) (a .spot .want) (a .spot .place) (a .spot .next) (a .spot .at) (c .before .before .before .before .before .before .before .before .before .before .before .before .length .given .0 .0) (a .out .now) (measured (c .before .before .before .before .before .before .before .before .before .before .before .before)) (c .before .before .before .before .before .before .before .before .before .before .if1 .left) (c .before .before .before .before .before .before .before .before .before .barred .ensures) (c .before .before .before .before .before .before .before .before .if2 .taken)
-    (c .before .before .before .before .before .before .put-number .last .0) (c .before .before .put-content .last .1 .1 .1 .1 .0) (c .before .before .put-content .result) (c .before .before .before .before .before .before .put-number .ensures) (c .before .before .put-content .ensures)
+    let last = c .before .before in
+    let put = last .before .before .before .before in
+    let t = roomy (last .before) in
+    let z = sized (t .before) in
+    let a = start (z .before .before) .args in
+    string-did (a .text .now) (a .quoted) (a .start) (a .end) (a .spot .want) (a .spot .place) (a .spot .next) (a .spot .at) (z .size .given .0 .0) (a .out .now) (measured z)
+    (t .before .before .if1 .left) (t .before .barred .ensures) (t .if2 .taken) (put .put-number .last .0) (last .put-content .last .1 .1 .1 .1 .0) (last .put-content .result) (put .put-number .ensures)
+    (last .put-content .ensures)
 
 returns-3 : tie.Need-returns-3
 returns-3 c =
-    let a = c .before .before .before .before .before .before .args in
-    string-refused (a .text .now) (a .quoted) (a .start) (a .end) (a .spot .place) (length (a .out .now)) (a .spot .want) (a .spot .next) (a .spot .at) _ _
-    (string-no (a .text .now) (a .quoted) (a .start) (a .end) (a .spot .place) (length (a .out .now)) _ _
-    (content-no _ _ _ (sym (ap contentOut (c .before .number .given .1)) ∙ c .before .before .before .content-length .ensures)))
+    let called = c .before .before .before in
+    let a = start called .args in
+    let e = content-no _ _ _ (sym (ap contentOut (c .before .number .given .1)) ∙ called .content-length .ensures) in
+    let n = string-no (a .text .now) (a .quoted) (a .start) (a .end) (a .spot .place) (length (a .out .now)) _ _ e in
+    (string-refused (a .text .now) (a .quoted) (a .start) (a .end) (a .spot .place) (length (a .out .now)) (a .spot .want) (a .spot .next) (a .spot .at) _ _ n, refl)
 
 returns-4 : tie.Need-returns-4
 returns-4 c =
-    let a = c .before .before .before .before .before .before .before .before .before .args in
-    string-barred (a .text .now) (a .quoted) (a .start) (a .end) (a .spot .want) (a .spot .place) (a .spot .next) (a .spot .at) (c .before .before .before .before .length .given .0 .0) (a .out .now) (measured (c .before .before .before .before)) (c .before .before .if1 .left) (c .before .barred .ensures) (c .if2 .left)
+    let z = sized (c .before) in
+    let a = start (z .before .before) .args in
+    let n = z .size .given .0 .0 in
+    let e = string-barred (a .text .now) (a .quoted) (a .start) (a .end) (a .spot .want) (a .spot .place) (a .spot .next) (a .spot .at) n (a .out .now) (measured z) (c .before .before .if1 .left)
+    (c .before .barred .ensures) (c .if2 .left) in
+    (e, refl)
 
 pub put-measured-spec : {M : Type 1} → statement M
 put-measured-spec =
     tie.close
     (tie.spec
-    content-length-requires
-    enum-known-number
-    enum-known-length
+    (λ c κs. search needs)  -- content-length-requires
+    (λ c. search needs)  -- enum-known-number
+    (λ c. search needs)  -- enum-known-size
     returns
-    add-barred
-    barred-requires
+    (λ c. search needs)  -- add-barred
+    (λ c κs. search needs)  -- barred-requires
     put-number-requires
-    add-put-content
+    (λ c. omega (arith, room (roomy c)))  -- add-put-content
     put-content-requires
-    same-length
+    (λ c. search needs)  -- same-length
     returns-2
     returns-3
     returns-4)

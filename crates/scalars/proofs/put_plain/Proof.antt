@@ -2,7 +2,7 @@
 -- Assumes nothing.
 use borrow.Author.Needs.{needs}
 use Prim.Native.Nat.{_+_, _-_, _≤_}
-use mathlib.Core.Path.{_≡_, refl, sym, ap, _∙_}
+use mathlib.Core.Path.{refl, sym, ap, _∙_}
 use native.Mathlib.Omega.{arith}
 use lib.ListN.{length}
 use Rattle.form.specs.Numbers.{bytesOf}
@@ -46,15 +46,17 @@ returns-2 c =
     λ quoted.
     let s = c .before .before .before .before in
     let a = s .args in
-    let p = s .pre in
-    string-barred (a .text .now) quoted (a .start) (a .end) (a .spot .want) (a .spot .place) (a .spot .next) (a .spot .at) (a .end - a .start) (a .out .now)
-    (verbatim-is (a .text .now) (a .start) (a .end) (p .0) (p .1) (p .2) quoted) (omega (arith, p .2 .short)) (c .before .barred .ensures) (c .if1 .left)
+    let p = s .pre in (
+      string-barred (a .text .now) quoted (a .start) (a .end) (a .spot .want) (a .spot .place) (a .spot .next) (a .spot .at) (a .end - a .start) (a .out .now)
+          (verbatim-is (a .text .now) (a .start) (a .end) (p .0) (p .1) (p .2) quoted) (omega (arith, p .2 .short)) (c .before .barred .ensures) (c .if1 .left),
+      refl,
+    )
 
 pub put-plain-spec : {M : Type 1} → statement M
 put-plain-spec =
     tie.close
     (tie.spec
-    (λ c. search needs)  -- sub-length
+    (λ c. search needs)  -- sub-size
     (λ c. search needs)  -- add-barred
     (λ c κs. search needs)  -- barred-requires
     put-number-requires

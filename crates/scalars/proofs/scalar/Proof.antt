@@ -12,8 +12,8 @@ use Rattle.raw.proofs.Signs.{held}
 use Rattle.text_form.specs.Numbers.{byte, short, int, long}
 use Rattle.text_form.specs.Text.{scalarTag}
 use Rattle.tokens.specs.Answers.{tokenIs, dataIs}
-use Rattle.scalars.specs.Done.{Agrees}
-use Rattle.scalars.proofs.Placing.{spanned-string, spanned-real, scalar-string, whole-agrees, real-agrees, scalar-sign}
+use Rattle.scalars.specs.Done.{Puts}
+use Rattle.scalars.proofs.Placing.{spanned-string, spanned-real, scalar-string, whole-puts, real-puts, scalar-sign}
 use Rattle.scalars.proofs.scalar.Statement.{statement}
 use Rattle.scalars.proofs.scalar.Tie as tie
 
@@ -96,7 +96,7 @@ returns : tie.Need-returns
 returns c =
     let a = c .before .before .before .before .before .before .before .before .before .before .args in
     let r = c .before .before .put-string in
-    subst (λ res. Agrees res (a .out .now) (a .at) (r .result) (r .last .1 .1 .1 .1 .1 .0))
+    subst (λ res. Puts res (a .out .now) (a .at) (r .result) (r .last .1 .1 .1 .1 .1 .0))
     (scalar-string (a .text .now) (length (a .out .now)) (a .want) (dataIs (a .«data»)) (a .next) (a .at) (ap tokenIs (c .before .before .before .before .before .token .given .1))) (r .ensures)
 
 same-length-2 : tie.Need-same-length-2
@@ -107,7 +107,7 @@ returns-2 c =
     let a = c .before .before .before .before .before .before .before .before .before .before .args in
     let r = c .before .before .put-whole in
     let v = c .before .before .before .before .before .token2 .given in
-    whole-agrees (a .text .now) (a .out .now) (a .want) (dataIs (a .«data»)) (a .next) (a .at) byte tree.byte 1 1 (v .0 .0) _ (r .result) (r .last .1 .1 .1 .1 .0)
+    whole-puts (a .text .now) (a .out .now) (a .want) (dataIs (a .«data»)) (a .next) (a .at) byte tree.byte 1 1 (v .0 .0) _ (r .result) (r .last .1 .1 .1 .1 .0)
     (ap tokenIs (v .1)) (held (v .0 .0) (c .before .before .before .before .known-told2 .given .0 .1)) (λ p. refl) (unfold kindOf in refl) (unfold payload in refl) (r .ensures)
 
 same-length-3 : tie.Need-same-length-3
@@ -118,7 +118,7 @@ returns-3 c =
     let a = c .before .before .before .before .before .before .before .before .before .before .args in
     let r = c .before .before .put-whole2 in
     let v = c .before .before .before .before .before .token3 .given in
-    whole-agrees (a .text .now) (a .out .now) (a .want) (dataIs (a .«data»)) (a .next) (a .at) short tree.short 2 2 (v .0 .0) _ (r .result) (r .last .1 .1 .1 .1 .0)
+    whole-puts (a .text .now) (a .out .now) (a .want) (dataIs (a .«data»)) (a .next) (a .at) short tree.short 2 2 (v .0 .0) _ (r .result) (r .last .1 .1 .1 .1 .0)
     (ap tokenIs (v .1)) (held (v .0 .0) (c .before .before .before .before .known-told3 .given .0 .1)) (λ p. refl) (unfold kindOf in refl) (unfold payload in refl) (r .ensures)
 
 same-length-4 : tie.Need-same-length-4
@@ -129,7 +129,7 @@ returns-4 c =
     let a = c .before .before .before .before .before .before .before .before .before .before .args in
     let r = c .before .before .put-whole3 in
     let v = c .before .before .before .before .before .token4 .given in
-    whole-agrees (a .text .now) (a .out .now) (a .want) (dataIs (a .«data»)) (a .next) (a .at) int tree.int 4 3 (v .0 .0) _ (r .result) (r .last .1 .1 .1 .1 .0)
+    whole-puts (a .text .now) (a .out .now) (a .want) (dataIs (a .«data»)) (a .next) (a .at) int tree.int 4 3 (v .0 .0) _ (r .result) (r .last .1 .1 .1 .1 .0)
     (ap tokenIs (v .1)) (held (v .0 .0) (c .before .before .before .before .known-told4 .given .0 .1)) (λ p. refl) (unfold kindOf in refl) (unfold payload in refl) (r .ensures)
 
 same-length-5 : tie.Need-same-length-5
@@ -140,7 +140,7 @@ returns-5 c =
     let a = c .before .before .before .before .before .before .before .before .before .before .args in
     let r = c .before .before .put-whole4 in
     let v = c .before .before .before .before .before .token5 .given in
-    whole-agrees (a .text .now) (a .out .now) (a .want) (dataIs (a .«data»)) (a .next) (a .at) long tree.long 8 4 (v .0 .0) _ (r .result) (r .last .1 .1 .1 .1 .0)
+    whole-puts (a .text .now) (a .out .now) (a .want) (dataIs (a .«data»)) (a .next) (a .at) long tree.long 8 4 (v .0 .0) _ (r .result) (r .last .1 .1 .1 .1 .0)
     (ap tokenIs (v .1)) (held (v .0 .0) (c .before .before .before .before .known-told5 .given .0 .1)) (λ p. refl) (unfold kindOf in refl) (unfold payload in refl) (r .ensures)
 
 same-length-6 : tie.Need-same-length-6
@@ -151,7 +151,7 @@ returns-6 c =
     let a = c .before .before .before .before .before .before .before .before .before .before .before .args in
     let r = c .before .before .put-bits in
     let f = c .before .before .before .before .f32-bits in
-    real-agrees (a .text .now) (a .out .now) (a .want) (dataIs (a .«data»)) (a .next) (a .at) (tree.float (f .result)) 4 5 (f .result) (r .result) (r .last .1 .1 .1 .1 .0)
+    real-puts (a .text .now) (a .out .now) (a .want) (dataIs (a .«data»)) (a .next) (a .at) (tree.float (f .result)) 4 5 (f .result) (r .result) (r .last .1 .1 .1 .1 .0)
     (ap tokenIs (c .before .before .before .before .before .before .token6 .given .1)) (λ p. ap (λ b. got (tree.float b)) (sym (f .ensures))) (unfold kindOf in refl) (unfold payload in refl) (r .ensures)
 
 same-length-7 : tie.Need-same-length-7
@@ -163,43 +163,43 @@ returns-7 c =
     let r = c .before .before .put-bits2 in
     let v = c .before .before .before .before .before .token7 .given in
     let b = toBits binary64 (v .0 .0) in
-    real-agrees (a .text .now) (a .out .now) (a .want) (dataIs (a .«data»)) (a .next) (a .at) (tree.double b) 8 6 b (r .result) (r .last .1 .1 .1 .1 .0)
+    real-puts (a .text .now) (a .out .now) (a .want) (dataIs (a .«data»)) (a .next) (a .at) (tree.double b) 8 6 b (r .result) (r .last .1 .1 .1 .1 .0)
     (ap tokenIs (v .1)) (λ p. refl) (unfold kindOf in refl) (unfold payload in refl) (r .ensures)
 
 returns-8 : tie.Need-returns-8
 returns-8 c =
     let a = c .before .before .before .before .before .args in
-    scalar-sign (a .text .now) (length (a .out .now)) (a .want) (dataIs (a .«data»)) (a .next) (a .at) (λ p. unfold scalarTag in ap (λ k. scalarTag (a .text .now) (length (a .out .now)) (tokenIs k) p) (c .enum-told .given .1))
+    (scalar-sign (a .text .now) (length (a .out .now)) (a .want) (dataIs (a .«data»)) (a .next) (a .at) (λ p. unfold scalarTag in ap (λ k. scalarTag (a .text .now) (length (a .out .now)) (tokenIs k) p) (c .enum-told .given .1)), refl)
 
 returns-9 : tie.Need-returns-9
 returns-9 c =
     let a = c .before .before .before .before .before .args in
-    scalar-sign (a .text .now) (length (a .out .now)) (a .want) (dataIs (a .«data»)) (a .next) (a .at) (λ p. unfold scalarTag in ap (λ k. scalarTag (a .text .now) (length (a .out .now)) (tokenIs k) p) (c .enum-told2 .given .1))
+    (scalar-sign (a .text .now) (length (a .out .now)) (a .want) (dataIs (a .«data»)) (a .next) (a .at) (λ p. unfold scalarTag in ap (λ k. scalarTag (a .text .now) (length (a .out .now)) (tokenIs k) p) (c .enum-told2 .given .1)), refl)
 
 returns-10 : tie.Need-returns-10
 returns-10 c =
     let a = c .before .before .before .before .before .args in
-    scalar-sign (a .text .now) (length (a .out .now)) (a .want) (dataIs (a .«data»)) (a .next) (a .at) (λ p. unfold scalarTag in ap (λ k. scalarTag (a .text .now) (length (a .out .now)) (tokenIs k) p) (c .enum-told3 .given .1))
+    (scalar-sign (a .text .now) (length (a .out .now)) (a .want) (dataIs (a .«data»)) (a .next) (a .at) (λ p. unfold scalarTag in ap (λ k. scalarTag (a .text .now) (length (a .out .now)) (tokenIs k) p) (c .enum-told3 .given .1)), refl)
 
 returns-11 : tie.Need-returns-11
 returns-11 c =
     let a = c .before .before .before .before .before .args in
-    scalar-sign (a .text .now) (length (a .out .now)) (a .want) (dataIs (a .«data»)) (a .next) (a .at) (λ p. unfold scalarTag in ap (λ k. scalarTag (a .text .now) (length (a .out .now)) (tokenIs k) p) (c .enum-told4 .given .1))
+    (scalar-sign (a .text .now) (length (a .out .now)) (a .want) (dataIs (a .«data»)) (a .next) (a .at) (λ p. unfold scalarTag in ap (λ k. scalarTag (a .text .now) (length (a .out .now)) (tokenIs k) p) (c .enum-told4 .given .1)), refl)
 
 returns-12 : tie.Need-returns-12
 returns-12 c =
     let a = c .before .before .before .before .before .args in
-    scalar-sign (a .text .now) (length (a .out .now)) (a .want) (dataIs (a .«data»)) (a .next) (a .at) (λ p. unfold scalarTag in ap (λ k. scalarTag (a .text .now) (length (a .out .now)) (tokenIs k) p) (c .enum-told5 .given .1))
+    (scalar-sign (a .text .now) (length (a .out .now)) (a .want) (dataIs (a .«data»)) (a .next) (a .at) (λ p. unfold scalarTag in ap (λ k. scalarTag (a .text .now) (length (a .out .now)) (tokenIs k) p) (c .enum-told5 .given .1)), refl)
 
 returns-13 : tie.Need-returns-13
 returns-13 c =
     let a = c .before .before .before .before .before .args in
-    scalar-sign (a .text .now) (length (a .out .now)) (a .want) (dataIs (a .«data»)) (a .next) (a .at) (λ p. unfold scalarTag in ap (λ k. scalarTag (a .text .now) (length (a .out .now)) (tokenIs k) p) (c .enum-told6 .given .1))
+    (scalar-sign (a .text .now) (length (a .out .now)) (a .want) (dataIs (a .«data»)) (a .next) (a .at) (λ p. unfold scalarTag in ap (λ k. scalarTag (a .text .now) (length (a .out .now)) (tokenIs k) p) (c .enum-told6 .given .1)), refl)
 
 returns-14 : tie.Need-returns-14
 returns-14 c =
     let a = c .before .before .before .before .before .args in
-    scalar-sign (a .text .now) (length (a .out .now)) (a .want) (dataIs (a .«data»)) (a .next) (a .at) (λ p. unfold scalarTag in ap (λ k. scalarTag (a .text .now) (length (a .out .now)) (tokenIs k) p) (c .enum-told7 .given .1))
+    (scalar-sign (a .text .now) (length (a .out .now)) (a .want) (dataIs (a .«data»)) (a .next) (a .at) (λ p. unfold scalarTag in ap (λ k. scalarTag (a .text .now) (length (a .out .now)) (tokenIs k) p) (c .enum-told7 .given .1)), refl)
 
 pub scalar-spec : {M : Type 1} → statement M
 scalar-spec =

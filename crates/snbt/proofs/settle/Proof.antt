@@ -55,7 +55,7 @@ returns c =
     let g = c .before .before .before in
     let a = g .before .before .before in
     let f = rw (c .before .p .given .1) at (g .following .ensures) in
-    ((f .0, f .1, f .2, refl), (wrote (a .before), a .add .ensures))
+    ((f .0, f .1, f .2, refl), (wrote (a .before), a .add .ensures .0))
 
 same-length-3 : tie.Need-same-length-3
 same-length-3 c = search needs
@@ -68,7 +68,7 @@ returns-2 c =
     let g = c .before .before .before in
     let a = g .before .before .before in
     let f = rw (c .before .p2 .given .1) at (g .following .ensures) in
-    ((f .0, f .1, f .2, refl), (wrote (a .before), a .add .ensures))
+    ((f .0, f .1, f .2, refl), (wrote (a .before), a .add .ensures .0))
 
 same-length-5 : tie.Need-same-length-5
 same-length-5 c = search needs
@@ -80,7 +80,7 @@ returns-3 : tie.Need-returns-3
 returns-3 c =
     let g = c .before .before .before in
     let a = g .before .before .before in
-    (rw (c .before .number .given .1) at (g .following .ensures), (wrote (a .before), a .add .ensures))
+    (rw (c .before .number .given .1) at (g .following .ensures), (wrote (a .before), a .add .ensures .0))
 
 pub settle-spec : {M : Type 1} → statement M
 settle-spec =

@@ -1,10 +1,19 @@
 -- `word_end` meets its contract: what was tested makes a word with its colon.
 -- Assumes nothing.
 use mathlib.Core.Path.{refl}
+use native.Mathlib.Omega.{arith}
 use borrow.Author.Needs.{needs}
+use Rattle.lexer.proofs.Slurps.{Run, run-is}
 use Rattle.snbt.proofs.Words.{word-ends}
 use Rattle.snbt.proofs.word_end.Statement.{statement}
 use Rattle.snbt.proofs.word_end.Tie as tie
+
+-- The run from the key's first character on.
+run : (c : tie.After-run-end) → let begun = c .before .before .before in let a = begun .before .before .args in Run (a .text .now) (a .i) (c .run-end .result)
+run c =
+    let begun = c .before .before .before in
+    let a = begun .before .before .args in
+    rw (c .run-end .ensures) (run-is (a .text .now) (a .i) (omega arith))
 
 returns : tie.Need-returns
 returns c = λ z. absurd (z refl)
@@ -28,7 +37,7 @@ returns-4 : tie.Need-returns-4
 returns-4 c = λ z. absurd (z refl)
 
 sub-if5 : tie.Need-sub-if5
-sub-if5 c = search needs
+sub-if5 c = let ran = c .before .before .before in omega (arith, run ran .low)
 
 returns-5 : tie.Need-returns-5
 returns-5 c = λ z. absurd (z refl)
@@ -36,8 +45,11 @@ returns-5 c = λ z. absurd (z refl)
 returns-6 : tie.Need-returns-6
 returns-6 c =
     λ _.
-    let a = c .before .before .before .before .before .before .before .before .before .args in
-    word-ends (a .text .now) (a .i) (c .before .before .before .before .run-end .result) (c .before .before .before .before .before .if2 .left) (c .before .before .before .before .run-end .ensures) (c .before .before .before .if3 .left) (c .before .if4 .left) (c .if5 .left)
+    let inside = c .before .before .before in
+    let ran = inside .before in
+    let begun = ran .before .before .before in
+    let a = begun .before .before .args in
+    word-ends (a .text .now) (a .i) (ran .run-end .result) (ran .before .if2 .left) (run ran) (inside .if3 .left) (c .before .if4 .left) (c .if5 .left)
 
 pub word-end-spec : {M : Type 1} → statement M
 word-end-spec =

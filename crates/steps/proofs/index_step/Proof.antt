@@ -13,7 +13,9 @@ returns-2 : tie.Need-returns-2
 returns-2 c = index-below _ _ (omega arith) (omega (arith, c .before .u32-at .ensures, c .if2 .taken))
 
 returns-3 : tie.Need-returns-3
-returns-3 c = rw (c .before .u32-at .ensures) (index-got _ _ (omega arith) (omega (arith, c .before .u32-at .ensures, c .if2 .left)))
+returns-3 c =
+    let short = c .before .before in
+    rw (c .before .u32-at .ensures) (index-got _ _ (short .before .before .pre .2) (omega arith) (omega (arith, c .before .u32-at .ensures, c .if2 .left)))
 
 pub index-step-spec : {M : Type 1} → statement M
 index-step-spec =

@@ -17,6 +17,13 @@ use Rattle.steps.proofs.name_step.Tie as tie
 judged : (q : List ℕ) (a n m : ℕ) → n ≡ m → {b : Bool} → wellFormed (part q a (a + n - a)) ≡ b → wellFormed (part q a m) ≡ b
 judged q a n m e w = let k : m ≡ a + n - a = omega arith in rw k w
 
+-- Back to the start, where the first byte is 01.
+abbrev start : tie.Else3 → tie.Start
+start c =
+    let cut = c .before .before .before in
+    let short = cut .before .before in
+    short .before .before
+
 returns : tie.Need-returns
 returns c = name-short _ _ (omega arith)
 
@@ -30,7 +37,7 @@ returns-3 c = let e = c .before .before .before .before .u16-at .ensures in
 returns-4 : tie.Need-returns-4
 returns-4 c = let e = c .before .before .before .before .u16-at .ensures in
     rw e
-    (name-got _ _ (omega arith) (omega (arith, e)) (judged _ _ _ _ e (sym (c .before .is-well-formed .ensures) ∙ not-false _ (c .if3 .left))) (omega (arith, e)))
+    (name-got _ _ (omega arith) (omega (arith, e)) (start c .pre .2) (judged _ _ _ _ e (sym (c .before .is-well-formed .ensures) ∙ not-false _ (c .if3 .left))) (omega (arith, e)))
 
 pub name-step-spec : {M : Type 1} → statement M
 name-step-spec =

@@ -29,7 +29,7 @@ returns : tie.Need-returns
 returns c =
     let s = c .before .before .before .before .before .before .before .before .before .before .before .before .before in
     let j = c .before .before .before .before .before .before in (
-      λ i. table-full _ _ (s .pre .small) i (s .args .out .now) (c .before .before .before .before .before .before .before .before .word .ensures) (j .judged .result) (j .judged .ensures .0) (c .before .before .length .given .1) (λ k. omega (arith, c .before .before .before .before .before .before .before .before .before .before .before .before .shared-slice-known .given k)) (c .if1 .taken),
+      λ i. table-full _ _ (s .pre .small) i (s .args .out .now) (c .before .before .before .before .before .before .before .before .word .ensures) (j .judged .result) (j .judged .ensures .0) (c .before .before .bytes .given .1) (λ k. omega (arith, c .before .before .before .before .before .before .before .before .before .before .before .before .shared-slice-known .given k)) (c .if1 .taken),
       j .judged .ensures .1,
     )
 
@@ -39,7 +39,7 @@ put-all-requires c κs =
     let a = s .args in
     let j = c .before .before .before .before .before .before .before .before in
     subst (λ x. SomeRoom (a .doc .now) x false 0 (c .before .before .before .before .before .before .before .before .before .before .word .result) (a .out .now) 0) (sym (j .judged .ensures .1))
-    (table-room _ _ (s .pre .small) (s .pre .table) (a .out .now) (c .before .before .before .before .before .before .before .before .before .before .word .ensures) (j .judged .result) (j .judged .ensures .0) (c .before .before .before .before .length .given .1) (c .before .before .if1 .left))
+    (table-room _ _ (s .pre .small) (s .pre .table) (a .out .now) (c .before .before .before .before .before .before .before .before .before .before .word .ensures) (j .judged .result) (j .judged .ensures .0) (c .before .before .before .before .bytes .given .1) (c .before .before .if1 .left))
 
 same-length-2 : tie.Need-same-length-2
 same-length-2 c = ap length (c .before .before .before .before .before .judged .ensures .1)
@@ -58,7 +58,7 @@ returns-3 c =
     let s = c .before .before .before .before .before .before .before .before .before .before .before .before .before .before .before .before .before .before in
     let a = s .args in
     let j = c .before .before .before .before .before .before .before .before .before .before .before in (
-      λ i. table-done _ _ (s .pre .small) i (a .out .now) (c .before .before .before .before .before .before .before .before .before .before .before .before .before .word .ensures) (j .judged .result) (j .judged .ensures .0) (c .before .before .before .before .before .before .before .length .given .1) (λ k. omega (arith, c .before .before .before .before .before .before .before .before .before .before .before .before .before .before .before .before .before .shared-slice-known .given k)) (c .before .before .before .before .before .if1 .left)
+      λ i. table-done _ _ (s .pre .small) i (a .out .now) (c .before .before .before .before .before .before .before .before .before .before .before .before .before .word .ensures) (j .judged .result) (j .judged .ensures .0) (c .before .before .before .before .before .before .before .bytes .given .1) (λ k. omega (arith, c .before .before .before .before .before .before .before .before .before .before .before .before .before .before .before .before .before .shared-slice-known .given k)) (c .before .before .before .before .before .if1 .left)
           (subst (λ x. (p : SomeRoom (a .doc .now) x false 0 (c .before .before .before .before .before .before .before .before .before .before .before .before .before .word .result) (a .out .now) 0) → Puts (laid (a .doc .now) false (p .some .forest)) (a .out .now) 0 (c .before .before .put-all .last .1 .1 .1 .1 .1 .0) (c .before .before .put-all .result)) (j .judged .ensures .1) (c .before .before .put-all .ensures)),
       j .judged .ensures .1,
     )

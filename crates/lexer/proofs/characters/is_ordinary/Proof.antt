@@ -1,8 +1,7 @@
--- `is_ordinary` meets its contract: its three ranges hold no byte that rule 11 names.
+-- `is_ordinary` meets its contract: its three ranges are the definition's.
 -- Assumes nothing.
-use Prim.Native.Nat.{ℕ}
-use mathlib.Core.Path.{_≡_}
 use native.Mathlib.Omega.{arith}
+use borrow.Author.Tests.{le-leb, lt-leb}
 use Rattle.lexer.proofs.characters.is_ordinary.Statement.{statement}
 use Rattle.lexer.proofs.characters.is_ordinary.Tie as tie
 
@@ -10,34 +9,23 @@ pub is-ordinary-spec : {M : Type 1} → statement M
 is-ordinary-spec =
     tie.close
     (tie.spec
-    (λ c e. record {
-      low = omega arith;
-      high = omega arith;
-      colon = λ z. omega arith;
-      semicolon = λ z. omega arith;
-      opening = λ z. omega arith;
-      backslash = λ z. omega arith;
-      closing = λ z. omega arith;
-    })
-    (λ c e. record {
-      low = omega arith;
-      high = omega arith;
-      colon = λ z. omega arith;
-      semicolon = λ z. omega arith;
-      opening = λ z. omega arith;
-      backslash = λ z. omega arith;
-      closing = λ z. omega arith;
-    })
-    (λ c e. record {
-      low = omega arith;
-      high = omega arith;
-      colon = λ z. omega arith;
-      semicolon = λ z. omega arith;
-      opening = λ z. omega arith;
-      backslash = λ z. omega arith;
-      closing = λ z. omega arith;
-    })
-    (λ c e. let z : _≡_ {A = ℕ} 0 1 = cc in absurd (omega arith))
-    (λ c e. let z : _≡_ {A = ℕ} 0 1 = cc in absurd (omega arith))
-    (λ c e. let z : _≡_ {A = ℕ} 0 1 = cc in absurd (omega arith))
-    (λ c e. let z : _≡_ {A = ℕ} 0 1 = cc in absurd (omega arith)))
+    (λ c. let b = c .before .before .args .b in simp (le-leb 45 b (omega arith), le-leb b 57 (omega arith)))
+    (λ c.
+    let b = c .before .before .before .before .args .b in
+    simp (le-leb 45 b (omega arith), lt-leb b 57 (omega arith), le-leb 60 b (omega arith), le-leb b 90 (omega arith)))
+    (λ c.
+    let range = c .before .before .before in
+    let b = range .before .before .before .args .b in
+    simp (le-leb 45 b (omega arith), lt-leb b 57 (omega arith), le-leb 60 b (omega arith), lt-leb b 90 (omega arith), le-leb 94 b (omega arith), le-leb b 122 (omega arith)))
+    (λ c. let b = c .before .args .b in simp (lt-leb 45 b (omega arith), lt-leb 60 b (omega arith), lt-leb 94 b (omega arith)))
+    (λ c.
+    let b = c .before .before .before .args .b in
+    simp (le-leb 45 b (omega arith), lt-leb b 57 (omega arith), lt-leb 60 b (omega arith), lt-leb 94 b (omega arith)))
+    (λ c.
+    let range = c .before .before .before in
+    let b = range .before .before .args .b in
+    simp (le-leb 45 b (omega arith), lt-leb b 57 (omega arith), le-leb 60 b (omega arith), lt-leb b 90 (omega arith), lt-leb 94 b (omega arith)))
+    (λ c.
+    let range = c .before .before .before in
+    let b = range .before .before .before .args .b in
+    simp (le-leb 45 b (omega arith), lt-leb b 57 (omega arith), le-leb 60 b (omega arith), lt-leb b 90 (omega arith), le-leb 94 b (omega arith), lt-leb b 122 (omega arith))))

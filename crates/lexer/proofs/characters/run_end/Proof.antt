@@ -1,16 +1,17 @@
--- `run_end` meets its contract: each byte that the loop passes is ordinary.
+-- `run_end` meets its contract: where the run from the start ends, the run from each place that the loop comes to does.
 -- Assumes nothing.
 use Prim.Native.Nat.{_-_}
+use mathlib.Core.Path.{_≡_, refl, sym, _∙_}
 use native.Mathlib.Omega.{arith}
 use borrow.Author.Needs.{needs}
 use lib.ListN.{length}
-use Rattle.lexer.specs.Runs.{Run}
-use Rattle.lexer.proofs.Slurps.{run-none, run-more}
+use Rattle.lexer.specs.Runs.{runEnd}
+use Rattle.lexer.proofs.Slurps.{run-more, run-stop, run-whole}
 use Rattle.lexer.proofs.characters.run_end.Statement.{statement}
 use Rattle.lexer.proofs.characters.run_end.Tie as tie
 
 abbrev Inv-loop : tie.InvT-loop
-Inv-loop text at i₀ i = Run text at i
+Inv-loop text at i₀ i = runEnd text at ≡ runEnd text i
 
 abbrev μ-loop : tie.MeasureT-loop
 μ-loop text at i₀ i = length text - i
@@ -21,11 +22,15 @@ run-end-spec =
     (tie.spec
     Inv-loop
     μ-loop
-    (λ c. run-none _ _ (c .before .pre))
+    (λ c. refl)
     (λ c. omega arith)
     (λ c κs. search needs)
     (λ c. omega arith)
     (λ c. omega arith)
-    (λ c. run-more _ _ _ (c .before .before .before .before .loop .inv) (c .before .before .before .loop-test .taken) (c .before .is-ordinary .ensures (c .if1 .taken)))
-    (λ c. c .before .before .before .before .loop .inv)
-    (λ c. c .before .loop .inv))
+    (λ c.
+    let turn = c .before .before .before in
+    turn .before .loop .inv ∙ run-more _ _ (turn .loop-test .taken) (sym (c .before .is-ordinary .ensures) ∙ c .if1 .taken))
+    (λ c.
+    let turn = c .before .before .before in
+    sym (turn .before .loop .inv ∙ run-stop _ _ (turn .loop-test .taken) (sym (c .before .is-ordinary .ensures) ∙ c .if1 .left)))
+    (λ c. sym (c .before .loop .inv ∙ run-whole _ _ (c .loop-test .left))))

@@ -8,7 +8,7 @@ use lib.ListN.{length, getD}
 use Rattle.tokens.specs.Answers.{stopsIs}
 use Rattle.lexer.specs.Answers.{scanOf}
 use Rattle.lexer.specs.Runs.{Bounded}
-use Rattle.lexer.proofs.Slurps.{Going, going-start, going-run, going-on, going-stop, going-end, after-kept, run-kept}
+use Rattle.lexer.proofs.Slurps.{Run, run-is, Going, going-start, going-run, going-on, going-stop, going-end, after-kept, run-kept}
 use Rattle.lexer.proofs.words.word_from.Statement.{statement}
 use Rattle.lexer.proofs.words.word_from.Tie as tie
 
@@ -18,6 +18,10 @@ Inv-loop text start set i₀ st₀ i st = (i ≤ length text) × Bounded (scanOf
 abbrev μ-loop : tie.MeasureT-loop
 μ-loop text start set i₀ st₀ i st = length text - i
 
+-- the run from the place that the loop comes to
+run : (c : tie.After-run-end Inv-loop μ-loop) → let turn = c .before .before in Run (turn .before .before .args .text .now) (turn .loop .i) (c .run-end .result)
+run c = let turn = c .before .before in rw (c .run-end .ensures) (run-is (turn .before .before .args .text .now) (turn .loop .i) (turn .loop .inv .0))
+
 pub word-from-spec : {M : Type 1} → statement M
 word-from-spec =
     tie.close
@@ -26,12 +30,12 @@ word-from-spec =
     μ-loop
     (λ c. omega arith)
     (λ c. (omega arith, record { curly = omega arith; square = omega arith; end = omega arith; width = omega arith }, going-start _ _ _))
-    (λ c κs. omega arith)
-    (λ c κs. let l = c .before .before .before .loop in let r = c .before .run-end .ensures in (l .inv .1, r .low, omega (arith, r .high)))
-    (λ c. let r = c .before .before .run-end .ensures in omega (arith, r .high, c .before .if1 .taken))
+    (λ c κs. search needs)
+    (λ c κs. let l = c .before .before .before .loop in let r = run (c .before) in (l .inv .1, r .low, omega (arith, r .high)))
+    (λ c. let r = run (c .before .before) in omega (arith, r .high, c .before .if1 .taken))
     (λ c.
     let l = c .before .before .before .before .loop in
-    let r = c .before .before .run-end .ensures in
+    let r = run (c .before .before) in
     let a = c .before .before .before .before .before .before .args in
     let e = c .after-run .ensures in
     (r .high, rw e (run-kept _ (scanOf (l .st)) _ (l .inv .1) (r .low)), rw e (going-run (stopsIs (a .set)) (a .text .now) (a .start) (l .i) _ (scanOf (l .st)) (c .before .if1 .taken) r (l .inv .2))))

@@ -1,14 +1,16 @@
 -- `runs::run_from` meets its contract. The loop's invariant: the bytes up to i are digits, and n is their number.
 -- Assumes nothing.
 use mathlib.Core.Path.{_≡_, subst}
-use mathlib.Core.Bool.{true}
+use mathlib.Core.Bool.{true, false}
+use mathlib.Core.List.{List}
 use Prim.Native.Nat.{ℕ, suc, _+_, _-_, _*_, _^_, _≤_, _<_}
 use native.Mathlib.Omega.{arith}
-use lib.ListN.{getD}
+use lib.ListN.{length, getD}
 use lib.Seq.{slice}
-use Rattle.text_form.specs.Numbers.{digits, worth}
-use Rattle.numbers.proofs.Rows.{is-digit}
-use Rattle.numbers.proofs.OnePass.{row-more, row-none, ten-more, ten-most}
+use Rattle.text_form.specs.Numbers.{isDigit, digits, worth}
+use Rattle.numbers.specs.Rows.{RunAt}
+use Rattle.numbers.proofs.Rows.{is-digit, below-digits, above-digits}
+use Rattle.numbers.proofs.OnePass.{row-more, row-none, row-stops, row-whole, ten-more, ten-most}
 use Rattle.numbers.proofs.runs.run_from.Statement.{statement}
 use Rattle.numbers.proofs.runs.run_from.Tie as tie
 
@@ -33,11 +35,26 @@ loop-holds c =
 shared-slice-read-b : tie.Need-shared-slice-read-b Inv-loop μ-loop
 shared-slice-read-b c = omega arith
 
+-- a byte that is no digit ends the row
+stopped : (c : tie.In-loop Inv-loop μ-loop) → isDigit (getD (c .before .before .args .text .now) (c .before .loop .i) 0) ≡ false
+    → RunAt (c .before .before .args .text .now) (c .before .before .args .first) (c .before .before .args .at) (c .before .before .args .to) (record { value = c .before .loop .n; end = c .before .loop .i })
+stopped c e =
+    let z = c .before .before in
+    let v = c .before .loop .inv in
+    record {
+      ends = row-stops (z .args .text .now) (z .args .at) (z .args .to) (c .before .loop .i) (v .0) (c .loop-test .taken) (z .pre .1) (v .2) e;
+      low = v .0;
+      high = v .1;
+      row = v .2;
+      is = v .3;
+      small = v .4;
+    }
+
 returns : tie.Need-returns Inv-loop μ-loop
-returns c = let v = c .before .before .before .loop .inv in record { low = v .0; high = v .1; row = v .2; is = v .3; small = v .4 }
+returns c = stopped (c .before .before) (below-digits _ (c .if1 .taken))
 
 returns-2 : tie.Need-returns-2 Inv-loop μ-loop
-returns-2 c = let v = c .before .before .before .before .loop .inv in record { low = v .0; high = v .1; row = v .2; is = v .3; small = v .4 }
+returns-2 c = stopped (c .before .before .before) (above-digits _ (c .if2 .taken))
 
 -- one digit more keeps below 18 digits
 bound : (c : tie.Else2 Inv-loop μ-loop) → let l = c .before .before .before .before .loop in
@@ -79,7 +96,18 @@ loop-again c =
     (omega arith, omega arith, w .0, w .1, bound c)
 
 returns-3 : tie.Need-returns-3 Inv-loop μ-loop
-returns-3 c = let v = c .before .loop .inv in record { low = v .0; high = v .1; row = v .2; is = v .3; small = v .4 }
+returns-3 c =
+    let z = c .before .before in
+    let l = c .before .loop in
+    let v = l .inv in
+    record {
+      ends = row-whole (z .args .text .now) (z .args .at) (z .args .to) (l .i) (v .0) (omega (arith, v .1, c .loop-test .left)) (z .pre .1) (v .2);
+      low = v .0;
+      high = v .1;
+      row = v .2;
+      is = v .3;
+      small = v .4;
+    }
 
 pub run-from-spec : {M : Type 1} → statement M
 run-from-spec =

@@ -10,6 +10,7 @@ use Rattle.text_form.specs.Lexing.{Token, TokenData, comma, closedSquare, found
 use Rattle.text_form.specs.Text.{signOf}
 use Rattle.text_form.proofs.Moves.{token-moves}
 use Rattle.tokens.specs.Answers.{lexedOut, dataIs}
+use Rattle.lexer.proofs.Fronts.{front-sign, front-token}
 use Rattle.scalars.proofs.Turning.{turn-refused, turn-ended, turn-comma, turn-end, turn-trailing, turn-put}
 use Rattle.scalars.proofs.elements.element.Statement.{statement}
 use Rattle.scalars.proofs.elements.element.Tie as tie
@@ -19,8 +20,9 @@ abbrev token-in-front : tie.After-front-at → Token → TokenData
 token-in-front c k = record { token = k; index = c .front-at .result .place; width = 1 }
 
 -- The sign that stands in front is the token.
-is-sign : (c : tie.After-front-at) (k : Token) → 0 < signOf k → c .front-at .result .byte ≡ signOf k → tokenAt later (c .before .before .before .args .text .now) (c .before .before .before .args .place) ≡ sign k (c .front-at .result .place)
-is-sign c k z e = c .front-at .ensures .sign later k z e
+is-sign : (c : tie.After-front-at) (k : Token) → 0 < signOf k → c .front-at .result .byte ≡ signOf k
+    → let a = c .before .before .before .args in tokenAt later (a .text .now) (a .place) ≡ sign k (c .front-at .result .place)
+is-sign c k z e = let a = c .before .before .before .args in front-sign (a .text .now) (a .place) (c .front-at .result) (c .front-at .ensures) later k z e
 
 -- The token that was found.
 is-found : (c : tie.After-data) → tokenAt later (c .before .before .before .before .before .before .before .before .before .before .args .text .now) (c .before .before .before .before .before .before .before .before .before .before .args .place) ≡ got (found (dataIs (c .«data» .given .0 .0)) (c .«data» .given .0 .1 .0))
@@ -94,7 +96,7 @@ returns-6 c =
     let l = c .before .before .before .before .before .before .before .before in
     let f = l .before .before .before .before in
     let b = f .before .before .before in
-    let in-front = f .front-at .ensures .token later (dataIs (d .0)) (d .1 .0) e .1 in
+    let in-front = front-token (b .args .text .now) (b .args .place) (f .front-at .result) (f .front-at .ensures) later (dataIs (d .0)) (d .1 .0) e .1 in
     turn-put ((b .args) .text .now) ((b .args) .width) ((b .args) .brace) ((b .args) .last) ((b .args) .place) ((b .args) .used) ((b .args) .out .now) (b .pre .0) (dataIs (d .0)) (d .1 .0) e
     (λ s. l .before .before .if1 .left (in-front (omega (arith, s)) ∙ s))
     (λ s. l .if2 .left (in-front (omega (arith, s)) ∙ s))
