@@ -1,0 +1,16 @@
+-- The words of a write's answer, case by case, from what the function below says of its answer.
+-- Assumes nothing.
+use Prim.Native.Nat.{ℕ}
+use mathlib.Core.Path.{_≡_, refl}
+use mathlib.Core.List.{List, [], _∷_}
+use Rattle.writer.specs.declared.Answer.{Answer}
+use Rattle.writer.specs.Steps.{answerOut, WroteIs}
+use Rattle.calls.specs.Calls.{WriteCalled}
+
+pub write-accepted : (doc t t′ o o′ : List ℕ) {r : Answer} {n : ℕ} → r ≡ Answer.Written n → WroteIs doc t t′ o (answerOut r) o′
+    → WriteCalled doc t t′ o o′ (0 ∷ 0 ∷ n ∷ 0 ∷ 0 ∷ 0 ∷ 0 ∷ 0 ∷ [])
+write-accepted doc t t′ o o′ {r} e h = record { result = answerOut r; is = h .is; words-are = rw e refl; kept = h .kept }
+
+pub write-refused : (doc t t′ o o′ : List ℕ) {r : Answer} {n p : ℕ} → r ≡ Answer.Refused n p → WroteIs doc t t′ o (answerOut r) o′
+    → WriteCalled doc t t′ o o′ (n ∷ p ∷ 0 ∷ 0 ∷ 0 ∷ 0 ∷ 0 ∷ 0 ∷ [])
+write-refused doc t t′ o o′ {r} e h = record { result = answerOut r; is = h .is; words-are = rw e refl; kept = h .kept }

@@ -1,0 +1,19 @@
+// Writing under the promise of its C name: it fills eight words that the caller lends (include/tikfazrul.h).
+ghost use Rattle.calls.specs.Calls.{WriteCalled};
+
+// Writes the document that a table stands for (rule 8). The table comes back as it was.
+pub fn write(doc: &[u8], table: &mut [u32], out: &mut [u8], answer: &mut [u64; 8])
+    ensures { λ _. ⌜ WriteCalled (now (doc .entry)) (now (table .entry)) (now (table .exit)) (now (out .entry)) (now (out .exit)) (now (answer .exit)) ⌝ }
+{
+    match writer::write(doc, table, out) {
+        writer::Answer::Written { bytes } => {
+            *answer = [0, 0, bytes as u64, 0, 0, 0, 0, 0];
+        }
+        writer::Answer::Refused {
+            number: refusal,
+            place: record,
+        } => {
+            *answer = [refusal as u64, record as u64, 0, 0, 0, 0, 0, 0];
+        }
+    }
+}

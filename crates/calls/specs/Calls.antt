@@ -1,0 +1,73 @@
+-- What each exported call promises: every word of its answer and every byte and word that it may change, for every input.
+-- crates/call_… keep these promises, crates/nbt hands them on under C names, and crates/demands ties them to the three demands.
+-- Assumes nothing.
+use Prim.Native.Nat.{ℕ}
+use mathlib.Core.Path.{_≡_}
+use mathlib.Core.List.{List, [], _∷_}
+use mathlib.Core.Bool.{not}
+use lib.Dec.{eqb}
+use lib.ListN.{length}
+use Rattle.form.specs.Answer.{Out, badString, overLimit, badText}
+use Rattle.form.specs.Strings.{scalarBytes, utf8Bytes}
+use Rattle.form.specs.Decoding.{Sequence, Verdict, scalarOf, utf8Of, Judged}
+use Rattle.form.specs.Tables.{IsTable, Within}
+use Rattle.form.specs.Reading.{countsOf, reading, tableAfter}
+use Rattle.form.specs.Writing.{WriteIs, lengthOf, outputAfter}
+use Rattle.form.specs.Query.{Count, QueryIs}
+use Rattle.text_form.specs.Lexing.{lexed, content}
+use Rattle.text_form.specs.Text as text
+use Rattle.text_form.specs.Text.{parsed, lengthsOf}
+use Rattle.calls.specs.Words.{accepted, refusal, verdictWords, readWords, writeWords, queryWords, tokenWords, stopsOf, parseWords}
+
+-- A check of a string of some coding, whose refusal has the number n: accepted exactly if the bytes are the encoding of some scalar
+-- values, else refused where the first sequence that can't be read begins.
+pub record StringCalled (enc : ℕ → List ℕ) (one : List ℕ → Sequence) (n : ℕ) (s answer : List ℕ) : Type 0 where
+  pub result : Verdict
+  pub judged : Judged enc one s result
+  pub words-are : answer ≡ verdictWords n result
+
+-- The check of modified UTF-8 (refusal 4), and that of UTF-8 (refusal 15).
+abbrev pub Mutf8Called : List ℕ → List ℕ → Type 0
+Mutf8Called s answer = StringCalled scalarBytes scalarOf badString s answer
+
+abbrev pub Utf8Called : List ℕ → List ℕ → Type 0
+Utf8Called s answer = StringCalled utf8Bytes utf8Of badText s answer
+
+-- A read (rules 3 to 6): every word of the answer and of the table.
+pub record ReadCalled (doc t t′ answer : List ℕ) : Type 0 where
+  pub answer-is : answer ≡ readWords (countsOf (reading doc t))
+  pub table-is : t′ ≡ tableAfter (reading doc t) t
+
+-- A check of a table's words over a document of d bytes (rule 7): 9 where a limit is passed; else 1 or 0 in word 2, for whether the words
+-- form a table.
+pub record TableCalled (d : ℕ) (t answer : List ℕ) : Type 0 where
+  pub large : (Within d t → ⊥) → answer ≡ refusal overLimit 0
+  pub unfit : Within d t → (IsTable d t → ⊥) → answer ≡ accepted
+  pub fit : Within d t → IsTable d t → answer ≡ 0 ∷ 0 ∷ 1 ∷ 0 ∷ 0 ∷ 0 ∷ 0 ∷ 0 ∷ []
+
+-- A write: rule 8's answer in the words, every byte of the output, and the table as it was.
+pub record WriteCalled (doc t t′ o o′ answer : List ℕ) : Type 0 where
+  pub result : Out ℕ
+  pub is : WriteIs doc t o result o′
+  pub words-are : answer ≡ writeWords result
+  pub kept : t′ ≡ t
+
+-- A query: rule 9's answer in the words, and every word of the list.
+pub record QueryCalled (doc t q l l′ answer : List ℕ) : Type 0 where
+  pub result : Count
+  pub is : QueryIs doc t q l result l′
+  pub words-are : answer ≡ queryWords result
+
+-- A token (rules 10 to 13), for a stop set by its number.
+pub record TokenCalled (t : List ℕ) (start stops : ℕ) (answer : List ℕ) : Type 0 where
+  pub answer-is : answer ≡ tokenWords (lexed t start (stopsOf stops))
+
+-- A content: rule 12's answer in the words, and every byte of the output. Any number but 0 is quoted.
+pub record ContentCalled (t : List ℕ) (start e quoted : ℕ) (o o′ answer : List ℕ) : Type 0 where
+  pub answer-is : answer ≡ writeWords (lengthOf (content t start e (not (eqb quoted 0)) (length o)))
+  pub output-is : o′ ≡ outputAfter (content t start e (not (eqb quoted 0)) (length o)) o
+
+-- A parse (rules 14 and 15): every word of the answer and every byte of the output.
+pub record ParseCalled (t o o′ answer : List ℕ) : Type 0 where
+  pub answer-is : answer ≡ parseWords (lengthsOf (parsed t (length o)))
+  pub output-is : o′ ≡ text.outputAfter (parsed t (length o)) o
