@@ -1,9 +1,11 @@
 -- Rules for answers: what a chain gives, from what its steps give.
 -- Assumes nothing.
-use Prim.Native.Nat.{ℕ, _<_}
+use Prim.Native.Nat.{ℕ}
 use mathlib.Core.Bool.{Bool, true, false}
 use mathlib.Core.Path.{_≡_, refl, subst}
 use Rattle.form.specs.Answer.{Out, got, no, guard, _>>_, _>>=_}
+use Rattle.text_form.specs.Lexing.{among}
+use Rattle.demands.specs.Numbers.{readNumbers}
 
 -- a value of which P holds, or a refusal whose number R allows
 abbrev Case : {A : Type 0} → (ℕ → Type 0) → (A → Type 0) → Out A → Type 0
@@ -17,9 +19,9 @@ pub record Answers {A : Type 0} (R : ℕ → Type 0) (P : A → Type 0) (o : Out
 abbrev pub Accepted : ℕ → Type 0
 Accepted n = ⊥
 
--- any refusal is allowed but 0
+-- the refusals of a read are allowed
 abbrev pub Numbered : ℕ → Type 0
-Numbered n = 0 < n
+Numbered n = among readNumbers n ≡ true
 
 module _ {R : ℕ → Type 0} where
   pub bind-answers : {A B : Type 0} {P : A → Type 0} {Q : B → Type 0} (o : Out A) (k : A → Out B)

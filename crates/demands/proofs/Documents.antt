@@ -13,6 +13,7 @@ use Rattle.form.specs.Tree.{compound, kindOf, tagCount, entriesCount, depth, Va
 use Rattle.form.specs.Layout.{stringBytes, Payload, Layout}
 use Rattle.form.specs.Table.{size, valueBy, entriesOf, valueOf}
 use Rattle.form.specs.Reading.{One, Span, byteAt, stringAt, documentAt}
+use Rattle.text_form.specs.Lexing.{among}
 use Rattle.demands.specs.Reading.{Bytes, Sound}
 use Rattle.demands.proofs.Sits.{Sits, sits-first, sits-rest, sits-join}
 use Rattle.demands.proofs.Answers.{Answers, Accepted, Numbered, bind-answers, guard-answers, weaker}
@@ -58,11 +59,11 @@ module _ (wf : StringLaw) (doc : List ℕ) (room : ℕ) where
         }
 
     pub document-sound : Answers Numbered (Sound doc room) (documentAt doc room)
-    unfolding documentAt
+    unfolding documentAt among
     document-sound =
-        guard-answers (leb (length doc) documentLimit) _ _ _ (λ e. omega arith)
+        guard-answers (leb (length doc) documentLimit) _ _ _ (λ e. refl)
         (λ e. bind-answers (byteAt doc 0) _ (byte-sound doc 0)
-        (λ k b. guard-answers (eqb k 10) _ _ _ (λ f. omega arith)
+        (λ k b. guard-answers (eqb k 10) _ _ _ (λ f. refl)
         (λ f. bind-answers (stringAt doc 1) _ (string-sound doc wf bytes 1)
         (λ s w. weaker (readAt doc room depthLimit 10 (s .start) (s .size) (s .next) 0)
         (tag-sound doc wf bytes room depthLimit (s .start) (s .size) (s .next) 0 10 (omega arith) (omega arith) (omega (arith, w .next, w .sits .to)))

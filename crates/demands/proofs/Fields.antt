@@ -21,6 +21,7 @@ use Rattle.form.proofs.Spans.{part-length}
 use Rattle.form.proofs.Fields.{byte-got, number-got, string-got}
 use Rattle.form.proofs.Digits.{digits-length, value-digits-below}
 use Rattle.form.proofs.Places.{value-bytes}
+use Rattle.text_form.specs.Lexing.{among}
 use Rattle.demands.specs.Reading.{Bytes}
 use Rattle.demands.proofs.Sits.{Sits, sits-first, sits-rest, sits-join, sits-part, sits-head, sits-byte}
 use Rattle.demands.proofs.Answers.{Answers, Numbered, bind-answers, guard-answers, got-answers}
@@ -36,30 +37,30 @@ module _ (doc : List ℕ) where
   -- ---- what is read is laid out
 
   pub byte-sound : (at : ℕ) → Answers Numbered (λ b. (at < length doc) × (getD doc at 0 ≡ b) × Sits doc at (b ∷ [])) (byteAt doc at)
-  unfolding byteAt
+  unfolding byteAt among
   byte-sound at =
-      guard-answers (ltb at (length doc)) _ _ _ (λ e. omega arith)
+      guard-answers (ltb at (length doc)) _ _ _ (λ e. refl)
       (λ e. let l = ltb-true at (length doc) e in got-answers (l, refl, sits-byte doc at l))
 
   pub bytes-sound : (n count at : ℕ)
       → Answers Numbered (λ s. (at + n ≤ length doc) × (s ≡ record { start = at; size = n; count = count; next = at + n })) (bytesAt doc n count at)
-  unfolding bytesAt
+  unfolding bytesAt among
   bytes-sound n count at =
-      guard-answers (leb (at + n) (length doc)) _ _ _ (λ e. omega arith) (λ e. got-answers (leb-true (at + n) (length doc) e, refl))
+      guard-answers (leb (at + n) (length doc)) _ _ _ (λ e. refl) (λ e. got-answers (leb-true (at + n) (length doc) e, refl))
 
   pub number-sound : Bytes doc → (n at : ℕ) → Answers Numbered (λ v. (v < valuesIn n) × Sits doc at (bytesOf n v)) (numberAt doc n at)
-  unfolding numberAt
+  unfolding numberAt among
   number-sound bytes n at =
-      guard-answers (leb (at + n) (length doc)) _ _ _ (λ e. omega arith)
+      guard-answers (leb (at + n) (length doc)) _ _ _ (λ e. refl)
       (λ e. let l = leb-true (at + n) (length doc) e in
       let v = value-bytes doc bytes at n l in
       got-answers (v .1, rw (v .0) (sits-part doc at n l)))
 
   pub count-sound : Bytes doc → (at : ℕ) → Answers Numbered (λ n. (n < 2 ^ 31) × Sits doc at (bytesOf 4 n)) (countAt doc at)
-  unfolding countAt
+  unfolding countAt among
   count-sound bytes at =
       bind-answers (numberAt doc 4 at) _ (number-sound bytes 4 at)
-      (λ n v. guard-answers (ltb n (2 ^ 31)) _ _ _ (λ e. omega arith) (λ e. got-answers (ltb-true n (2 ^ 31) e, v .1)))
+      (λ n v. guard-answers (ltb n (2 ^ 31)) _ _ _ (λ e. refl) (λ e. got-answers (ltb-true n (2 ^ 31) e, v .1)))
 
   -- a string that was read: its content is text, and lies behind its length
   pub record Worded (at : ℕ) (s : Span) : Type 0 where
@@ -69,11 +70,11 @@ module _ (doc : List ℕ) where
     pub text : Text (part doc (s .start) (s .size))
 
   pub string-sound : StringLaw → Bytes doc → (at : ℕ) → Answers Numbered (Worded at) (stringAt doc at)
-  unfolding stringAt
+  unfolding stringAt among
   string-sound wf bytes at =
       bind-answers (numberAt doc 2 at) _ (number-sound bytes 2 at)
       (λ n v. bind-answers (bytesAt doc n 0 (at + 2)) _ (bytes-sound n 0 (at + 2))
-      (λ s b. guard-answers (wellFormed (part doc (at + 2) n)) _ _ _ (λ e. omega arith)
+      (λ s b. guard-answers (wellFormed (part doc (at + 2) n)) _ _ _ (λ e. refl)
       (λ e. got-answers (rw (b .1) (worded n (v .0) (v .1) (b .0) (wf (part doc (at + 2) n) .0 e))))))
     where
       worded : (n : ℕ) → n < valuesIn 2 → Sits doc at (bytesOf 2 n) → at + 2 + n ≤ length doc → WellFormed (part doc (at + 2) n)

@@ -15,6 +15,7 @@ use Rattle.form.specs.Tree.{Tags, nil, more, many, Text}
 use Rattle.form.specs.Layout.{stringBytes, ListId, listId}
 use Rattle.form.specs.Reading.{Span, ListHead, Entry, end, named, byteAt, numberAt, stringAt, entryAt, listHeadAt}
 use Rattle.form.proofs.Fields.{entry-got, list-head-empty, list-head-got}
+use Rattle.text_form.specs.Lexing.{among}
 use Rattle.demands.specs.Reading.{Bytes}
 use Rattle.demands.proofs.Sits.{Sits, sits-join, sits-rest, sits-head}
 use Rattle.demands.proofs.Answers.{Answers, Numbered, bind-answers, guard-answers, got-answers}
@@ -33,12 +34,12 @@ module _ (doc : List ℕ) where
     pub some-is : 0 < h .count → (h .kind ≡ id) × (0 < id)
 
   pub head-sound : Bytes doc → (at : ℕ) → Answers Numbered (HeadIs at) (listHeadAt doc at)
-  unfolding listHeadAt
+  unfolding listHeadAt among
   head-sound bytes at =
       bind-answers (byteAt doc at) _ (byte-sound doc at)
       (λ k b. bind-answers (numberAt doc 4 (at + 1)) _ (number-sound doc bytes 4 (at + 1))
-      (λ n v. guard-answers (leb k 12 && (not (eqb k 0) || eqb n 0)) _ _ _ (λ e. omega arith)
-      (λ e. guard-answers (ltb n (2 ^ 31)) _ _ _ (λ f. omega arith)
+      (λ n v. guard-answers (leb k 12 && (not (eqb k 0) || eqb n 0)) _ _ _ (λ e. refl)
+      (λ e. guard-answers (ltb n (2 ^ 31)) _ _ _ (λ f. refl)
       (λ f. got-answers (record {
         id = k;
         id-le = leb-true k 12 (and-left (leb k 12) _ e);
@@ -80,7 +81,7 @@ module _ (doc : List ℕ) where
   EntryIs at (named kind s) = NamedIs at kind s
 
   pub entry-sound : StringLaw → Bytes doc → (at : ℕ) → Answers Numbered (EntryIs at) (entryAt doc at)
-  unfolding entryAt
+  unfolding entryAt among
   entry-sound wf bytes at = bind-answers (byteAt doc at) _ (byte-sound doc at) (λ k b. go k (b .2) (eqb k 0) refl)
     where
       go : (k : ℕ) → Sits doc at (k ∷ []) → (t : Bool) → eqb k 0 ≡ t
@@ -88,7 +89,7 @@ module _ (doc : List ℕ) where
       go k b true e = got-answers (subst (λ q. Sits doc at (q ∷ [])) (eqb-true k 0 e) b)
       go k b false e =
           bind-answers (stringAt doc (at + 1)) _ (string-sound doc wf bytes (at + 1))
-          (λ s w. guard-answers (leb k 12) _ _ _ (λ f. omega arith)
+          (λ s w. guard-answers (leb k 12) _ _ _ (λ f. refl)
           (λ f. got-answers (record {
             pos = let z = eqb-false k 0 e in omega (arith, z);
             le = leb-true k 12 f;

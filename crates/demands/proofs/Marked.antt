@@ -13,12 +13,11 @@ use Rattle.form.specs.Reading.{hasName, byteAt, bytesAt, numberAt, stringAt, co
 use Rattle.form.specs.Writing.{stringFine, payloadFine, judged, written}
 use Rattle.form.specs.Paths.{oneThen, someTail, fits, tagPaths, itemPaths, entryPaths, paths, which, matches}
 use Rattle.form.specs.Query.{stepBy, stepAt, stepsAt, spelt, shallow, asked}
-use Rattle.text_form.specs.Marked.{ascii}
 use Rattle.text_form.specs.Numbers.{has, before, behind, digits as decimalDigits, worth, wholeOf, wholeNumber, decimalOf, decimalNumber, number}
 use Rattle.text_form.specs.Lexing.{among, after, slurp, word, hexOf, hexes, escapeOf, quotedBy, quoted, skipBy, skip, unquotedAt, quotedAt, tokenBy, tokenAt, judgedText, lexed, frontOf, scalarsBy, contentOf, content}
 use Rattle.text_form.specs.Text.{known, due, following, stringOf, scalarTag, scalarValue, intsBy, arrayAt as textArrayAt, elementsBy, listFrom, listAt as textListAt, squareAt, keyOf, colonAt, closeAt, entryAt as textEntryAt, entriesBy, compoundAt as textCompoundAt, valueBy as textValueBy, valueAt, parsed}
-use Rattle.demands.specs.Marked.{records, AreMarked}
+use Rattle.demands.specs.Marked.{ascii, bytesIn, records, AreMarked}
 
 pub marked : AreMarked
-unfolding records value same twoOf threeOf unitOf pairOf scalarOf walk verdictBy size width _⊕_ flat widthOf hasName byteAt bytesAt numberAt stringAt countAt arrayAt leafAt leafOne listHeadAt entryAt elements entries listAt compoundAt containerAt payloadBy insideAt documentAt valueBy tagsOf entriesOf oneThen someTail fits tagPaths itemPaths entryPaths paths which matches stepBy stepAt stepsAt spelt shallow asked toBits ofInt round digits unitBytes scalarBytes fourOf utf8Of kindOf many intsBytes payload elementBytes entryBytes layout ascii has before behind decimalDigits worth wholeOf wholeNumber decimalOf decimalNumber number among after slurp word hexOf hexes escapeOf quotedBy quoted skipBy skip unquotedAt quotedAt tokenBy tokenAt judgedText lexed frontOf scalarsBy contentOf content known due following stringOf scalarTag scalarValue intsBy textArrayAt elementsBy listFrom textListAt squareAt keyOf colonAt closeAt textEntryAt entriesBy textCompoundAt textValueBy valueAt parsed stringFine payloadFine judged written
+unfolding records value same twoOf threeOf unitOf pairOf scalarOf walk verdictBy size width _⊕_ flat widthOf hasName byteAt bytesAt numberAt stringAt countAt arrayAt leafAt leafOne listHeadAt entryAt elements entries listAt compoundAt containerAt payloadBy insideAt documentAt valueBy tagsOf entriesOf oneThen someTail fits tagPaths itemPaths entryPaths paths which matches stepBy stepAt stepsAt spelt shallow asked toBits ofInt round digits unitBytes scalarBytes fourOf utf8Of kindOf many intsBytes payload elementBytes entryBytes layout ascii bytesIn has before behind decimalDigits worth wholeOf wholeNumber decimalOf decimalNumber number among after slurp word hexOf hexes escapeOf quotedBy quoted skipBy skip unquotedAt quotedAt tokenBy tokenAt judgedText lexed frontOf scalarsBy contentOf content known due following stringOf scalarTag scalarValue intsBy textArrayAt elementsBy listFrom textListAt squareAt keyOf colonAt closeAt textEntryAt entriesBy textCompoundAt textValueBy valueAt parsed stringFine payloadFine judged written
 marked = refl

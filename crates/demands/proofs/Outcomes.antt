@@ -1,6 +1,13 @@
 -- The claims of outcomes, from the laws of the definitions.
 -- Assumes nothing.
+use Prim.Native.Nat.{ℕ}
+use mathlib.Core.Path.{_≡_, ap, sym, _∙_}
+use mathlib.Core.List.{List}
+use Rattle.form.specs.Tables.{IsTable, Within}
 use Rattle.form.proofs.Outcomes as outcomes
+use Rattle.form.proofs.Outcomes.{same-list, in-each-case}
+use Rattle.calls.specs.Words.{writeWords, queryWords}
+use Rattle.calls.specs.Calls.{TableCalled, WriteCalled, QueryCalled}
 use Rattle.demands.specs.Outcomes.{IsOneWrite, IsOneQuery}
 
 pub one-write : IsOneWrite
@@ -8,3 +15,26 @@ one-write = outcomes.one-write
 
 pub one-query : IsOneQuery
 one-query = outcomes.one-query
+
+-- ---- the calls whose promises go by cases
+
+-- Two outcomes of a check of a table's words are one.
+pub one-table-called : (d : ℕ) (t a₁ a₂ : List ℕ) → TableCalled d t a₁ → TableCalled d t a₂ → a₁ ≡ a₂
+one-table-called d t a₁ a₂ g h =
+    in-each-case {W = Within d t} {T = IsTable d t} (same-list a₁ a₂)
+    (λ n. g .large n ∙ sym (h .large n))
+    (λ w n. g .unfit w n ∙ sym (h .unfit w n))
+    (λ w i. g .fit w i ∙ sym (h .fit w i))
+
+-- Two outcomes of a write are one: the answer, the output and the table.
+pub one-write-called : (doc t o a₁ a₂ o₁ o₂ t₁ t₂ : List ℕ) → WriteCalled doc t t₁ o o₁ a₁ → WriteCalled doc t t₂ o o₂ a₂
+    → (a₁ ≡ a₂) × (o₁ ≡ o₂) × (t₁ ≡ t₂)
+one-write-called doc t o a₁ a₂ o₁ o₂ t₁ t₂ g h =
+    let e = one-write doc t o (g .result) (h .result) o₁ o₂ (g .is) (h .is) in
+    (g .words-are ∙ ap writeWords (e .0) ∙ sym (h .words-are), e .1, g .kept ∙ sym (h .kept))
+
+-- Two outcomes of a query are one: the answer and the list.
+pub one-query-called : (doc t q l a₁ a₂ l₁ l₂ : List ℕ) → QueryCalled doc t q l l₁ a₁ → QueryCalled doc t q l l₂ a₂ → (a₁ ≡ a₂) × (l₁ ≡ l₂)
+one-query-called doc t q l a₁ a₂ l₁ l₂ g h =
+    let e = one-query doc t q l (g .result) (h .result) l₁ l₂ (g .is) (h .is) in
+    (g .words-are ∙ ap queryWords (e .0) ∙ sym (h .words-are), e .1)

@@ -7,13 +7,15 @@ use mathlib.Core.List.{List, [], _∷_}
 use mathlib.Core.Bool.{Bool, true, false}
 use native.Mathlib.Omega.{arith}
 use lib.ListN.{length}
-use Rattle.form.specs.Answer.{Out, got}
+use Rattle.form.specs.Answer.{Out, got, recordLimit}
 use Rattle.form.specs.Table.{none, node, valueOf}
 use Rattle.form.specs.Reading.{One, documentAt}
 use Rattle.form.specs.Paths.{Hop, Step, fits, paths, which, matches}
 use Rattle.form.specs.Query.{spelt, asked, within, Finds}
 use Rattle.form.proofs.Table.{flat-length, size-one}
-use Rattle.demands.specs.Queries.{IsTabled, IsAnswered, Ascends, IsAscending, Among, PathAt, IsExact}
+use Rattle.demands.specs.Reading.{Bytes}
+use Rattle.demands.specs.Writing.{tableValue}
+use Rattle.demands.specs.Queries.{wordsOf, IsTabled, IsAnswered, Ascends, IsAscending, Among, PathAt, IsExact}
 use Rattle.demands.proofs.Answers.{of-got}
 use Rattle.demands.proofs.Tabled.{root-is}
 use Rattle.demands.proofs.Reading.{sound}
@@ -29,6 +31,12 @@ tabled doc bytes room x le e =
       record { head = x .head; inner = x .inner; compound = r .compound; fair = r .fair; these = refl },
       record { bytes = s .small; words = omega (arith, flat-length 0 (node (x .head) (x .inner) none), size-one (x .head) (x .inner)) },
     )
+
+-- It stands for the document that was read.
+pub tabled-value : (doc : List ℕ) (bytes : Bytes doc) (room : ℕ) (x : One) (le : room ≤ recordLimit) (e : documentAt doc room ≡ got x)
+    → tableValue doc (wordsOf x) (tabled doc bytes room x le e .0) ≡ valueOf doc (x .head) (x .inner)
+unfolding tabled
+tabled-value doc bytes room x le e = refl
 
 -- Asking a document that was read gives no refusal but 14, which the steps rule out.
 asks : (doc : List ℕ) (room : ℕ) (x : One) → documentAt doc room ≡ got x → (q : List ℕ) (ss : List Step) → spelt q ≡ got ss

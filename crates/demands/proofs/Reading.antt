@@ -1,6 +1,7 @@
 -- The theorems on reading, as specs/Reading.antt states them: sound, complete, unambiguous, canonical, never 0.
 -- Assumes nothing.
-use Prim.Native.Nat.{_+_, _<_}
+use Prim.Native.Nat.{_+_}
+use mathlib.Core.Bool.{false≢true}
 use mathlib.Core.List.{_++_}
 use mathlib.Core.Path.{_≡_, refl, sym, ap, subst, _∙_}
 use native.Mathlib.Omega.{arith}
@@ -14,12 +15,14 @@ use Rattle.form.specs.Tree.{entriesCount}
 use Rattle.form.specs.Layout.{entryBytes, layout}
 use Rattle.form.specs.Table.{valueOf}
 use Rattle.form.specs.Reading.{One, documentAt}
+use Rattle.text_form.specs.Lexing.{among}
 use Rattle.demands.specs.Reading.{IsSound, IsComplete, IsUnambiguous, IsCanonical, IsNeverZero}
 use Rattle.demands.proofs.Sits.{Sits, sits-front}
-use Rattle.demands.proofs.Answers.{guard-answers, accepted, of-got, of-no}
+use Rattle.demands.proofs.Answers.{guard-answers, accepted, of-got}
 use Rattle.demands.proofs.Fields.{StringLaw}
 use Rattle.demands.proofs.Canonical.{entries-laid}
 use Rattle.demands.proofs.Documents.{rootAt, document-sound, root-read}
+use Rattle.demands.proofs.Numbers.{read-numbers}
 
 -- The layout that a writer gives is a layout.
 pub canonical : IsCanonical
@@ -57,6 +60,7 @@ unambiguous d₁ d₂ bs₁ rest₁ bs₂ rest₂ lawful₁ lawful₂ laid₁ la
     let long : length bs₁ ≡ length bs₂ = sym (a₁ .2 .0) ∙ ap (λ (y : One). y .next) x ∙ a₂ .2 .0 in
     (tree, sym (s₁ .is) ∙ ap (part doc 0) long ∙ s₂ .is)
 
--- No document is answered with the number 0.
+-- No document is answered with the number 0, which is none of a read's.
 pub never-zero : IsNeverZero
-never-zero doc bytes room p e = let z : 0 < 0 = of-no e (document-sound wf doc room bytes) in omega arith
+unfolding among
+never-zero doc bytes room p e = false≢true (read-numbers doc bytes room 0 p e)

@@ -1,4 +1,4 @@
--- What is read is laid out, keeps the rules and has room, and no refusal has the number 0: by recursion on the depth left.
+-- What is read is laid out, keeps the rules and has room, and a refusal has one of the numbers of a read: by recursion on the depth left.
 -- Assumes nothing.
 use Prim.Native.Nat.{ℕ, zero, suc, _+_, _≤_, _<_}
 use mathlib.Core.List.{List, [], _∷_, _++_}
@@ -16,6 +16,7 @@ use Rattle.form.specs.Layout.{stringBytes, ListId, Payload, Elements, EntryByte
 use Rattle.form.specs.Table.{Forest, none, node, size, _⊕_, holds, valueBy, tagsOf, entriesOf}
 use Rattle.form.specs.Reading.{One, Run, Inside, Span, ListHead, Entry, end, named, heldOne, before, hasName, entryAt, listHeadAt, leafAt, leafOne, elements, entries, listAt, compoundAt, containerAt, payloadBy, insideAt}
 use Rattle.form.proofs.Digits.{digits-length}
+use Rattle.text_form.specs.Lexing.{among}
 use Rattle.demands.specs.Reading.{Bytes}
 use Rattle.demands.proofs.Sits.{Sits, sits-join, sits-nil}
 use Rattle.demands.proofs.Answers.{Answers, Numbered, bind-answers, guard-answers, got-answers, no-answers}
@@ -162,7 +163,7 @@ module _ (doc : List ℕ) (wf : StringLaw) (bytes : Bytes doc) (room : ℕ) wher
         }
 
     entries-sound : (fuel at n : ℕ) (earlier : Forest) → at ≤ length doc → length doc < fuel + at → n ≤ room → Answers Numbered (EntriesSound doc room d at n earlier) (entries doc (readAt doc room d) fuel earlier at n)
-    unfolding entries EntryBytes Valid depth tagCount entriesOf size hasEntry
+    unfolding entries EntryBytes Valid depth tagCount entriesOf size hasEntry among
     entries-sound zero at n earlier l f r = absurd (omega arith)
     entries-sound (suc fuel) at n earlier l f r = bind-answers (entryAt doc at) _ (entry-sound doc wf bytes at) (go (entries-sound fuel))
       where
@@ -187,7 +188,7 @@ module _ (doc : List ℕ) (wf : StringLaw) (bytes : Bytes doc) (room : ℕ) wher
           fits = omega arith;
         })
         go ih (named kind s) i =
-            guard-answers (not (hasName doc (part doc (s .start) (s .size)) earlier)) _ _ _ (λ e. omega arith)
+            guard-answers (not (hasName doc (part doc (s .start) (s .size)) earlier)) _ _ _ (λ e. refl)
             (λ e. bind-answers (readAt doc room d kind (s .start) (s .size) (s .next) n) _ (P (s .start) (s .size) (s .next) n kind (i .pos) (i .le) (omega (arith, i .next, i .sits .to)))
             (λ x t. bind-answers (entries doc (readAt doc room d) fuel (earlier ⊕ node (x .head) (x .inner) none) (x .next) (n + 1 + size (x .inner))) _
             (ih (x .next) (n + 1 + size (x .inner)) (earlier ⊕ node (x .head) (x .inner) none) (omega (arith, t .next, t .sits .to)) (omega (arith, t .next, i .next)) (t .fits))
@@ -235,9 +236,9 @@ module _ (doc : List ℕ) (wf : StringLaw) (bytes : Bytes doc) (room : ℕ) wher
   -- ---- one tag
 
   leaf-tag : (d name len at n kind : ℕ) → 0 < kind → kind ≤ 12 → holds kind ≡ false → Answers Numbered (TagSound doc room d kind name len at n) (readAt doc room d kind name len at n)
-  unfolding payloadBy leafOne tagsOf size
+  unfolding payloadBy leafOne tagsOf size among
   leaf-tag d name len at n kind p q h =
-      guard-answers (ltb n room) _ _ _ (λ e. omega arith)
+      guard-answers (ltb n room) _ _ _ (λ e. refl)
       (λ e. rw h (bind-answers (leafAt doc kind at) _ (leaf-sound doc bytes wf at kind p q h)
       (λ s w. let f = w .is name len in got-answers (record {
         bs = w .bs;
@@ -252,9 +253,9 @@ module _ (doc : List ℕ) (wf : StringLaw) (bytes : Bytes doc) (room : ℕ) wher
 
   held-tag : (d name len at n kind : ℕ) → holds kind ≡ true → (n < room → Answers Numbered (HeldSound doc room d kind at (n + 1)) (insideAt doc room d kind at (n + 1)))
       → Answers Numbered (TagSound doc room d kind name len at n) (readAt doc room d kind name len at n)
-  unfolding payloadBy
+  unfolding payloadBy among
   held-tag d name len at n kind h i =
-      guard-answers (ltb n room) _ _ _ (λ e. omega arith)
+      guard-answers (ltb n room) _ _ _ (λ e. refl)
       (λ e. rw h (bind-answers (insideAt doc room d kind at (n + 1)) _ (i (ltb-true n room e))
       (λ y w. got-answers (record { bs = w .bs; sits = w .sits; next = w .next; is = w .is name len; fits = w .fits; kind-is = refl; name-is = refl; len-is = refl }))))
 
@@ -275,6 +276,6 @@ module _ (doc : List ℕ) (wf : StringLaw) (bytes : Bytes doc) (room : ℕ) wher
       leaf k r h = leaf-tag d name len at n k (r .0) (r .1) h
 
   pub tag-sound : (d : ℕ) → Sounds d
-  unfolding insideAt
-  tag-sound zero = any-tag zero (λ at n l r. no-answers at (omega arith)) (λ at n l r. no-answers at (omega arith))
+  unfolding insideAt among
+  tag-sound zero = any-tag zero (λ at n l r. no-answers at refl) (λ at n l r. no-answers at refl)
   tag-sound (suc d) = any-tag (suc d) (list-sound d (tag-sound d)) (compound-sound d (tag-sound d))

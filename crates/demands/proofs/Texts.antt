@@ -1,21 +1,74 @@
 -- The theorems on texts, as specs/Texts.antt states them.
 -- Assumes nothing.
-use Prim.Native.Nat.{_+_}
+use Prim.Native.Nat.{ℕ, _+_}
+use mathlib.Core.Bool.{Bool, true, false}
+use mathlib.Core.Bool.{false≢true}
 use mathlib.Core.List.{[]}
 use mathlib.Core.Path.{_≡_, refl, sym, ap, _∙_}
 use native.Mathlib.Omega.{arith}
 use lib.ListN.{length}
+use lib.Dec.{leb}
+use borrow.Author.Tests.{leb-true, leb-false}
+use Rattle.form.specs.Answer.{Out, got, no, overLimit, badText, textLimit}
+use Rattle.form.specs.Strings.{WellFormedUtf8}
+use Rattle.form.specs.Decoding.{Verdict, good, bad, utf8Verdict}
 use Rattle.form.specs.Numbers.{digits}
 use Rattle.form.specs.Spans.{over}
 use Rattle.form.specs.Tree.{Entries}
 use Rattle.form.specs.Layout.{entryBytes, layout}
+use Rattle.form.proofs.Answer.{got-no}
+use Rattle.form.proofs.Strings.{utf8-judged}
 use Rattle.form.proofs.Places.{part-over}
 use Rattle.form.proofs.Table.{over-length}
+use Rattle.text_form.specs.Lexing.{among}
+use Rattle.text_form.specs.Lexing.{judgedText}
 use Rattle.text_form.specs.Text.{documentOf, outputAfter}
-use Rattle.text_form.proofs.Gives.{gives-it, gives-number}
-use Rattle.demands.specs.Texts.{IsLawfulText, IsTextFills, IsTextConsumed, IsTextOutput, IsTextReadBack, IsTextNeverZero, IsOneTextAnswer}
+use Rattle.text_form.proofs.Gives.{gives-it}
+use Rattle.demands.specs.Texts.{TextJudged, IsTextJudged, IsLawfulText, IsTextFills, IsTextConsumed, IsTextOutput, IsTextReadBack, IsTextNeverZero, IsOneTextAnswer}
 use Rattle.demands.proofs.Meant.{parsed-fine}
+use Rattle.demands.proofs.Numbers.{parse-numbers}
 use Rattle.demands.proofs.Reading.{canonical, complete}
+
+-- A good verdict is no bad one.
+good-bad : {i : ℕ} → good ≡ bad i → ⊥
+good-bad {i} e = let z : _≡_ {A = ℕ} 0 1 = cc in omega arith
+
+-- 9 and 15 are apart, and neither is an acceptance.
+numbers-apart : {n m p q : ℕ} → _≡_ {A = Out (Unit {0})} (no n p) (no m q) → n ≡ m
+numbers-apart {n} {m} {p} {q} e = cc
+
+-- The computed test of UTF-8 is the declared one.
+pub text-judged : IsTextJudged
+unfolding judgedText
+text-judged t = go (leb (length t) textLimit) (utf8Verdict t) refl refl
+  where
+    go : (b : Bool) (v : Verdict) → leb (length t) textLimit ≡ b → utf8Verdict t ≡ v → TextJudged t
+    go false v h k =
+        let long = leb-false (length t) textLimit h in
+        let is : judgedText t ≡ no overLimit 0 = rw h refl in
+        record {
+          fine = (λ e. absurd (got-no (sym e ∙ is)), λ p. absurd (let s = p .0 in omega (arith, long)));
+          large = (λ e. long, λ l. is);
+          bad = (λ e. absurd (let z = numbers-apart (sym e ∙ is) in omega arith), λ p. absurd (let s = p .0 in omega (arith, long)));
+        }
+    go true good h k =
+        let short = leb-true (length t) textLimit h in
+        let is : judgedText t ≡ got tt = rw (h, k) refl in
+        let formed = utf8-judged t .good-is .0 k in
+        record {
+          fine = (λ e. (short, formed), λ p. is);
+          large = (λ e. absurd (got-no (sym is ∙ e)), λ l. absurd (omega (arith, short)));
+          bad = (λ e. absurd (got-no (sym is ∙ e)), λ p. absurd (p .1 formed));
+        }
+    go true (bad i) h k =
+        let short = leb-true (length t) textLimit h in
+        let is : judgedText t ≡ no badText 0 = rw (h, k) refl in
+        let not-formed : WellFormedUtf8 t → ⊥ = λ w. good-bad (sym (utf8-judged t .good-is .1 w) ∙ k) in
+        record {
+          fine = (λ e. absurd (got-no (sym e ∙ is)), λ p. absurd (not-formed (p .1)));
+          large = (λ e. absurd (let z = numbers-apart (sym e ∙ is) in omega arith), λ l. absurd (omega (arith, short)));
+          bad = (λ e. (short, not-formed), λ p. is);
+        }
 
 -- What a text means keeps the rules.
 pub lawful-text : IsLawfulText
@@ -50,9 +103,10 @@ text-read-back t room b e rest small records few =
     let d = documentOf b in
     complete d (layout d) rest records (canonical d) (lawful-text t room b e) few small
 
--- Each turn moves on in the text, so that no bound runs out.
+-- Each turn moves on in the text, so that no bound runs out: 0 is none of the numbers of a parse.
 pub text-never-zero : IsTextNeverZero
-text-never-zero t room p e = omega (arith, gives-number e (parsed-fine t room))
+unfolding among
+text-never-zero t room p e = false≢true (parse-numbers t room 0 p e)
 
 -- Both are what the definition says.
 pub one-text-answer : IsOneTextAnswer

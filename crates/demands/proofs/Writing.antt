@@ -5,7 +5,7 @@ use mathlib.Core.Bool.{false}
 use mathlib.Core.List.{List, [], append-nil}
 use mathlib.Core.Path.{_≡_, refl, sym, ap, subst, _∙_}
 use native.Mathlib.Omega.{arith}
-use borrow.Author.Tests.{leb-true, le-leb}
+use borrow.Author.Tests.{leb-true, le-leb, lt-leb}
 use lib.Dec.{leb, eqb}
 use lib.ListN.{length, take, length-append}
 use lib.Seq.{length-take-le}
@@ -20,7 +20,7 @@ use Rattle.form.proofs.Answer.{guard-got}
 use Rattle.form.proofs.Table.{size-one, flat-length}
 use Rattle.form.proofs.Tables.{table-length, fair-inner}
 use Rattle.demands.specs.Reading.{Complete}
-use Rattle.demands.specs.Writing.{tableValue, IsWrittenLawful, IsLawfulWritten, IsReadBack, IsRewritten, IsDomain}
+use Rattle.demands.specs.Writing.{tableValue, IsWrittenLawful, IsLawfulWritten, IsLawfulFull, IsReadBack, IsRewritten, IsDomain}
 use Rattle.demands.proofs.Judged.{then-got, root-lawful, lawful-root, counted}
 use Rattle.demands.proofs.Answers.{of-got}
 use Rattle.demands.proofs.Tabled.{root-is}
@@ -49,6 +49,12 @@ pub lawful-written : IsLawfulWritten
 unfolding written
 lawful-written doc w bytes s t room lawful fits =
     rw (lawful-root doc (t .head) (t .inner) (t .compound) (t .fair) lawful, le-leb (length (layout (tableValue doc w t))) room fits) refl
+
+-- It is refused with 13 where there is none.
+pub lawful-full : IsLawfulFull
+unfolding written
+lawful-full doc w bytes s t room lawful short =
+    rw (lawful-root doc (t .head) (t .inner) (t .compound) (t .fair) lawful, lt-leb (length (layout (tableValue doc w t))) room short) refl
 
 -- What is written is read back.
 pub read-back : IsReadBack

@@ -1,6 +1,14 @@
 pub mod Reading
+pub mod Tables
 pub mod Writing
 pub mod Texts
 pub mod Queries
+pub mod Numbered
+pub mod Numbers
+pub mod DemandOne
+pub mod DemandTwo
+pub mod DemandThree
 pub mod Outcomes
+pub mod Rounding
 pub mod Marked
+pub mod Examples

@@ -1,7 +1,8 @@
 -- The marked records of document 01 that are proved (P), in one list: what is asked, and what is answered. proofs/Marked.antt shows by
 -- computing that the definitions answer so.
 -- Assumes nothing.
-use Prim.Native.Nat.{ℕ}
+use Prim.Native.Nat.{ℕ, _+_, _*_}
+use Prim.Native.Char.{code}
 use Prim.Native.String as text
 use mathlib.Core.Path.{_≡_}
 use mathlib.Core.List.{List, [], _∷_, map}
@@ -14,19 +15,33 @@ use Rattle.form.specs.Table.{none, node, flat}
 use Rattle.form.specs.Reading.{One, documentAt}
 use Rattle.form.specs.Writing.{written}
 use Rattle.form.specs.Query.{asked}
-use Rattle.text_form.specs.Marked.{ascii}
 use Rattle.text_form.specs.Numbers.{byte, short, int, long, float, double}
-use Rattle.text_form.specs.Lexing.{Stops, default, later, Token, openCurly, closedCurly, openSquare, closedSquare, comma, colon, semicolon, string, numeral, Lexed, found, ended, lexed, content}
+use Rattle.text_form.specs.Lexing.{Stops, default, later, hexOf, Token, openCurly, closedCurly, openSquare, closedSquare, comma, colon, semicolon, string, numeral, Lexed, found, ended, lexed, content}
 use Rattle.text_form.specs.Text.{Block, parsed, documentOf}
 
--- What a marked record asks: a document to read, with room for eight records; the table of a document to write, with room for 64 bytes;
+-- The bytes of an ASCII text.
+unfoldable pub ascii : text.String → List ℕ
+ascii text.[] = []
+ascii (text._∷_ c s) = code c ∷ ascii s
+
+-- The bytes that pairs of hexadecimal digits stand for.
+unfoldable pub bytesIn : List ℕ → List ℕ
+bytesIn [] = []
+bytesIn (a ∷ []) = []
+bytesIn (a ∷ b ∷ l) = (hexOf a * 16 + hexOf b) ∷ bytesIn l
+
+-- Bytes as document 01 writes them.
+abbrev pub unhex : text.String → List ℕ
+unhex s = bytesIn (ascii s)
+
+-- What a marked record asks, in hexadecimal where it asks of bytes: a document to read, with room for eight records; the table of a document to write, with room for 64 bytes;
 -- what some bytes of modified UTF-8 begin with; a document and a query of it; a text's first token, for a stop set; or a text to parse,
 -- with room for 15 bytes.
 pub data Asked : Type 0 where
-  read : List ℕ → Asked
-  write : List ℕ → Asked
-  scalar : List ℕ → Asked
-  ask : List ℕ → List ℕ → Asked
+  read : text.String → Asked
+  write : text.String → Asked
+  scalar : text.String → Asked
+  ask : text.String → text.String → Asked
   token : text.String → Stops → Asked
   parse : text.String → Asked
 
@@ -85,56 +100,42 @@ parseAnswer (no n p) = no n p
 
 -- What the definitions answer.
 abbrev pub answerTo : Asked → Out (List ℕ)
-answerTo (read doc) = readAnswer (documentAt doc 8)
-answerTo (write doc) = writeAnswer doc (documentAt doc 8)
-answerTo (scalar bs) = scalarAnswer (scalarOf bs)
-answerTo (ask doc q) = askAnswer doc q (documentAt doc 8)
+answerTo (read doc) = readAnswer (documentAt (unhex doc) 8)
+answerTo (write doc) = writeAnswer (unhex doc) (documentAt (unhex doc) 8)
+answerTo (scalar bs) = scalarAnswer (scalarOf (unhex bs))
+answerTo (ask doc q) = askAnswer (unhex doc) (unhex q) (documentAt (unhex doc) 8)
 answerTo (token t set) = tokenAnswer (ascii t) (lexed (ascii t) 0 set)
 answerTo (parse t) = parseAnswer (parsed (ascii t) 15)
 
--- The records. A document's bytes are those of its line in 01, in decimal.
+-- The records, as document 01 writes them.
 unfoldable pub records : List (Asked × Out (List ℕ))
 records =
-    -- 0A0000
-    (read (10 ∷ 0 ∷ 0 ∷ []), no 1 3)
-    -- 0A000000
-    ∷ (read (10 ∷ 0 ∷ 0 ∷ 0 ∷ []), got (4 ∷ 10 ∷ 3 ∷ 0 ∷ 0 ∷ 0 ∷ 0 ∷ 0 ∷ 1 ∷ []))
-    -- 0A00016101000162FF00
-    ∷ (
-      read (10 ∷ 0 ∷ 1 ∷ 97 ∷ 1 ∷ 0 ∷ 1 ∷ 98 ∷ 255 ∷ 0 ∷ []),
-      got (10 ∷ 10 ∷ 3 ∷ 1 ∷ 0 ∷ 0 ∷ 1 ∷ 0 ∷ 2 ∷ 1 ∷ 7 ∷ 1 ∷ 8 ∷ 1 ∷ 0 ∷ 0 ∷ 2 ∷ []),
-    )
-    -- queries 04, 04 04 and 03 of it
-    ∷ (ask (10 ∷ 0 ∷ 1 ∷ 97 ∷ 1 ∷ 0 ∷ 1 ∷ 98 ∷ 255 ∷ 0 ∷ []) (4 ∷ []), got (0 ∷ 1 ∷ []))
-    ∷ (ask (10 ∷ 0 ∷ 1 ∷ 97 ∷ 1 ∷ 0 ∷ 1 ∷ 98 ∷ 255 ∷ 0 ∷ []) (4 ∷ 4 ∷ []), got (0 ∷ 1 ∷ []))
-    ∷ (ask (10 ∷ 0 ∷ 1 ∷ 97 ∷ 1 ∷ 0 ∷ 1 ∷ 98 ∷ 255 ∷ 0 ∷ []) (3 ∷ []), got (1 ∷ []))
-    -- 0A00000900016C050000000000
-    ∷ (
-      read (10 ∷ 0 ∷ 0 ∷ 9 ∷ 0 ∷ 1 ∷ 108 ∷ 5 ∷ 0 ∷ 0 ∷ 0 ∷ 0 ∷ 0 ∷ []),
-      got (13 ∷ 10 ∷ 3 ∷ 0 ∷ 0 ∷ 0 ∷ 1 ∷ 0 ∷ 2 ∷ 9 ∷ 6 ∷ 1 ∷ 0 ∷ 0 ∷ 0 ∷ 0 ∷ 2 ∷ []),
-    )
-    -- it is written with byte 7 as 00: an empty list is five zero bytes (rule 8)
-    ∷ (
-      write (10 ∷ 0 ∷ 0 ∷ 9 ∷ 0 ∷ 1 ∷ 108 ∷ 5 ∷ 0 ∷ 0 ∷ 0 ∷ 0 ∷ 0 ∷ []),
-      got (10 ∷ 0 ∷ 0 ∷ 9 ∷ 0 ∷ 1 ∷ 108 ∷ 0 ∷ 0 ∷ 0 ∷ 0 ∷ 0 ∷ 0 ∷ []),
-    )
-    -- the same with 0D at byte 7
-    ∷ (read (10 ∷ 0 ∷ 0 ∷ 9 ∷ 0 ∷ 1 ∷ 108 ∷ 13 ∷ 0 ∷ 0 ∷ 0 ∷ 0 ∷ 0 ∷ []), no 3 7)
-    -- the same with 01 there and count FFFFFFFF
-    ∷ (read (10 ∷ 0 ∷ 0 ∷ 9 ∷ 0 ∷ 1 ∷ 108 ∷ 1 ∷ 255 ∷ 255 ∷ 255 ∷ 255 ∷ 0 ∷ []), no 5 8)
-    -- 0A00000100016201010001620200
-    ∷ (read (10 ∷ 0 ∷ 0 ∷ 1 ∷ 0 ∷ 1 ∷ 98 ∷ 1 ∷ 1 ∷ 0 ∷ 1 ∷ 98 ∷ 2 ∷ 0 ∷ []), no 6 8)
-    -- EDA0BDEDB880 is U+1F600
-    ∷ (scalar (237 ∷ 160 ∷ 189 ∷ 237 ∷ 184 ∷ 128 ∷ []), got (128512 ∷ 6 ∷ []))
-    -- tokens: a\,b with stops ,] and a quoted A
-    ∷ (token "a\\,b" later, got (1 ∷ 2 ∷ 8 ∷ 97 ∷ []))
-    ∷ (token "\"\\u0041\"" default, got (8 ∷ 8 ∷ 8 ∷ 65 ∷ []))
-    -- numbers
+    -- 0A0000: 1 at 3. 0A000000: 4 consumed, record 10 3 0 0 0 0 0 1.
+    (read "0A0000", no 1 3)
+    ∷ (read "0A000000", got (4 ∷ 10 ∷ 3 ∷ 0 ∷ 0 ∷ 0 ∷ 0 ∷ 0 ∷ 1 ∷ []))
+    -- 10 consumed, records 10 3 1 0 0 1 0 2 and 1 7 1 8 1 0 0 2. Queries 04 and 04 04: 0, 1. Query 03: 1.
+    ∷ (read "0A00016101000162FF00", got (10 ∷ 10 ∷ 3 ∷ 1 ∷ 0 ∷ 0 ∷ 1 ∷ 0 ∷ 2 ∷ 1 ∷ 7 ∷ 1 ∷ 8 ∷ 1 ∷ 0 ∷ 0 ∷ 2 ∷ []))
+    ∷ (ask "0A00016101000162FF00" "04", got (0 ∷ 1 ∷ []))
+    ∷ (ask "0A00016101000162FF00" "0404", got (0 ∷ 1 ∷ []))
+    ∷ (ask "0A00016101000162FF00" "03", got (1 ∷ []))
+    -- accepted; written with byte 7 as 00. With 0D at byte 7: 3 at 7. With 01 there and count FFFFFFFF: 5 at 8.
+    ∷ (read "0A00000900016C050000000000", got (13 ∷ 10 ∷ 3 ∷ 0 ∷ 0 ∷ 0 ∷ 1 ∷ 0 ∷ 2 ∷ 9 ∷ 6 ∷ 1 ∷ 0 ∷ 0 ∷ 0 ∷ 0 ∷ 2 ∷ []))
+    ∷ (write "0A00000900016C050000000000", got (unhex "0A00000900016C000000000000"))
+    ∷ (read "0A00000900016C0D0000000000", no 3 7)
+    ∷ (read "0A00000900016C01FFFFFFFF00", no 5 8)
+    -- 6 at 8
+    ∷ (read "0A00000100016201010001620200", no 6 8)
+    -- is U+1F600
+    ∷ (scalar "EDA0BDEDB880", got (0x1F600 ∷ 6 ∷ []))
+    -- `a\,b` with stops `,]`: string a, width 1, next place 2. `"\u0041"`: A, width 8.
+    ∷ (token "a\\,b" later, got (1 ∷ 2 ∷ 8 ∷ ascii "a"))
+    ∷ (token "\"\\u0041\"" default, got (8 ∷ 8 ∷ 8 ∷ ascii "A"))
+    -- 0.1: 3FB999999999999A. `-0d`: all zero. `9007199254740993d`: 4340000000000000.
     ∷ (token "0.1" default, got (3 ∷ 3 ∷ 6 ∷ 0x3FB9_9999_9999_999A ∷ []))
     ∷ (token "-0d" default, got (3 ∷ 3 ∷ 6 ∷ 0 ∷ []))
     ∷ (token "9007199254740993d" default, got (17 ∷ 17 ∷ 6 ∷ 0x4340_0000_0000_0000 ∷ []))
-    -- a text: 11 consumed, 0A0000090001610100000002010200
-    ∷ (parse "{a:[1b,2b]}", got (11 ∷ 10 ∷ 0 ∷ 0 ∷ 9 ∷ 0 ∷ 1 ∷ 97 ∷ 1 ∷ 0 ∷ 0 ∷ 0 ∷ 2 ∷ 1 ∷ 2 ∷ 0 ∷ []))
+    -- `{a:[1b,2b]}`: 11 consumed, 0A0000090001610100000002010200 (15 bytes)
+    ∷ (parse "{a:[1b,2b]}", got (11 ∷ unhex "0A0000090001610100000002010200"))
     ∷ []
 
 -- `marked`: the definitions answer each record as it says.

@@ -1,15 +1,28 @@
 -- What is claimed of texts: what a text means keeps the rules, its layout is what the output has room for and begins with, and reading
 -- that layout gives the document again. The proofs are in proofs/Texts.antt, under the names given here.
 -- Assumes nothing.
-use Prim.Native.Nat.{ℕ, _+_, _≤_}
+use Prim.Native.Nat.{ℕ, _+_, _≤_, _<_}
 use mathlib.Core.Path.{_≡_}
+use mathlib.Core.Logic.{_↔_}
 use mathlib.Core.List.{List, _++_}
 use lib.ListN.{length, take}
-use Rattle.form.specs.Answer.{Out, got, no, documentLimit}
+use Rattle.form.specs.Answer.{Out, got, no, overLimit, badText, documentLimit, textLimit}
+use Rattle.form.specs.Strings.{WellFormedUtf8}
 use Rattle.form.specs.Tree.{Lawful, entriesCount}
 use Rattle.form.specs.Layout.{layout}
+use Rattle.text_form.specs.Lexing.{judgedText}
 use Rattle.text_form.specs.Text.{Block, parsed, documentOf, Lengths, ParseIs}
 use Rattle.demands.specs.Reading.{Complete}
+
+-- What is judged before any token, refusals 9 and 15, told by the declared UTF-8 (form/specs/Strings.antt) and not by its computed test.
+pub record TextJudged (t : List ℕ) : Type 0 where
+  pub fine : (judgedText t ≡ got tt) ↔ ((length t ≤ textLimit) × WellFormedUtf8 t)
+  pub large : (judgedText t ≡ no overLimit 0) ↔ (textLimit < length t)
+  pub bad : (judgedText t ≡ no badText 0) ↔ ((length t ≤ textLimit) × (WellFormedUtf8 t → ⊥))
+
+-- `text-judged`: every text is judged so: 9 exactly if it is too long, else 15 exactly if it is not the encoding of some scalar values.
+abbrev pub IsTextJudged : Type 0
+IsTextJudged = (t : List ℕ) → TextJudged t
 
 -- `lawful-text`: the document that an accepted text means keeps the rules and the limits.
 abbrev pub IsLawfulText : Type 0

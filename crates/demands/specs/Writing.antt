@@ -2,13 +2,13 @@
 -- document; what is written is read back as that document; and what was read is written as it was, but for the ids of empty lists.
 -- The proofs are in proofs/Writing.antt, under the names given here.
 -- Assumes nothing.
-use Prim.Native.Nat.{ℕ, _+_, _-_, _≤_}
+use Prim.Native.Nat.{ℕ, _+_, _-_, _≤_, _<_}
 use mathlib.Core.Bool.{Bool, true, false, _&&_}
 use mathlib.Core.Path.{_≡_}
 use mathlib.Core.List.{List, _++_}
 use lib.ListN.{length, getD, take}
 use lib.Dec.{ltb, eqb}
-use Rattle.form.specs.Answer.{got, pick, documentLimit, recordLimit}
+use Rattle.form.specs.Answer.{got, no, pick, outputFull, documentLimit, recordLimit}
 use Rattle.form.specs.Tree.{Tag, Tags, Entries, byte, short, int, long, float, double, byteArray, string, list, compound, intArray, longArray, nil, more, ended, entry, Document, Lawful, entriesCount}
 use Rattle.form.specs.Layout.{payload, Layout, layout}
 use Rattle.form.specs.Table.{none, node, flat, valueOf}
@@ -40,6 +40,13 @@ IsLawfulWritten =
     (doc w : List ℕ) → Bytes doc → Within (length doc) w → (t : IsTable (length doc) w) (room : ℕ)
     → Lawful (tableValue doc w t) → length (layout (tableValue doc w t)) ≤ room
     → written doc (t .head) (t .inner) room ≡ got (layout (tableValue doc w t))
+
+-- `lawful-full`: where there is no room the refusal is 13, at 0.
+abbrev pub IsLawfulFull : Type 0
+IsLawfulFull =
+    (doc w : List ℕ) → Bytes doc → Within (length doc) w → (t : IsTable (length doc) w) (room : ℕ)
+    → Lawful (tableValue doc w t) → room < length (layout (tableValue doc w t))
+    → written doc (t .head) (t .inner) room ≡ no outputFull 0
 
 -- `read-back`: what is written is read back, whatever follows it, as the document that was written.
 abbrev pub IsReadBack : Type 0

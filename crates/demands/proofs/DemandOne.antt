@@ -1,0 +1,294 @@
+-- Demand 1 on the calls: of each promise one outcome, and what that is where it accepts and where it refuses.
+-- Assumes nothing.
+use Prim.Native.Nat.{ℕ, _+_, _*_, _≤_}
+use mathlib.Core.Path.{_≡_, refl, sym, ap, _∙_}
+use mathlib.Core.Logic.{_⊎_, inl, inr}
+use mathlib.Core.List.{List, [], _∷_}
+use mathlib.Core.Bool.{Bool, true, false, not, _&&_}
+use native.Mathlib.Omega.{arith}
+use native.Mathlib.Decide.{ℕ-discrete}
+use lib.Dec.{leb, eqb}
+use borrow.Author.Tests.{leb-true, eq-eqb}
+use lib.ListN.{length, drop, getD, replicate}
+use lib.Seq.{drop-append-seam}
+use Rattle.form.specs.Answer.{Out, got, no as refused, pick, overLimit, noTable, moreMatches, depthLimit}
+use Rattle.form.specs.Spans.{over}
+use Rattle.form.specs.Decoding.{Sequence, Verdict, good, bad}
+use Rattle.form.specs.Table.{Head, Forest, none, node, size, flat, wrote, valueOf}
+use Rattle.form.specs.Layout.{layout}
+use Rattle.form.specs.Tables.{IsTable, Within}
+use Rattle.form.specs.Reading.{One, countsOf, tableAfter, reading, roomOf}
+use Rattle.form.specs.Writing.{Gives, outputAfter, lengthOf, WriteIs, judged, written}
+use Rattle.form.specs.Query.{Count, counted, failed, Answered, matched, within, asked, countOf, listAfter, Finds, QueryIs}
+use Rattle.form.specs.Query as query
+use Rattle.form.proofs.Answer.{got-no, guard-got, bind-got}
+use Rattle.form.proofs.Table.{over-length, flat-length, size-one}
+use Rattle.form.proofs.Payloads.{room-fits}
+use Rattle.form.proofs.Outcomes.{same-list, both, in-each-case}
+use Rattle.text_form.specs.Lexing.{among, Lexed, found, ended, judgedText, onCharacter, lexed, contentOf, content}
+use Rattle.text_form.specs.Text.{Block, parsed, documentOf, lengthsOf}
+use Rattle.text_form.specs.Text as text
+use Rattle.calls.specs.Words.{refusal, readWords, writeWords, queryWords, tokenWords, stopsOf, parseWords, verdictWords}
+use Rattle.calls.specs.Calls.{StringCalled, ReadCalled, TableCalled, WriteCalled, QueryCalled, TokenCalled, ContentCalled, ParseCalled}
+use Rattle.demands.specs.Reading.{Bytes}
+use Rattle.demands.specs.Numbers.{readNumbers, writeNumbers, queryNumbers, tokenNumbers, contentNumbers, parseNumbers}
+use Rattle.demands.specs.DemandOne.{Accepts, Refuses, Changed, Answers, Alone, DemandOne}
+use Rattle.demands.proofs.Judged.{then-got}
+use Rattle.demands.proofs.Reading.{sound}
+use Rattle.demands.proofs.Texts.{text-fills}
+use Rattle.demands.proofs.Numbers.{read-numbers, write-refusals, query-refusals, token-numbers, content-numbers, parse-numbers}
+use Rattle.demands.proofs.Outcomes.{one-table-called, one-write-called, one-query-called}
+
+-- ---- answers
+
+refuses : (numbers : List ℕ) (n p : ℕ) → among numbers n ≡ true → Refuses numbers (refusal n p)
+refuses numbers n p h = record { number = n; place = p; count = 0; is = refl; one-of = h; plain = λ _. refl }
+
+-- A number is among itself alone.
+among-self : (n : ℕ) → among (n ∷ []) n ≡ true
+unfolding among
+among-self n = rw (eq-eqb n n refl) refl
+
+-- A refusal in place of bytes is a refusal of them.
+of-length : (x : Out (List ℕ)) (n p : ℕ) → lengthOf x ≡ refused n p → x ≡ refused n p
+of-length (got bs) n p e = absurd (got-no e)
+of-length (refused m q) n p e = let a : m ≡ n = cc in let b : q ≡ p = cc in rw (a, b) refl
+
+-- Matches are no refusal.
+matched-refused : {ms : List ℕ} {n p c : ℕ} → matched ms ≡ query.refused n p c → ⊥
+matched-refused {ms} {n} {p} {c} e = let z : _≡_ {A = ℕ} 0 1 = cc in omega arith
+
+-- ---- memory
+
+-- What is put at the front of some memory changes that and no more.
+over-changed : (k : ℕ) (old ws : List ℕ) → length ws ≡ k → length ws ≤ length old → Changed k old (over old 0 ws)
+unfolding over
+over-changed k old ws e le = record {
+  long = over-length old 0 ws (omega arith);
+  rest = ap (λ (i : ℕ). drop i (over old 0 ws)) (sym e) ∙ drop-append-seam ws (drop (0 + length ws) old) ∙ ap (λ (i : ℕ). drop i old) (let z : 0 + length ws ≡ k = omega arith in z);
+}
+
+nothing-changed : Changed 0 [] []
+nothing-changed = record { long = refl; rest = refl }
+
+same-changed : (k : ℕ) (old new : List ℕ) → Dec (Changed k old new)
+same-changed k old new = go (both (ℕ-discrete (length new) (length old)) (same-list (drop k new) (drop k old)))
+  where
+    go : Dec ((length new ≡ length old) × (drop k new ≡ drop k old)) → Dec (Changed k old new)
+    go (yes p) = yes (record { long = p .0; rest = p .1 })
+    go (no n) = no (λ c. n (c .long, c .rest))
+
+-- ---- a read
+
+module _ (doc t : List ℕ) (bytes : Bytes doc) where
+  -- The records that were read fit the table.
+  read-changed : (x : One) → reading doc t ≡ got x → Changed (8 * (1 + size (x .inner))) t (tableAfter (got x) t)
+  unfolding wrote
+  read-changed x e =
+      let f = node (x .head) (x .inner) none in
+      let s = sound doc bytes (roomOf (length t)) x e in
+      let long : length (flat 0 f) ≡ 8 * (1 + size (x .inner)) = omega (arith, flat-length 0 f, size-one (x .head) (x .inner)) in
+      over-changed (8 * (1 + size (x .inner))) t (flat 0 f) long (omega (arith, long, s .fits, s .records, room-fits (length t)))
+
+  read-each : (t′ a : List ℕ) → ReadCalled doc t t′ a
+      → (Accepts a × Changed (8 * getD a 3 0) t t′) ⊎ (Refuses readNumbers a × (t′ ≡ replicate (length t) 0))
+  read-each t′ a r = go (reading doc t) refl (r .answer-is) (r .table-is)
+    where
+      go : (o : Out One) → reading doc t ≡ o → a ≡ readWords (countsOf o) → t′ ≡ tableAfter o t
+          → (Accepts a × Changed (8 * getD a 3 0) t t′) ⊎ (Refuses readNumbers a × (t′ ≡ replicate (length t) 0))
+      go (got x) e w k = rw (w, k) (inl ((_, refl, refl), read-changed x e))
+      go (refused n p) e w k = rw w (inr (refuses readNumbers n p (read-numbers doc bytes (roomOf (length t)) n p e), k))
+
+  read-answers : Answers (ReadCalled doc t) readNumbers t (replicate (length t) 0) (λ a. 8 * getD a 3 0)
+  read-answers = record {
+    one = λ m₁ m₂ a₁ a₂ r s. (r .table-is ∙ sym (s .table-is), r .answer-is ∙ sym (s .answer-is));
+    each = read-each;
+  }
+
+-- ---- a check of a table
+
+table-each : (d : ℕ) (t m a : List ℕ) → Alone (TableCalled d t) m a → (Accepts a × Changed 0 [] m) ⊎ (Refuses (overLimit ∷ []) a × (m ≡ []))
+table-each d t m a p = go (same-list a (refusal overLimit 0))
+  where
+    r : TableCalled d t a
+    r = p .1
+
+    -- What is not 9 is 0 or 1 in word 2.
+    bit : (a ≡ refusal overLimit 0 → ⊥) → (b : ℕ) × (a ≡ 0 ∷ 0 ∷ b ∷ 0 ∷ 0 ∷ 0 ∷ 0 ∷ 0 ∷ [])
+    bit n = (
+      getD a 2 0,
+      in-each-case {W = Within d t} {T = IsTable d t} (same-list a (0 ∷ 0 ∷ getD a 2 0 ∷ 0 ∷ 0 ∷ 0 ∷ 0 ∷ 0 ∷ []))
+          (λ w. absurd (n (r .large w)))
+          (λ w i. rw (r .unfit w i) refl)
+          (λ w i. rw (r .fit w i) refl),
+    )
+
+    go : Dec (a ≡ refusal overLimit 0) → (Accepts a × Changed 0 [] m) ⊎ (Refuses (overLimit ∷ []) a × (m ≡ []))
+    go (yes e) = inr (rw e (refuses (overLimit ∷ []) overLimit 0 (among-self overLimit)), p .0)
+    go (no n) = let b = bit n in inl (rw (b .1) (_, refl, refl), rw (p .0) nothing-changed)
+
+-- ---- a write
+
+-- An output as the answer has it: the bytes counted have changed, or nothing has.
+abbrev Left : List ℕ → List ℕ → Out ℕ → Type 0
+Left o o′ (got n) = Changed n o o′
+Left o o′ (refused n p) = o′ ≡ o
+
+same-left : (o o′ : List ℕ) (r : Out ℕ) → Dec (Left o o′ r)
+same-left o o′ (got n) = same-changed n o o′
+same-left o o′ (refused n p) = same-list o′ o
+
+left-of : (o : List ℕ) (x : Out (List ℕ)) → ((bs : List ℕ) → x ≡ got bs → length bs ≤ length o) → Left o (outputAfter x o) (lengthOf x)
+left-of o (got bs) fits = over-changed (length bs) o bs refl (fits bs refl)
+left-of o (refused n p) fits = refl
+
+gives-left : (o o′ : List ℕ) (x : Out (List ℕ)) (r : Out ℕ) → ((bs : List ℕ) → x ≡ got bs → length bs ≤ length o) → Gives x o r o′ → Left o o′ r
+gives-left o o′ x r fits g = rw (g .answer-is, g .output-is) (left-of o x fits)
+
+-- What is written fits.
+written-fits : (doc : List ℕ) (h : Head) (inner : Forest) (room : ℕ) (bs : List ℕ) → written doc h inner room ≡ got bs → length bs ≤ room
+unfolding written
+written-fits doc h inner room bs e =
+    let a = then-got (judged doc depthLimit false 0 none 0 (node h inner none)) _ e in
+    let b = guard-got (leb (length (layout (valueOf doc h inner))) room) _ _ _ (a .1) in
+    let q : layout (valueOf doc h inner) ≡ bs = cc (b .1) in
+    omega (arith, leb-true (length (layout (valueOf doc h inner))) room (b .0), ap length q)
+
+write-left : (doc t o : List ℕ) (r : Out ℕ) (o′ : List ℕ) → WriteIs doc t o r o′ → Left o o′ r
+write-left doc t o r o′ h =
+    in-each-case {W = Within (length doc) t} {T = IsTable (length doc) t} (same-left o o′ r)
+    (λ w. gives-left o o′ (refused overLimit 0) r (λ bs e. absurd (got-no (sym e))) (h .large w))
+    (λ w i. gives-left o o′ (refused noTable 0) r (λ bs e. absurd (got-no (sym e))) (h .unfit w i))
+    (λ w i. gives-left o o′ (written doc (i .head) (i .inner) (length o)) r (written-fits doc (i .head) (i .inner) (length o)) (h .fit w i))
+
+-- The eight words and the output, by the number of bytes or the refusal.
+left-each : (numbers o o′ a : List ℕ) (r : Out ℕ) → a ≡ writeWords r → Left o o′ r → ((n p : ℕ) → r ≡ refused n p → among numbers n ≡ true)
+    → (Accepts a × Changed (getD a 2 0) o o′) ⊎ (Refuses numbers a × (o′ ≡ o))
+left-each numbers o o′ a (got n) w l f = rw w (inl ((_, refl, refl), l))
+left-each numbers o o′ a (refused n p) w l f = rw w (inr (refuses numbers n p (f n p refl), l))
+
+write-answers : (doc t t′ o : List ℕ) → Answers (WriteCalled doc t t′ o) writeNumbers o o (λ a. getD a 2 0)
+write-answers doc t t′ o = record {
+  one = λ o₁ o₂ a₁ a₂ r s. let e = one-write-called doc t o a₁ a₂ o₁ o₂ t′ t′ r s in (e .1, e .0);
+  each = λ o′ a r. left-each writeNumbers o o′ a (r .result) (r .words-are) (write-left doc t o (r .result) o′ (r .is))
+      (λ n p. write-refusals doc t o (r .result) o′ n p (r .is));
+}
+
+-- ---- a content
+
+content-fits : (t : List ℕ) (start e : ℕ) (q : Bool) (room : ℕ) (bs : List ℕ) → content t start e q room ≡ got bs → length bs ≤ room
+unfolding content
+content-fits t start e q room bs h =
+    let a = then-got (judgedText t) _ h in
+    let b = guard-got (onCharacter t start && (onCharacter t e && leb start e)) _ _ _ (a .1) in
+    let c = bind-got (contentOf t q start e) _ (b .1) in
+    let d = guard-got (leb (length (c .0)) room) _ _ _ (c .2) in
+    let z : c .0 ≡ bs = cc (d .1) in
+    omega (arith, leb-true (length (c .0)) room (d .0), ap length z)
+
+content-answers : (t : List ℕ) (start e quoted : ℕ) (o : List ℕ) → Answers (ContentCalled t start e quoted o) contentNumbers o o (λ a. getD a 2 0)
+content-answers t start e quoted o =
+    let q = not (eqb quoted 0) in
+    let x = content t start e q (length o) in
+    record {
+      one = λ o₁ o₂ a₁ a₂ r s. (r .output-is ∙ sym (s .output-is), r .answer-is ∙ sym (s .answer-is));
+      each = λ o′ a r. left-each contentNumbers o o′ a (lengthOf x) (r .answer-is) (rw (r .output-is) (left-of o x (content-fits t start e q (length o))))
+          (λ n p h. content-numbers t start e q (length o) n p (of-length x n p h));
+    }
+
+-- ---- a query
+
+abbrev Listed : List ℕ → List ℕ → Count → Type 0
+Listed l l′ (counted n) = Changed n l l′
+Listed l l′ (failed n p c) = l′ ≡ l
+
+same-listed : (l l′ : List ℕ) (r : Count) → Dec (Listed l l′ r)
+same-listed l l′ (counted n) = same-changed n l l′
+same-listed l l′ (failed n p c) = same-list l′ l
+
+finds-listed : (l l′ : List ℕ) (x : Answered) (r : Count) → ((ms : List ℕ) → x ≡ matched ms → length ms ≤ length l) → Finds x l r l′ → Listed l l′ r
+finds-listed l l′ x r fits f = rw (f .answer-is, f .list-is) (go x fits)
+  where
+    go : (x : Answered) → ((ms : List ℕ) → x ≡ matched ms → length ms ≤ length l) → Listed l (listAfter x l) (countOf x)
+    go (matched ms) fits = over-changed (length ms) l ms refl (fits ms refl)
+    go (query.refused n p c) fits = refl
+
+-- Matches within the room.
+within-fits : (room : ℕ) (o : Out (List ℕ)) (ms : List ℕ) → within room o ≡ matched ms → length ms ≤ room
+within-fits room (got xs) ms e = go (leb (length xs) room) refl e
+  where
+    go : (b : Bool) → leb (length xs) room ≡ b → pick b (matched xs) (query.refused moreMatches 0 (length xs)) ≡ matched ms → length ms ≤ room
+    go true h k = let z : xs ≡ ms = cc in omega (arith, leb-true (length xs) room h, ap length z)
+    go false h k = absurd (matched-refused (sym k))
+within-fits room (refused n p) ms e = absurd (matched-refused (sym e))
+
+query-listed : (doc t q l : List ℕ) (r : Count) (l′ : List ℕ) → QueryIs doc t q l r l′ → Listed l l′ r
+query-listed doc t q l r l′ h =
+    in-each-case {W = Within (length doc) t} {T = IsTable (length doc) t} (same-listed l l′ r)
+    (λ w. finds-listed l l′ (query.refused overLimit 0 0) r (λ ms e. absurd (matched-refused (sym e))) (h .large w))
+    (λ w i. finds-listed l l′ (query.refused noTable 0 0) r (λ ms e. absurd (matched-refused (sym e))) (h .unfit w i))
+    (λ w i. finds-listed l l′ (within (length l) (asked doc q (i .head) (i .inner))) r (within-fits (length l) (asked doc q (i .head) (i .inner))) (h .fit w i))
+
+query-each : (doc t q l l′ a : List ℕ) (r : Count) → QueryIs doc t q l r l′ → a ≡ queryWords r
+    → (Accepts a × Changed (getD a 2 0) l l′) ⊎ (Refuses queryNumbers a × (l′ ≡ l))
+query-each doc t q l l′ a (counted n) h w = rw w (inl ((_, refl, refl), query-listed doc t q l (counted n) l′ h))
+query-each doc t q l l′ a (failed n p c) h w =
+    let f = query-refusals doc t q l (failed n p c) l′ n p c h refl in
+    rw w (inr (record { number = n; place = p; count = c; is = refl; one-of = f .0; plain = f .1 }, query-listed doc t q l (failed n p c) l′ h))
+
+query-answers : (doc t q l : List ℕ) → Answers (QueryCalled doc t q l) queryNumbers l l (λ a. getD a 2 0)
+query-answers doc t q l = record {
+  one = λ l₁ l₂ a₁ a₂ r s. let e = one-query-called doc t q l a₁ a₂ l₁ l₂ r s in (e .1, e .0);
+  each = λ l′ a r. query-each doc t q l l′ a (r .result) (r .is) (r .words-are);
+}
+
+-- ---- a token, a parse, a check of a string
+
+-- Calls that are lent nothing but their answer.
+alone-one : (P : List ℕ → Type 0) → ((a₁ a₂ : List ℕ) → P a₁ → P a₂ → a₁ ≡ a₂) → (m₁ m₂ a₁ a₂ : List ℕ) → Alone P m₁ a₁ → Alone P m₂ a₂
+    → (m₁ ≡ m₂) × (a₁ ≡ a₂)
+alone-one P f m₁ m₂ a₁ a₂ r s = (r .0 ∙ sym (s .0), f a₁ a₂ (r .1) (s .1))
+
+token-each : (t : List ℕ) (start stops : ℕ) (m a : List ℕ) → Alone (TokenCalled t start stops) m a
+    → (Accepts a × Changed 0 [] m) ⊎ (Refuses tokenNumbers a × (m ≡ []))
+token-each t start stops m a p = go (lexed t start (stopsOf stops)) refl (p .1 .answer-is)
+  where
+    go : (o : Out Lexed) → lexed t start (stopsOf stops) ≡ o → a ≡ tokenWords o → (Accepts a × Changed 0 [] m) ⊎ (Refuses tokenNumbers a × (m ≡ []))
+    go (got (found d n)) e w = inl (rw w (_, refl, refl), rw (p .0) nothing-changed)
+    go (got (ended n)) e w = inl (rw w (_, refl, refl), rw (p .0) nothing-changed)
+    go (refused n q) e w = inr (rw w (refuses tokenNumbers n q (token-numbers t start (stopsOf stops) n q e)), p .0)
+
+parse-each : (t o o′ a : List ℕ) → ParseCalled t o o′ a
+    → (Accepts a × Changed (getD a 3 0) o o′) ⊎ (Refuses parseNumbers a × (o′ ≡ replicate (length o) 0))
+parse-each t o o′ a r = go (parsed t (length o)) refl (r .answer-is) (r .output-is)
+  where
+    go : (x : Out Block) → parsed t (length o) ≡ x → a ≡ parseWords (lengthsOf x) → o′ ≡ text.outputAfter x o
+        → (Accepts a × Changed (getD a 3 0) o o′) ⊎ (Refuses parseNumbers a × (o′ ≡ replicate (length o) 0))
+    go (got b) e w k =
+        let f = text-fills t (length o) b e in
+        rw (w, k) (inl ((_, refl, refl), over-changed (b .used) o (layout (documentOf b)) (sym (f .0)) (omega (arith, f .0, f .1))))
+    go (refused n p) e w k = rw w (inr (refuses parseNumbers n p (parse-numbers t (length o) n p e), k))
+
+string-answers : (enc : ℕ → List ℕ) (one : List ℕ → Sequence) (n : ℕ) (s : List ℕ) → Answers (Alone (StringCalled enc one n s)) (n ∷ []) [] [] (λ a. 0)
+string-answers enc one n s = record {
+  one = alone-one (StringCalled enc one n s) (λ a₁ a₂ r q. r .words-are ∙ ap (verdictWords n) (r .judged .is ∙ sym (q .judged .is)) ∙ sym (q .words-are));
+  each = λ m a p. go m a (p .0) (p .1 .result) (p .1 .words-are);
+}
+  where
+    go : (m a : List ℕ) → m ≡ [] → (v : Verdict) → a ≡ verdictWords n v → (Accepts a × Changed 0 [] m) ⊎ (Refuses (n ∷ []) a × (m ≡ []))
+    go m a e good w = inl (rw w (_, refl, refl), rw e nothing-changed)
+    go m a e (bad k) w = inr (rw w (refuses (n ∷ []) n k (among-self n)), e)
+
+pub demand-one : DemandOne
+demand-one = record {
+  read = read-answers;
+  is-table = λ d t. record { one = alone-one (TableCalled d t) (one-table-called d t); each = table-each d t };
+  write = write-answers;
+  write-table = λ doc t t′ o o′ a r. r .kept;
+  query = query-answers;
+  token = λ t start stops. record { one = alone-one (TokenCalled t start stops) (λ a₁ a₂ r s. r .answer-is ∙ sym (s .answer-is)); each = token-each t start stops };
+  content = content-answers;
+  parse = λ t o. record { one = λ o₁ o₂ a₁ a₂ r s. (r .output-is ∙ sym (s .output-is), r .answer-is ∙ sym (s .answer-is)); each = parse-each t o };
+  check-mutf8 = string-answers _ _ _;
+  check-utf8 = string-answers _ _ _;
+}

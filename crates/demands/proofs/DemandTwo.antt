@@ -1,0 +1,156 @@
+-- Demand 2 on the calls, from the theorems on reading, writing and texts.
+-- Assumes nothing.
+use Prim.Native.Nat.{ℕ, _+_, _≤_}
+use mathlib.Core.Path.{_≡_, refl, sym, ap, subst, _∙_}
+use mathlib.Core.Bool.{true}
+use mathlib.Core.List.{List, [], _∷_, _++_}
+use native.Mathlib.Omega.{arith}
+use lib.ListN.{length, drop, take}
+use Rattle.form.specs.Answer.{Out, got, no}
+use Rattle.form.specs.Spans.{over}
+use Rattle.form.specs.Tree.{Document, Lawful, entriesCount}
+use Rattle.form.specs.Layout.{Layout, layout}
+use Rattle.form.specs.Table.{size, valueOf}
+use Rattle.form.specs.Reading.{One, countsOf, tableAfter, roomOf}
+use Rattle.form.specs.Writing.{written, Gives}
+use Rattle.form.proofs.Payloads.{room-le}
+use Rattle.text_form.specs.Text.{Block, parsed, documentOf, lengthsOf}
+use Rattle.text_form.specs.Text as text
+use Rattle.text_form.specs.Lexing.{among}
+use Rattle.calls.specs.Words.{readWords, writeWords, parseWords}
+use Rattle.calls.specs.Calls.{ReadCalled, WriteCalled, ParseCalled}
+use Rattle.demands.specs.Reading.{Bytes}
+use Rattle.demands.specs.Numbers.{writtenNumbers}
+use Rattle.demands.specs.Writing.{tableValue}
+use Rattle.demands.specs.DemandTwo.{Holds, Reads, RoomFor, ReadAs, Writes, DemandTwo}
+use Rattle.demands.proofs.Called.{Held, held, held-by}
+use Rattle.demands.proofs.Reading as reading
+use Rattle.demands.proofs.Reading.{canonical}
+use Rattle.demands.proofs.Writing.{written-lawful, lawful-written, lawful-full}
+use Rattle.demands.proofs.Texts.{lawful-text, text-fills, text-never-zero}
+use Rattle.demands.proofs.Queries.{tabled, tabled-value}
+use Rattle.demands.proofs.Numbers.{write-numbers}
+
+-- ---- reading
+
+-- A read that was accepted leaves a table that holds the document read.
+held-reads : (doc t t′ a : List ℕ) → Bytes doc → (c n : ℕ) → a ≡ 0 ∷ 0 ∷ c ∷ n ∷ 0 ∷ 0 ∷ 0 ∷ 0 ∷ [] → (x : One) → Held doc t t′ c n x
+    → Reads doc t′ a c (valueOf doc (x .head) (x .inner))
+held-reads doc t t′ a bytes c n e x y =
+    let d = valueOf doc (x .head) (x .inner) in
+    let room = roomOf (length t) in
+    let few = room-le (length t) in
+    let s = reading.sound doc bytes room x (y .is) in
+    let i = tabled doc bytes room x few (y .is) in
+    record {
+      records = n;
+      answer = e;
+      each = omega (arith, y .records, s .records);
+      holds = subst (λ (w : List ℕ). Holds doc w d) (sym (y .words)) (record { table = i .0; small = i .1; value = tabled-value doc bytes room x few (y .is) });
+    }
+
+sound : (doc t t′ a : List ℕ) → Bytes doc → ReadCalled doc t t′ a → (c n : ℕ) → a ≡ 0 ∷ 0 ∷ c ∷ n ∷ 0 ∷ 0 ∷ 0 ∷ 0 ∷ []
+    → (d : Document) × Layout d (take c doc) × Lawful d × Reads doc t′ a c d
+sound doc t t′ a bytes r c n e =
+    let accepted = held doc t t′ bytes r c n e in
+    let x = accepted .0 in
+    let y = accepted .1 in
+    let d = valueOf doc (x .head) (x .inner) in
+    let s = reading.sound doc bytes (roomOf (length t)) x (y .is) in
+    (d, subst (λ (m : ℕ). Layout d (take m doc)) (y .consumed) (s .laid), s .lawful, held-reads doc t t′ a bytes c n e x y)
+
+-- Room for a document's records.
+room-for : (d : Document) (n : ℕ) → RoomFor d n → 1 + entriesCount (d .root) ≤ roomOf n
+unfolding roomOf
+room-for d n r = omega (arith, r .room, r .few)
+
+complete : (d : Document) (bs rest : List ℕ) → Layout d bs → Lawful d → ReadAs (bs ++ rest) (length bs) d
+complete d bs rest laid lawful bytes small t t′ a room r =
+    let doc = bs ++ rest in
+    let k = reading.complete d bs rest (roomOf (length t)) laid lawful (room-for d (length t) room) small in
+    let x = k .x in
+    let n = 1 + size (x .inner) in
+    let y : Held doc t t′ (length bs) n x = held-by doc t t′ x (k .accepted) (k .consumed) refl (r .table-is ∙ ap (λ o. tableAfter o t) (k .accepted)) in
+    let words : a ≡ 0 ∷ 0 ∷ length bs ∷ n ∷ 0 ∷ 0 ∷ 0 ∷ 0 ∷ [] =
+    r .answer-is ∙ ap (λ o. readWords (countsOf o)) (k .accepted) ∙ ap (λ (c : ℕ). 0 ∷ 0 ∷ c ∷ n ∷ 0 ∷ 0 ∷ 0 ∷ 0 ∷ []) (k .consumed) in
+    subst (λ (e : Document). Reads doc t′ a (length bs) e) (k .tree) (held-reads doc t t′ a bytes (length bs) n words x y)
+
+-- An output that begins with a lawful document's layout is read as that document.
+output-read : (d : Document) (o : List ℕ) → Lawful d → ReadAs (over o 0 (layout d)) (length (layout d)) d
+unfolding over
+output-read d o lawful = complete d (layout d) (drop (0 + length (layout d)) o) (canonical d) lawful
+
+-- ---- writing
+
+zero-not-among : among writtenNumbers 0 ≡ true → ⊥
+unfolding among
+zero-not-among e = let z : _≡_ {A = ℕ} 0 1 = cc in omega arith
+
+module _ (doc w : List ℕ) (d : Document) (bytes : Bytes doc) (h : Holds doc w d) (w′ o o′ b : List ℕ) (k : WriteCalled doc w w′ o o′ b) where
+  -- What the definition writes of the table is what the call answers and leaves.
+  gives : Gives (written doc (h .table .head) (h .table .inner) (length o)) o (k .result) o′
+  gives = k .is .fit (h .small) (h .table)
+
+  table-lawful : Lawful d → Lawful (tableValue doc w (h .table))
+  table-lawful l = subst Lawful (sym (h .value)) l
+
+  table-long : length (layout (tableValue doc w (h .table))) ≡ length (layout d)
+  table-long = ap (λ (e : Document). length (layout e)) (h .value)
+
+  is-written : Lawful d → Writes d o o′ b
+  is-written l = record {
+    enough = λ le.
+        let e = lawful-written doc w bytes (h .small) (h .table) (length o) (table-lawful l) (omega (arith, table-long)) ∙ ap (λ (f : Document). got (layout f)) (h .value) in
+        let g = subst (λ (x : Out (List ℕ)). Gives x o (k .result) o′) e gives in
+        (k .words-are ∙ ap writeWords (g .answer-is), g .output-is);
+    short = λ lt.
+        let e = lawful-full doc w bytes (h .small) (h .table) (length o) (table-lawful l) (omega (arith, table-long)) in
+        let g = subst (λ (x : Out (List ℕ)). Gives x o (k .result) o′) e gives in
+        (k .words-are ∙ ap writeWords (g .answer-is), g .output-is);
+  }
+
+  is-read-back : (c : ℕ) → b ≡ 0 ∷ 0 ∷ c ∷ 0 ∷ 0 ∷ 0 ∷ 0 ∷ 0 ∷ [] → Lawful d × ReadAs o′ c d
+  is-read-back c e = go (written doc (h .table .head) (h .table .inner) (length o)) refl gives
+    where
+      go : (x : Out (List ℕ)) → written doc (h .table .head) (h .table .inner) (length o) ≡ x → Gives x o (k .result) o′
+          → Lawful d × ReadAs o′ c d
+      go (got bs) is g =
+          let l = written-lawful doc w bytes (h .small) (h .table) (length o) bs is in
+          let laid : bs ≡ layout d = l .laid ∙ ap layout (h .value) in
+          let words : 0 ∷ 0 ∷ length bs ∷ 0 ∷ 0 ∷ 0 ∷ 0 ∷ 0 ∷ [] ≡ 0 ∷ 0 ∷ c ∷ 0 ∷ 0 ∷ 0 ∷ 0 ∷ 0 ∷ [] = ap writeWords (sym (g .answer-is)) ∙ sym (k .words-are) ∙ e in
+          let long : length (layout d) ≡ c = sym (ap length laid) ∙ cc in
+          let out : over o 0 (layout d) ≡ o′ = ap (over o 0) (sym laid) ∙ sym (g .output-is) in
+          let lawful = subst Lawful (h .value) (l .lawful) in
+          (lawful, subst (λ (m : ℕ). ReadAs o′ m d) long (subst (λ (x : List ℕ). ReadAs x (length (layout d)) d) out (output-read d o lawful)))
+      go (no n p) is g =
+          let words : n ∷ p ∷ 0 ∷ 0 ∷ 0 ∷ 0 ∷ 0 ∷ 0 ∷ [] ≡ 0 ∷ 0 ∷ c ∷ 0 ∷ 0 ∷ 0 ∷ 0 ∷ 0 ∷ [] = ap writeWords (sym (g .answer-is)) ∙ sym (k .words-are) ∙ e in
+          let z : n ≡ 0 = cc in
+          let f = write-numbers doc (h .table .head) (h .table .inner) (length o) n p is in
+          absurd (zero-not-among (rw z at f))
+
+-- ---- texts
+
+parse-back : (t o o′ b : List ℕ) → ParseCalled t o o′ b → (e c : ℕ) → b ≡ 0 ∷ 0 ∷ e ∷ c ∷ 0 ∷ 0 ∷ 0 ∷ 0 ∷ []
+    → (k : Block) × (parsed t (length o) ≡ got k) × Lawful (documentOf k) × ReadAs o′ c (documentOf k)
+parse-back t o o′ b r e c w = go (parsed t (length o)) refl (sym (r .answer-is) ∙ w) (r .output-is)
+  where
+    go : (x : Out Block) → parsed t (length o) ≡ x → parseWords (lengthsOf x) ≡ 0 ∷ 0 ∷ e ∷ c ∷ 0 ∷ 0 ∷ 0 ∷ 0 ∷ [] → o′ ≡ text.outputAfter x o
+        → (k : Block) × (parsed t (length o) ≡ got k) × Lawful (documentOf k) × ReadAs o′ c (documentOf k)
+    go (got k) is words out =
+        let d = documentOf k in
+        let f = text-fills t (length o) k is in
+        let long : length (layout d) ≡ c = sym (f .0) ∙ cc in
+        let lawful = lawful-text t (length o) k is in
+        (k, is, lawful, subst (λ (m : ℕ). ReadAs o′ m d) long (subst (λ (x : List ℕ). ReadAs x (length (layout d)) d) (sym out) (output-read d o lawful)))
+    go (no n p) is words out =
+        let z : n ≡ 0 = cc in
+        absurd (text-never-zero t (length o) p (is ∙ ap (λ (m : ℕ). no m p) z))
+
+pub demand-two : DemandTwo
+demand-two = record {
+  sound = sound;
+  complete = complete;
+  written = λ doc w d bytes l h w′ o o′ b k. is-written doc w d bytes h w′ o o′ b k l;
+  write-back = λ doc w w′ o o′ b d bytes h k. is-read-back doc w d bytes h w′ o o′ b k;
+  parse-back = parse-back;
+}

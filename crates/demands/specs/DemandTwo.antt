@@ -1,0 +1,60 @@
+-- Demand 2, said of the calls that people link, against the tag layout (form/specs/Layout.antt) of documents that keep the rules
+-- (`Lawful`, form/specs/Tree.antt): reading accepts the layouts and nothing else, writing gives them back, and what was written, from a
+-- table or from a text, is read as what was meant. That the crate does the same is shown by runs (docs/DIFFERENCES.md).
+-- The proof is in proofs/DemandTwo.antt.
+-- Assumes nothing.
+use Prim.Native.Nat.{ℕ, _+_, _*_, _≤_, _<_}
+use mathlib.Core.Path.{_≡_}
+use mathlib.Core.List.{List, [], _∷_, _++_}
+use lib.ListN.{length, take}
+use Rattle.form.specs.Answer.{got, outputFull, documentLimit, recordLimit}
+use Rattle.form.specs.Spans.{over}
+use Rattle.form.specs.Tree.{Document, Lawful, entriesCount}
+use Rattle.form.specs.Layout.{Layout, layout}
+use Rattle.form.specs.Tables.{IsTable, Within}
+use Rattle.text_form.specs.Text.{Block, parsed, documentOf}
+use Rattle.calls.specs.Calls.{ReadCalled, WriteCalled, ParseCalled}
+use Rattle.demands.specs.Reading.{Bytes}
+use Rattle.demands.specs.Writing.{tableValue}
+
+-- The words w are a table over doc, and stand for the document d.
+pub record Holds (doc w : List ℕ) (d : Document) : Type 0 where
+  pub table : IsTable (length doc) w
+  pub small : Within (length doc) w
+  pub value : tableValue doc w table ≡ d
+
+-- A read answers a with the document d: c bytes are consumed, and the table t′ holds d in its first records, one for each tag.
+pub record Reads (doc t′ a : List ℕ) (c : ℕ) (d : Document) : Type 0 where
+  pub records : ℕ
+  pub answer : a ≡ 0 ∷ 0 ∷ c ∷ records ∷ 0 ∷ 0 ∷ 0 ∷ 0 ∷ []
+  pub each : records ≡ 1 + entriesCount (d .root)
+  pub holds : Holds doc (take (8 * records) t′) d
+
+-- A table of so many words has room for the records of a document.
+pub record RoomFor (d : Document) (words : ℕ) : Type 0 where
+  pub room : 8 * (1 + entriesCount (d .root)) ≤ words
+  pub few : 1 + entriesCount (d .root) ≤ recordLimit
+
+-- Whoever reads doc, with room for the records of d, gets d of its first c bytes.
+abbrev pub ReadAs : List ℕ → ℕ → Document → Type 0
+ReadAs doc c d = Bytes doc → length doc ≤ documentLimit → (t t′ a : List ℕ) → RoomFor d (length t) → ReadCalled doc t t′ a → Reads doc t′ a c d
+
+-- What writing a document into the output o gives: its layout from 0 on, or 13 where that is longer.
+pub record Writes (d : Document) (o o′ b : List ℕ) : Type 0 where
+  pub enough : length (layout d) ≤ length o → (b ≡ 0 ∷ 0 ∷ length (layout d) ∷ 0 ∷ 0 ∷ 0 ∷ 0 ∷ 0 ∷ []) × (o′ ≡ over o 0 (layout d))
+  pub short : length o < length (layout d) → (b ≡ outputFull ∷ 0 ∷ 0 ∷ 0 ∷ 0 ∷ 0 ∷ 0 ∷ 0 ∷ []) × (o′ ≡ o)
+
+pub record DemandTwo : Type 0 where
+  -- what is accepted is the layout of a lawful document, which the table then holds
+  pub sound : (doc t t′ a : List ℕ) → Bytes doc → ReadCalled doc t t′ a → (c n : ℕ) → a ≡ 0 ∷ 0 ∷ c ∷ n ∷ 0 ∷ 0 ∷ 0 ∷ 0 ∷ []
+      → (d : Document) × Layout d (take c doc) × Lawful d × Reads doc t′ a c d
+  -- every layout of a lawful document within the limits is accepted with that document, whatever follows it
+  pub complete : (d : Document) (bs rest : List ℕ) → Layout d bs → Lawful d → ReadAs (bs ++ rest) (length bs) d
+  -- a table that holds a lawful document is written as its layout
+  pub written : (doc w : List ℕ) (d : Document) → Bytes doc → Lawful d → Holds doc w d → (w′ o o′ b : List ℕ) → WriteCalled doc w w′ o o′ b → Writes d o o′ b
+  -- what is written is lawful, and the output, with whatever stands behind, is read as the document that was written
+  pub write-back : (doc w w′ o o′ b : List ℕ) (d : Document) → Bytes doc → Holds doc w d → WriteCalled doc w w′ o o′ b
+      → (c : ℕ) → b ≡ 0 ∷ 0 ∷ c ∷ 0 ∷ 0 ∷ 0 ∷ 0 ∷ 0 ∷ [] → Lawful d × ReadAs o′ c d
+  -- the document that a text means is lawful, and the output of a parse, with whatever stands behind, is read as that document
+  pub parse-back : (t o o′ b : List ℕ) → ParseCalled t o o′ b → (e c : ℕ) → b ≡ 0 ∷ 0 ∷ e ∷ c ∷ 0 ∷ 0 ∷ 0 ∷ 0 ∷ []
+      → (k : Block) × (parsed t (length o) ≡ got k) × Lawful (documentOf k) × ReadAs o′ c (documentOf k)

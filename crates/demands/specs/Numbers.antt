@@ -1,0 +1,106 @@
+-- What is claimed of refusals: which of document 01's numbers each call can refuse with, and no others. The proofs are in
+-- proofs/Numbers.antt, under the names given here.
+-- Assumes nothing.
+use Prim.Native.Nat.{ℕ}
+use mathlib.Core.Path.{_≡_}
+use mathlib.Core.List.{List, [], _∷_}
+use mathlib.Core.Bool.{Bool, true}
+use Rattle.form.specs.Answer.{Out, no}
+use Rattle.form.specs.Table.{Head, Forest}
+use Rattle.form.specs.Reading.{documentAt}
+use Rattle.form.specs.Writing.{written, WriteIs}
+use Rattle.form.specs.Query.{asked, refused, within, Count, failed, QueryIs}
+use Rattle.text_form.specs.Lexing.{among, Stops, lexed, content}
+use Rattle.text_form.specs.Text.{parsed}
+use Rattle.demands.specs.Reading.{Bytes}
+
+-- ---- reading
+
+-- A read (rules 2 to 5): data ends, root id, tag id, string, count below 0, name twice, depth, table full, document over its limit.
+abbrev pub readNumbers : List ℕ
+readNumbers = 1 ∷ 2 ∷ 3 ∷ 4 ∷ 5 ∷ 6 ∷ 7 ∷ 8 ∷ 9 ∷ []
+
+-- `read-numbers`: a read refuses with one of these.
+abbrev pub IsReadNumbers : Type 0
+IsReadNumbers = (doc : List ℕ) → Bytes doc → (room n p : ℕ) → documentAt doc room ≡ no n p → among readNumbers n ≡ true
+
+-- ---- writing
+
+-- A write (rule 8): string, name twice, depth, input over a limit, no table, mixed list, string over its limit, output full.
+abbrev pub writeNumbers : List ℕ
+writeNumbers = 4 ∷ 6 ∷ 7 ∷ 9 ∷ 10 ∷ 11 ∷ 12 ∷ 13 ∷ []
+
+-- Those of the records alone: 9 and 10 come before any record is judged.
+abbrev pub writtenNumbers : List ℕ
+writtenNumbers = 4 ∷ 6 ∷ 7 ∷ 11 ∷ 12 ∷ 13 ∷ []
+
+-- `write-numbers`: records are refused with one of those, whatever records they are.
+abbrev pub IsWriteNumbers : Type 0
+IsWriteNumbers =
+    (doc : List ℕ) (h : Head) (inner : Forest) (room n p : ℕ) → written doc h inner room ≡ no n p → among writtenNumbers n ≡ true
+
+-- `write-refusals`: whoever keeps the promise of a write refuses with one of a write's numbers.
+abbrev pub IsWriteRefusals : Type 0
+IsWriteRefusals =
+    (doc t o : List ℕ) (answer : Out ℕ) (o′ : List ℕ) (n p : ℕ) → WriteIs doc t o answer o′ → answer ≡ no n p → among writeNumbers n ≡ true
+
+-- ---- queries
+
+-- A query (rule 9): depth, input over a limit, no table, query malformed, more matches than room.
+abbrev pub queryNumbers : List ℕ
+queryNumbers = 7 ∷ 9 ∷ 10 ∷ 14 ∷ 24 ∷ []
+
+-- Those of asking records, before the room is looked at.
+abbrev pub askedNumbers : List ℕ
+askedNumbers = 7 ∷ 14 ∷ []
+
+-- Those and the room's.
+abbrev pub withinNumbers : List ℕ
+withinNumbers = 7 ∷ 14 ∷ 24 ∷ []
+
+-- `query-numbers`: asking records is refused with 7 or 14, whatever records they are.
+abbrev pub IsQueryNumbers : Type 0
+IsQueryNumbers =
+    (doc q : List ℕ) (h : Head) (inner : Forest) (n p : ℕ) → asked doc q h inner ≡ no n p → among askedNumbers n ≡ true
+
+-- `within-numbers`: within a room also with 24; a refusal's count is 0 but in 24.
+abbrev pub IsWithinNumbers : Type 0
+IsWithinNumbers =
+    (doc q : List ℕ) (h : Head) (inner : Forest) (room n p c : ℕ) → within room (asked doc q h inner) ≡ refused n p c
+    → (among withinNumbers n ≡ true) × ((n ≡ 24 → ⊥) → c ≡ 0)
+
+-- `query-refusals`: whoever keeps the promise of a query refuses with one of a query's numbers, the count being 0 but in 24.
+abbrev pub IsQueryRefusals : Type 0
+IsQueryRefusals =
+    (doc t q l : List ℕ) (answer : Count) (l′ : List ℕ) (n p c : ℕ) → QueryIs doc t q l answer l′ → answer ≡ failed n p c
+    → (among queryNumbers n ≡ true) × ((n ≡ 24 → ⊥) → c ≡ 0)
+
+-- ---- texts
+
+-- A single token (rules 10 to 13): text over its limit, not UTF-8 or start off a character, quote open, unknown escape, number, bad hex
+-- digit, text ends within an escape, decimal beyond rule 13.
+abbrev pub tokenNumbers : List ℕ
+tokenNumbers = 9 ∷ 15 ∷ 16 ∷ 17 ∷ 18 ∷ 19 ∷ 20 ∷ 23 ∷ []
+
+-- `token-numbers`: a single token is refused with one of these.
+abbrev pub IsTokenNumbers : Type 0
+IsTokenNumbers = (t : List ℕ) (start : ℕ) (set : Stops) (n p : ℕ) → lexed t start set ≡ no n p → among tokenNumbers n ≡ true
+
+-- A string token's content (rule 12): text over its limit, output full, not UTF-8 or a span off its characters, unknown escape, bad hex
+-- digit, an escape's digits cut.
+abbrev pub contentNumbers : List ℕ
+contentNumbers = 9 ∷ 13 ∷ 15 ∷ 17 ∷ 19 ∷ 20 ∷ []
+
+-- `content-numbers`: a content is refused with one of these.
+abbrev pub IsContentNumbers : Type 0
+IsContentNumbers =
+    (t : List ℕ) (start e : ℕ) (inQuotes : Bool) (room n p : ℕ) → content t start e inQuotes room ≡ no n p → among contentNumbers n ≡ true
+
+-- A parse (rules 10 to 15): those of its tokens, and name twice, depth, mixed list, string over its limit, output full, trailing comma,
+-- unmatched brace.
+abbrev pub parseNumbers : List ℕ
+parseNumbers = 6 ∷ 7 ∷ 9 ∷ 11 ∷ 12 ∷ 13 ∷ 15 ∷ 16 ∷ 17 ∷ 18 ∷ 19 ∷ 20 ∷ 21 ∷ 22 ∷ 23 ∷ []
+
+-- `parse-numbers`: a text is refused with one of these.
+abbrev pub IsParseNumbers : Type 0
+IsParseNumbers = (t : List ℕ) (room n p : ℕ) → parsed t room ≡ no n p → among parseNumbers n ≡ true
