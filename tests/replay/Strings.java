@@ -79,6 +79,22 @@ public class Strings {
     static final int[] SCALARS = {0, 1, 0x61, 0x7F, 0x80, 0x7FF, 0x800, 0xFFF, 0x1000, 0x20AC, 0xD7FF, 0xE000, 0xFFFD, 0xFFFF, 0x10000, 0x103FF,
         0x10400, 0x1F600, 0xFFFFF, 0x100000, 0x10FFFF};
 
+    // Each sort of sequence once, good and bad.
+    static final String[] EXAMPLES = {
+        // one, two and three bytes; two halves; the last scalar value
+        "617F01", "C080", "C280DFBF", "E0A080ED9FBFEE8080EFBFBF", "EDA0BDEDB880", "EDAFBFEDBFBF",
+        // a zero byte; four bytes; a byte that begins nothing
+        "6100", "6162F09F9880", "80", "61FF",
+        // overlong forms: of one byte in two, of one and of two in three, of three in four
+        "C080C081", "61C1BF", "61E08080", "61E09FBF", "61F0808080", "61F08FBFBF",
+        // a lone low half; a lone high half at the end, before a letter, before a high half, before a cut low half
+        "61EDB880", "61EDA0BD", "EDA0BD61", "EDA0BDEDA0BD", "EDA0BDEDB8",
+        // cut sequences, at the end and before another byte
+        "61C3", "61E4B8", "61F09F98", "C361", "E4B861", "E46180", "F09F9861",
+        // UTF-8: a zero byte, two and three and four bytes, C0 80, above U+10FFFF, five bytes
+        "0061", "C280E0A080", "F09F9880F48FBFBF", "61C080", "61F4908080", "F888808080",
+    };
+
     static final LinkedHashSet<String> cases = new LinkedHashSet<>();
 
     static void put(byte[] b) { cases.add(hex(b, 0)); }
@@ -155,6 +171,7 @@ public class Strings {
             put(damaged);
             put(Arrays.copyOf(b, b.length - (b.length == 0 ? 0 : r.nextInt(Math.min(4, b.length)))));
         }
+        for (String s : EXAMPLES) put(HexFormat.of().parseHex(s));
         Path folder = Path.of(args[0]);
         try (PrintWriter in = new PrintWriter(folder.resolve("stdin").toFile()); PrintWriter out = new PrintWriter(folder.resolve("stdout").toFile())) {
             for (String line : cases) {

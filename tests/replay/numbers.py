@@ -192,10 +192,22 @@ def singles():
             single(b)
 
 
+# ---- each limit of rule 13 by name
+
+def examples():
+    named = """-128b 300B -1s -9223372036854775808l 9223372036854775807f 00000000000000000000000000012 9007199254740993d 00b1 1b2
+    0.1 1.5E-3D 1.0e23 1.0e24 1.e22 1.e23 1.0e-21 1.0e-22 -3.e-22 9007199254740992. 900719925474099.3 0000000000000000000000001.0
+    0.0e99999999999999999999999999 -0.0e-99999999999999999999999999f -00.000000000000000000000000000000000
+    1.0e99999999999999999999999999 1.0e99999999999999999999999999e 99999999999999999999999999.0x 1.5e 1.5e+ 1.5e-d""".split()
+    for text in named:
+        token(text)
+
+
 wholes()
 decimals()
 refusals()
 singles()
+examples()
 assert all(len(l) <= 256 for l in lines)
 folder = os.path.join(os.path.dirname(os.path.abspath(__file__)), "..", "..", "crates", "replay_numbers")
 answers = [answer(l) for l in lines]

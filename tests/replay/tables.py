@@ -269,6 +269,16 @@ def by_hand(cases):
         cases.put(b"ab", flat(rows + [[1, 0, 0, 0, 1, 0, 0, 513], [last, 0, 0, 0, width, 0, 0, 514]]))
 
 
+def of_siblings(cases):
+    """Record 2 holds record 3, the rest are the root's entries; the names stand in five letters. Then the same with fewer records."""
+    rows = [[10, 0, 0, 0, 0, 4, 0, 6], [1, 0, 2, 9, 1, 0, 0, 2], [10, 2, 1, 0, 0, 1, 0, 4], [1, 0, 2, 9, 1, 0, 0, 4], [1, 3, 2, 9, 1, 0, 0, 5], [1, 2, 1, 9, 1, 0, 0, 6]]
+    cases.put(b"abcab", flat(rows), None, 5)
+    cases.put(b"abcac", flat(rows), None, 5)
+    cases.put(b"abcac", flat([[10, 0, 0, 0, 0, 3, 0, 5]] + rows[1:5]), None, 5)
+    cases.put(b"abcab", flat([[10, 0, 0, 0, 0, 1, 0, 3], [10, 2, 1, 0, 0, 1, 0, 3], [1, 0, 2, 9, 1, 0, 0, 3]]), None, 5)
+    cases.put(b"abcab", [10, 0, 0, 0, 0, 0, 0, 1], None, 5)
+
+
 def well(r, deep):
     """Containers so many deep, of both sorts, a few small records beside them; in places a list's element is of another kind."""
     rows = []
@@ -346,6 +356,8 @@ def main(folder):
     until(cases, 11, 120, lambda: (bytes(range(32, 127)), made_up(r, bytes(range(32, 127)), True), 0))
     until(cases, 12, 60, lambda: long_strings(r))
     until(cases, 7, 50, lambda: (b"abcdefghijklmnopqrstuvwxyzabc", well(r, r.choice([513, 513, 514, 530])), 0))
+    of_siblings(cases)
+    cases.put(bytes.fromhex("0A00016101000162FF00"), [10, 3, 1, 0, 0, 1, 0, 2, 1, 7, 1, 8, 1, 0, 0, 2])
     for key in ["table", "none", "written"] + [f"refused {n}" for n in (4, 6, 7, 10, 11, 12, 13)]:
         assert cases.seen.get(key, 0) >= 50, key
     assert len(cases.lines) >= 3000

@@ -12,6 +12,7 @@ program, so that no difference goes unlisted.
 """
 import collections
 import random
+import string
 import subprocess
 import sys
 
@@ -37,6 +38,12 @@ PICKED = r"""
 {a:1.5} {a:1.5f} {a:1.5d} {a:1f} {a:1d} {a:-0d} {a:-0.0} {a:1.e23} {a:0.1f} {a:16777217f} {a:3.4028235e22f} {a:1e5} {a:-} {a:1.} {a:1.f} {a:+5}
 {a:x y} {a:x\} {a:1\} {a:1"} {a:x"y}"z} {a:{b:{c:{}}}} {a:{b:1,}} {a:{b:1} {a:{b {a:{b: {a:{b:[ {a:{b:[1 {a:x{,}y} {a:x[,]y,b:1}
 """.split("\n")
+
+# Texts with the output's length that each is tried with: room that ends at a token, commas in an array, keys that begin like others.
+EXAMPLES = [
+    ("{}", 2), ("{a:[", 12), ("{a:[", 8), ("{a:[B;,1b,,2b]}", 100), ("{a,b:'c'}", 100), ("{a:300b}", 100), ("{a:0.5f}", 100), ("{b:7b,ab:7b}", 100),
+    ("{b:7b,ab:7b,a:7b}", 100), ("{b:7b,ab:7b,b:7b}", 100), ("{b:7b,ab:7b,ab:7b}", 100),
+]
 
 
 def picked():
@@ -111,6 +118,16 @@ def texts():
         yield "".join(r.choice(["{", "}", "[", "]", ",", ":", ";", "a", "b", "1", "1b", "B;", "'x'", '""', " ", "\\", "I;", "{a:", "[1,"]) for _ in range(r.randrange(2, 10)))
 
 
+def many_keys():
+    """Compounds of so many keys, falling and in any order; and rising, with one of them once more at the end."""
+    r = random.Random(512)
+    letters = string.ascii_uppercase + string.ascii_lowercase
+    for n in (511, 512, 513, 1300):
+        rising = [a + b for a in letters for b in letters][:n]
+        for keys in (rising[::-1], r.sample(rising, n), rising + rising[:1], rising + rising[n // 2:n // 2 + 1], rising + rising[-1:]):
+            yield "{" + ",".join(k + ":1b" for k in keys) + "}", 4 + 6 * len(keys)
+
+
 def answer(parse, *args):
     try:
         place, out = parse(*args)
@@ -153,19 +170,19 @@ def printed(said, room):
 
 
 def main(folder):
-    todo = [t.encode() for t in dict.fromkeys(texts())]
-    asked = "".join(f"snbt {data.hex() or '-'}\n" for data in todo)
+    todo = [(t.encode(), None) for t in dict.fromkeys(texts())] + [(t.encode(), room) for t, room in (*EXAMPLES, *many_keys())]
+    asked = "".join(f"snbt {data.hex() or '-'}\n" for data, _ in todo)
     answers = subprocess.run(["compare/ask"], input=asked, capture_output=True, text=True, check=True).stdout.splitlines()
     assert len(answers) == len(todo)
     r, count, differ, cases = random.Random(15), collections.Counter(), 0, 0
     with open(f"{folder}/stdin", "w") as lines, open(f"{folder}/stdout", "w") as out:
-        for data, line in zip(todo, answers):
+        for (data, own), line in zip(todo, answers):
             way = answer(crate.parse, data)
             if theirs(line, way) != way and not (line.startswith("panic") and way.startswith("refused 17 ")):
                 sys.exit(f"{data!r}: in the crate's way {way}, the crate {line}")
             mine = answer(snbt.parse, data, 1 << 60)
             differ += mine != way
-            for room in rooms(r, mine):
+            for room in rooms(r, mine) if own is None else [own]:
                 said = answer(snbt.parse, data, room)
                 count[" ".join(said.split(" ")[:2]) if said[0] == "r" else "ok"] += 1
                 cases += 1

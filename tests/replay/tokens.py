@@ -26,6 +26,11 @@ PICKED = [
     "0.1", "-0d", "-0.0", "9007199254740993d", "9007199254740993.0", "1.0e23", "1.e23", "-.5", ".5", "inf.", "NaN", "true", "-inf", "0x1F", "5L", "5i", "007",
     "1.5E+3", "1.5b", "1.2.3", "--5", "5 5", "-9223372036854775808L", "9223372036854775808", "300b", "-129B", "70000s", "1_0.0", "1.0ef", "1\\", "1\"", "-a",
 ]
+# Starts and stop sets that the texts above do not get by chance.
+EXAMPLES = [
+    ("default", 0, "1e5"), ("default", 0, " a b ,"), ("value", 0, "a',',"), ("default", 1, "a \t"), ("default", 0, '"\\u'), ("default", 0, '"a\\ud800"'),
+    ("default", 0, " '\\"), ("default", 0, "'\\'\\n\\\\'"),
+]
 ALPHABET = list("a1-.b\\'\"{}[],:; é")
 
 
@@ -59,6 +64,8 @@ def cases():
     for data in (b"\x80", b"a\xff,b", b"\xc0\x80", b"\xed\xa0\x80", b"\xf4\x90\x80\x80", b"\xe2\x82", "€".encode()):
         for start in range(len(data) + 2):
             yield "default", start, data
+    for stops, start, text in EXAMPLES:
+        yield stops, start, text.encode()
 
 
 def said(kind, value, index, width, next):

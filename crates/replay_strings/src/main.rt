@@ -1,10 +1,10 @@
 // Replays recorded answers on strings: for each line of hexadecimal digits it prints what modified UTF-8 and UTF-8 make of the bytes, and
 // the bytes from UTF-8 to modified UTF-8. The answers in stdout are the JDK's: tests/replay/Strings.java made them.
+use chars::Front;
+use chars::Put;
 use lines::Hex;
 use lines::Line;
 use mutf8::Checked;
-use mutf8::Front;
-use mutf8::Put;
 
 // `ok`, or the offset at which the first sequence that can't be read begins.
 fn print_verdict(verdict: Checked) {
@@ -55,7 +55,7 @@ fn moved(s: &[u8], at: usize, out: &mut [u8], to: usize) -> Turn {
     if out.len() < to {
         return Turn::End;
     }
-    match mutf8::utf8_at(s, at) {
+    match chars::utf8_at(s, at) {
         Front::Stuck => Turn::End,
         Front::Is(c, n) => {
             if 0x10FFFF < c {
@@ -64,7 +64,7 @@ fn moved(s: &[u8], at: usize, out: &mut [u8], to: usize) -> Turn {
             if s.len() - at < n {
                 return Turn::End;
             }
-            match mutf8::put_scalar(c, out, to) {
+            match chars::put_scalar(c, out, to) {
                 Put::Full => Turn::End,
                 Put::To(q) => Turn::To(at + n, q),
             }

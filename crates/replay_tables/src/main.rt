@@ -27,9 +27,9 @@ fn print_verdict(verdict: Verdict) {
 // The answer to a write.
 fn print_answer(answer: Answer) {
     match answer {
-        Answer::Written { length } => {
+        Answer::Written { bytes } => {
             io::write_all(1, b" written");
-            lines::print_number(length);
+            lines::print_number(bytes);
         }
         Answer::Refused { number, place } => {
             io::write_all(1, b" refused");

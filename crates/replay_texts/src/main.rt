@@ -29,12 +29,12 @@ fn print_refusal(number: u8, place: usize, out: &[u8]) {
     }
 }
 
-// The answer to a text. The length is seen in the output: what lies behind the document is AA.
+// The answer to a text. The bytes written are seen in the output: what lies behind the document is AA.
 fn print_parsed(text: &[u8], out: &mut [u8]) {
     match snbt::parse(text, out) {
         Parsed::Document {
             consumed,
-            length: _,
+            written: _,
         } => {
             io::write_all(1, b"ok");
             lines::print_number(consumed);
@@ -176,8 +176,8 @@ fn replay(
 
 fn main() {
     let mut chunk = io::large_buffer();
-    let mut line = [0u8; 8192];
-    let mut field = [0u8; 8192];
+    let mut line = [0u8; 16384];
+    let mut field = [0u8; 16384];
     let mut part = [0u8; 4096];
     let mut text = [0u8; 70000];
     let mut out = [0u8; 70000];

@@ -44,7 +44,7 @@ fn print_front(out: &[u8], n: usize) {
 // The content of a string token.
 fn print_content(text: &[u8], start: usize, end: usize, quoted: bool, out: &mut [u8]) {
     match quotes::content(text, start, end, quoted, out) {
-        Contents::Is { length } => print_front(out, length),
+        Contents::Is { bytes } => print_front(out, bytes),
         Contents::Refused { number, place } => print_refusal(number, place),
     }
 }

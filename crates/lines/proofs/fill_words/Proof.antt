@@ -1,42 +1,43 @@
--- `lines::fill_words` is safe and ends: i rises to n.
+-- `lines::fill_words` meets its contract. The loop's invariant: the first i words stand at the front of the table.
 -- Assumes nothing.
-use borrow.Author.Needs.{needs}
+use Prim.Native.Nat.{_-_, _≤_, min}
+use mathlib.Core.Path.{_≡_, refl, ap, _∙_}
 use native.Mathlib.Omega.{arith}
-use Prim.Native.Nat.{_+_, _*_, _-_, _≤_, _<_}
-use mathlib.Core.Path.{_≡_, refl, sym, ap, _∙_}
+use borrow.Author.Needs.{needs}
 use lib.ListN.{length, length-set}
+use Rattle.form.specs.Spans.{over}
+use Rattle.lines.specs.Buffers.{firsts}
+use Rattle.lines.specs.Words.{wordAt, withWords}
+use Rattle.lines.proofs.Buffers.{firsts-start, firsts-put}
 use Rattle.lines.proofs.fill_words.Statement.{statement}
 use Rattle.lines.proofs.fill_words.Tie as tie
 
 abbrev Inv-loop : tie.InvT-loop
-Inv-loop bytes n table₀ i₀ table i = (length table ≡ length table₀) × (i ≤ n)
+Inv-loop bytes n table₀ end i₀ table i = (i ≤ end) × (end ≡ min n (length table₀)) × (length table ≡ length table₀) × (table ≡ over table₀ 0 (firsts (wordAt bytes) i))
 
 abbrev μ-loop : tie.MeasureT-loop
-μ-loop bytes n table₀ i₀ table i = n - i
+μ-loop bytes n table₀ end i₀ table i = end - i
 
 loop-holds : tie.Need-loop-holds Inv-loop μ-loop
-loop-holds c = search needs
-
-word-of-requires : tie.Need-word-of-requires Inv-loop μ-loop
-word-of-requires c κs = search needs
-
-put-word-requires : tie.Need-put-word-requires Inv-loop μ-loop
-put-word-requires c κs = search needs
-
-add-i : tie.Need-add-i Inv-loop μ-loop
-add-i c = search needs
-
-loop-less : tie.Need-loop-less Inv-loop μ-loop
-loop-less c = search needs
+loop-holds c = (omega arith, c .least .ensures, refl, firsts-start _ _)
 
 loop-again : tie.Need-loop-again Inv-loop μ-loop
-loop-again c = search needs
-
-same-length : tie.Need-same-length Inv-loop μ-loop
-same-length c = search needs
+loop-again c =
+    let l = c .before .before .loop in (
+      omega arith,
+      l .inv .1,
+      simp length-set (l .inv .2),
+      firsts-put _ _ _ _ _ (l .inv .3) (c .word-of .ensures) (omega arith),
+    )
 
 returns : tie.Need-returns Inv-loop μ-loop
-returns c = search needs
+unfolding withWords
+returns c =
+    let at-loop = c .before in
+    let limited = at-loop .before in
+    let a = limited .before .before .before .args in
+    let e : at-loop .loop .i ≡ min (a .n) (length (a .table .now)) = omega arith in
+    at-loop .loop .inv .3 ∙ ap (λ k. over (a .table .now) 0 (firsts (wordAt (a .bytes .now)) k)) e
 
 pub fill-words-spec : {M : Type 1} → statement M
 fill-words-spec =
@@ -44,11 +45,13 @@ fill-words-spec =
     (tie.spec
     Inv-loop
     μ-loop
+    (λ c κs. search needs)
     loop-holds
-    word-of-requires
-    put-word-requires
-    add-i
-    loop-less
+    (λ c κs. search needs)
+    (λ c. search needs)
+    (λ c. search needs)
+    (λ c. search needs)
+    (λ c. search needs)
     loop-again
-    same-length
+    (λ c. search needs)
     returns)

@@ -1,87 +1,60 @@
--- `lines::next_line` is safe and ends: the turns fall.
+-- `lines::next_line` meets its contract. The loop's invariant: what has been read stands in the buffer. The measure is the turns.
 -- Assumes nothing.
-use borrow.Author.Needs.{needs}
+use Prim.Native.Nat.{_+_, _<_}
+use mathlib.Core.Path.{_≡_, refl}
 use native.Mathlib.Omega.{arith}
-use Prim.Native.Nat.{_+_, _*_, _-_, _≤_, _<_}
-use mathlib.Core.Path.{_≡_, refl, sym, ap, _∙_}
-use lib.ListN.{length, length-set}
+use borrow.Author.Needs.{needs}
+use lib.ListN.{length}
+use Rattle.lines.specs.Chunks.{InChunk}
+use Rattle.lines.proofs.Chunks.{Sofar, sofar-start, sofar-next, sofar-more, line-ended, line-last}
 use Rattle.lines.proofs.next_line.Statement.{statement}
 use Rattle.lines.proofs.next_line.Tie as tie
 
 abbrev Inv-loop : tie.InvT-loop
-Inv-loop chunk₀ line₀ left₀ len₀ long₀ turns₀ chunk line left len long turns = (length chunk ≡ length chunk₀) × (length line ≡ length line₀)
+Inv-loop chunk₀ line₀ left₀ len₀ long₀ turns₀ chunk line left len long turns =
+    (length chunk ≡ length chunk₀) × Sofar line₀ line len long × (turns < turns₀ → InChunk chunk left)
 
 abbrev μ-loop : tie.MeasureT-loop
 μ-loop chunk₀ line₀ left₀ len₀ long₀ turns₀ chunk line left len long turns = turns
 
 loop-holds : tie.Need-loop-holds Inv-loop μ-loop
-loop-holds c = (refl, refl)
+loop-holds c = (refl, sofar-start _, λ h. absurd (omega arith))
 
-sub-turns : tie.Need-sub-turns Inv-loop μ-loop
-sub-turns c = search needs
+abbrev loop-of : tie.Else1 Inv-loop μ-loop → tie.At-loop Inv-loop μ-loop
+loop-of c = let read = c .before .before .before in read .before .before .before
 
-filled-requires : tie.Need-filled-requires Inv-loop μ-loop
-filled-requires c κs = search needs
-
-last-requires : tie.Need-last-requires Inv-loop μ-loop
-last-requires c κs = search needs
-
-same-length : tie.Need-same-length Inv-loop μ-loop
-same-length c = search needs
-
-same-length-2 : tie.Need-same-length-2 Inv-loop μ-loop
-same-length-2 c = search needs
+-- What is left behind the byte that was taken lies in the chunk.
+on : (c : tie.Else1 Inv-loop μ-loop)
+    → let read = c .before .before .before .filled in InChunk (read .last .0) (record { at = read .result .at + 1; have = read .result .have })
+on c = record { order = omega arith; within = c .before .before .before .filled .ensures .within }
 
 returns : tie.Need-returns Inv-loop μ-loop
-returns c = search needs
-
-slice-read-b : tie.Need-slice-read-b Inv-loop μ-loop
-slice-read-b c = search needs
-
-add-if4 : tie.Need-add-if4 Inv-loop μ-loop
-add-if4 c = search needs
-
-ended-requires : tie.Need-ended-requires Inv-loop μ-loop
-ended-requires c κs = search needs
-
-same-length-3 : tie.Need-same-length-3 Inv-loop μ-loop
-same-length-3 c = search needs
-
-same-length-4 : tie.Need-same-length-4 Inv-loop μ-loop
-same-length-4 c = search needs
+returns c =
+    let none = c .before in
+    let read = none .before .before .before in
+    let at-loop = read .before .before .before in
+    rw (c .last .ensures) (line-last _ _ _ _ (at-loop .loop .inv .1) _ _ (read .filled .ensures))
 
 returns-2 : tie.Need-returns-2 Inv-loop μ-loop
-returns-2 c = search needs
-
-slice-write-line : tie.Need-slice-write-line Inv-loop μ-loop
-slice-write-line c = search needs
-
-add-len : tie.Need-add-len Inv-loop μ-loop
-add-len c = search needs
-
-loop-less : tie.Need-loop-less Inv-loop μ-loop
-loop-less c = search needs
+returns-2 c =
+    let some = c .before .before .before in
+    rw (c .ended .ensures) (line-ended _ _ _ _ (loop-of some .loop .inv .1) _ _ (on some))
 
 loop-again : tie.Need-loop-again Inv-loop μ-loop
-loop-again c = search needs
-
-loop-less-2 : tie.Need-loop-less-2 Inv-loop μ-loop
-loop-less-2 c = search needs
+loop-again c =
+    let other = c .before in
+    let some = other .before .before in
+    (search needs, sofar-next _ _ _ _ (loop-of some .loop .inv .1) _ (c .if3 .taken) (other .if2 .left), λ h. on some)
 
 loop-again-2 : tie.Need-loop-again-2 Inv-loop μ-loop
-loop-again-2 c = search needs
-
-last-requires-2 : tie.Need-last-requires-2 Inv-loop μ-loop
-last-requires-2 c κs = search needs
-
-same-length-5 : tie.Need-same-length-5 Inv-loop μ-loop
-same-length-5 c = search needs
-
-same-length-6 : tie.Need-same-length-6 Inv-loop μ-loop
-same-length-6 c = search needs
+loop-again-2 c =
+    let some = c .before .before .before in
+    (search needs, sofar-more _ _ _ _ (loop-of some .loop .inv .1) (c .if3 .left), λ h. on some)
 
 returns-3 : tie.Need-returns-3 Inv-loop μ-loop
-returns-3 c = search needs
+returns-3 c =
+    let l = c .before .before .loop in
+    rw (c .last2 .ensures) (line-last _ _ _ _ (l .inv .1) _ _ (l .inv .2 (omega arith)))
 
 pub next-line-spec : {M : Type 1} → statement M
 next-line-spec =
@@ -90,25 +63,25 @@ next-line-spec =
     Inv-loop
     μ-loop
     loop-holds
-    sub-turns
-    filled-requires
-    last-requires
-    same-length
-    same-length-2
+    (λ c. search needs)
+    (λ c κs. search needs)
+    (λ c κs. search needs)
+    (λ c. search needs)
+    (λ c. search needs)
     returns
-    slice-read-b
-    add-if4
-    ended-requires
-    same-length-3
-    same-length-4
+    (λ c. search needs)
+    (λ c. search needs)
+    (λ c κs. search needs)
+    (λ c. search needs)
+    (λ c. search needs)
     returns-2
-    slice-write-line
-    add-len
-    loop-less
+    (λ c. search needs)
+    (λ c. search needs)
+    (λ c. search needs)
     loop-again
-    loop-less-2
+    (λ c. search needs)
     loop-again-2
-    last-requires-2
-    same-length-5
-    same-length-6
+    (λ c κs. search needs)
+    (λ c. search needs)
+    (λ c. search needs)
     returns-3)

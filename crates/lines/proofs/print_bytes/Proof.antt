@@ -1,10 +1,8 @@
 -- `lines::print_bytes` is safe and ends: i rises to the length.
 -- Assumes nothing.
 use borrow.Author.Needs.{needs}
-use native.Mathlib.Omega.{arith}
-use Prim.Native.Nat.{_+_, _*_, _-_, _≤_, _<_}
-use mathlib.Core.Path.{_≡_, refl, sym, ap, _∙_}
-use lib.ListN.{length, length-set}
+use Prim.Native.Nat.{_-_, _≤_}
+use lib.ListN.{length}
 use Rattle.lines.proofs.print_bytes.Statement.{statement}
 use Rattle.lines.proofs.print_bytes.Tie as tie
 

@@ -1,90 +1,68 @@
--- `lines::unhex` is safe and ends: i rises to the number of pairs.
+-- `lines::unhex` meets its contract: each test that fails, and the bytes where none does.
 -- Assumes nothing.
-use borrow.Author.Needs.{needs}
+use Prim.Native.Nat.{_*_, _/_, _%_}
+use mathlib.Core.Bool.{true}
+use mathlib.Core.Path.{_≡_, subst, sym, _∙_}
 use native.Mathlib.Omega.{arith}
-use Prim.Native.Nat.{_+_, _*_, _-_, _≤_, _<_}
-use mathlib.Core.Path.{_≡_, refl, sym, ap, _∙_}
-use lib.ListN.{length, length-set}
+use borrow.Author.Needs.{needs}
+use borrow.Author.Tests.{not-true, not-false}
+use lib.ListN.{take}
+use Rattle.lines.specs.Digits.{allDigits}
+use Rattle.lines.proofs.Digits.{hex-short, hex-odd, hex-full, hex-other, hex-some, unhexed-none, unhexed-some}
 use Rattle.lines.proofs.unhex.Statement.{statement}
 use Rattle.lines.proofs.unhex.Tie as tie
 
-abbrev Inv-loop : tie.InvT-loop
-Inv-loop line n out₀ many i₀ out i = (length out ≡ length out₀) × (i ≤ many) × (many + many ≤ length line) × (many ≤ length out₀)
+returns : tie.Need-returns
+returns c = unhexed-none _ (hex-short _ _ _ (c .if1 .taken))
 
-abbrev μ-loop : tie.MeasureT-loop
-μ-loop line n out₀ many i₀ out i = many - i
+returns-2 : tie.Need-returns-2
+returns-2 c = unhexed-none _ (hex-odd _ _ _ (c .before .if1 .left) (c .if2 .taken))
 
-returns : tie.Need-returns Inv-loop μ-loop
-returns c = search needs
+abbrev start-of : tie.Else1 → tie.Start
+start-of c = c .before .before .before
 
-loop-holds : tie.Need-loop-holds Inv-loop μ-loop
-loop-holds c = search needs
+-- The number of digits is even.
+even : (c : tie.Else2) → start-of (c .before) .args .n % 2 ≡ 0
+even c = omega arith
 
-mul-pair : tie.Need-mul-pair Inv-loop μ-loop
-mul-pair c = search needs
+returns-3 : tie.Need-returns-3
+returns-3 c = unhexed-none _ (hex-full _ _ _ (c .before .before .if1 .left) (even (c .before)) (c .if3 .taken))
 
-shared-slice-read-pair : tie.Need-shared-slice-read-pair Inv-loop μ-loop
-shared-slice-read-pair c = search needs
+returns-4 : tie.Need-returns-4
+returns-4 c =
+    let fitting = c .before .before in
+    let shaped = fitting .before in
+    unhexed-none _ (hex-other _ _ _ (shaped .before .if1 .left) (even shaped) (fitting .if3 .left) (sym (c .before .all-digits .ensures) ∙ not-true _ (c .if4 .taken)))
 
-mul-pair-2 : tie.Need-mul-pair-2 Inv-loop μ-loop
-mul-pair-2 c = search needs
+-- All are digits.
+digits : (c : tie.Else4) → let fitting = c .before .before in let a = start-of (fitting .before .before) .args in allDigits (take (a .n) (a .line .now)) ≡ true
+digits c = sym (c .before .all-digits .ensures) ∙ not-false _ (c .if4 .left)
 
-add-pair : tie.Need-add-pair Inv-loop μ-loop
-add-pair c = search needs
+put-bytes-requires : tie.Need-put-bytes-requires
+put-bytes-requires c κs =
+    let fitting = c .before .before .before in
+    let shaped = fitting .before in
+    let a = start-of (shaped .before) .args in
+    let whole : a .n ≡ 2 * (a .n / 2) = omega (arith, even shaped) in
+    (omega arith, omega arith, subst (λ k. allDigits (take k (a .line .now)) ≡ true) whole (digits (c .before)))
 
-shared-slice-read-pair-2 : tie.Need-shared-slice-read-pair-2 Inv-loop μ-loop
-shared-slice-read-pair-2 c = search needs
-
-pair-requires : tie.Need-pair-requires Inv-loop μ-loop
-pair-requires c κs = search needs
-
-same-length : tie.Need-same-length Inv-loop μ-loop
-same-length c = search needs
-
-returns-2 : tie.Need-returns-2 Inv-loop μ-loop
-returns-2 c = search needs
-
-cast-out : tie.Need-cast-out Inv-loop μ-loop
-cast-out c = search needs
-
-slice-write-out : tie.Need-slice-write-out Inv-loop μ-loop
-slice-write-out c = search needs
-
-add-i : tie.Need-add-i Inv-loop μ-loop
-add-i c = search needs
-
-loop-less : tie.Need-loop-less Inv-loop μ-loop
-loop-less c = search needs
-
-loop-again : tie.Need-loop-again Inv-loop μ-loop
-loop-again c = search needs
-
-same-length-2 : tie.Need-same-length-2 Inv-loop μ-loop
-same-length-2 c = search needs
-
-returns-3 : tie.Need-returns-3 Inv-loop μ-loop
-returns-3 c = search needs
+returns-5 : tie.Need-returns-5
+returns-5 c =
+    let put = c .before .before in
+    let tested = put .before .before in
+    let fitting = tested .before .before in
+    let shaped = fitting .before in
+    unhexed-some _ _ _ _ (hex-some _ _ _ (shaped .before .if1 .left) (even shaped) (fitting .if3 .left) (digits tested)) (put .put-bytes .ensures)
 
 pub unhex-spec : {M : Type 1} → statement M
 unhex-spec =
     tie.close
     (tie.spec
-    Inv-loop
-    μ-loop
     returns
-    loop-holds
-    mul-pair
-    shared-slice-read-pair
-    mul-pair-2
-    add-pair
-    shared-slice-read-pair-2
-    pair-requires
-    same-length
     returns-2
-    cast-out
-    slice-write-out
-    add-i
-    loop-less
-    loop-again
-    same-length-2
-    returns-3)
+    returns-3
+    (λ c κs. search needs)
+    returns-4
+    put-bytes-requires
+    (λ c. search needs)
+    returns-5)

@@ -1,0 +1,4 @@
+pub mod Buffers
+pub mod Digits
+pub mod Fields
+pub mod Chunks
