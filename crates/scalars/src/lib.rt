@@ -31,7 +31,7 @@ pub enum Done {
 
 // How many bytes of the buffer a key takes, or a refusal.
 pub enum Key {
-    Is { size: usize },
+    Is { bytes: usize },
     No { number: u8, place: usize },
 }
 
@@ -282,7 +282,7 @@ fn key_measured(
                 };
             }
             let used = quotes::put_content(text, start, end, quoted, buffer, 0);
-            Key::Is { size: used }
+            Key::Is { bytes: used }
         }
     }
 }
@@ -302,7 +302,7 @@ fn put_key(
     if quotes::is_plain(text, start, end) {
         let size = end - start;
         copies::copy_short(text, start, size, buffer, 0);
-        return Key::Is { size };
+        return Key::Is { bytes: size };
     }
     key_measured(text, quoted, start, end, place, buffer)
 }

@@ -369,7 +369,7 @@ fn named(
     let here = index.0;
     match scalars::take_key(text, td, buffer) {
         scalars::Key::No { number, place } => Key::No { number, place },
-        scalars::Key::Is { size } => match keys::spot_of(out, keys, base, top, buffer, size) {
+        scalars::Key::Is { bytes } => match keys::spot_of(out, keys, base, top, buffer, bytes) {
             Spot::Taken => Key::No {
                 number: form::NAME_TWICE,
                 place: here,
@@ -383,7 +383,7 @@ fn named(
                     place: p,
                 },
                 Colon::To { next: m } => Key::Is {
-                    size,
+                    size: bytes,
                     index: i,
                     next: m,
                 },

@@ -22,10 +22,10 @@ start c =
     let known = told .before .before in
     known .before .before
 
-abbrev taken : tie.After-size → tie.After-take-key
+abbrev taken : tie.After-bytes → tie.After-take-key
 taken c = let told = c .before .before in told .before .before
 
-abbrev sized : tie.After-spot-of → tie.After-size
+abbrev sized : tie.After-spot-of → tie.After-bytes
 sized c = c .before .before .before
 
 abbrev spotted : tie.After-behind-key → tie.After-spot-of
@@ -39,9 +39,9 @@ abbrev names : tie.Start → List (List ℕ)
 names s = let a = s .args in namesIn (a .out .now) (a .keys .now) (a .base) (a .top - a .base)
 
 -- The key is in the buffer.
-key : (c : tie.After-size) → let a = start (taken c) .args in
-    (room : ℕ) → KeyIn (keyOf (a .text .now) room (dataIs (a .td) .token) (dataIs (a .td) .index)) (a .buffer .now) (c .size .given .0 .0) (taken c .take-key .last .1 .1 .0)
-key c room = key-taken (c .size .given .1) (taken c .take-key .ensures room)
+key : (c : tie.After-bytes) → let a = start (taken c) .args in
+    (room : ℕ) → KeyIn (keyOf (a .text .now) room (dataIs (a .td) .token) (dataIs (a .td) .index)) (a .buffer .now) (c .bytes .given .0 .0) (taken c .take-key .last .1 .1 .0)
+key c room = key-taken (c .bytes .given .1) (taken c .take-key .ensures room)
 
 take-key-requires : tie.Need-take-key-requires
 take-key-requires c κs =
@@ -103,7 +103,7 @@ named-spec =
     (tie.spec
     take-key-requires
     (λ c. search needs)  -- enum-known-number
-    (λ c. search needs)  -- enum-known-size
+    (λ c. search needs)  -- enum-known-bytes
     spot-of-requires
     (λ c. search needs)  -- enum-told
     (λ c. search needs)  -- enum-known-i
