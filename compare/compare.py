@@ -290,14 +290,17 @@ def jobs(options):
 
 
 # The recorded answers of each function, for the table of refusals.
-REPLAYED = {"read": "listing", "write": "replay_tables", "query": "replay_queries", "token": "replay_tokens", "parse": "replay_texts"}
+REPLAYED = {"read": ["listing", "replay_depths"], "write": ["replay_tables"], "query": ["replay_queries"], "token": ["replay_tokens"], "parse": ["replay_texts"]}
 COMPARED = {"documents": "read", "tokens": "token", "texts": "parse"}
 
 
 def replayed(name):
-    with open(os.path.join(ROOT, "crates", REPLAYED[name], "stdout")) as lines:
-        words = (line.split(" ") for line in lines)
-        return collections.Counter(int(w[w.index("refused") + 1]) for w in words if "refused" in w)
+    counts = collections.Counter()
+    for program in REPLAYED[name]:
+        with open(os.path.join(ROOT, "crates", program, "stdout")) as lines:
+            words = (line.split(" ") for line in lines)
+            counts.update(int(w[w.index("refused") + 1]) for w in words if "refused" in w)
+    return counts
 
 
 def print_refusals(refusals):
