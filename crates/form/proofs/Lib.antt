@@ -15,6 +15,10 @@ pub mod Table
 pub mod Fields
 pub mod Payloads
 pub mod Runs
+pub mod Cut
+pub mod Accepted
+pub mod Agrees
+pub mod Rooms
 pub mod Leaves
 pub mod Tables
 pub mod Rows

@@ -9,6 +9,7 @@ pub mod Table
 pub mod Tables
 pub mod Rows
 pub mod Reading
+pub mod Cut
 pub mod Writing
 pub mod Paths
 pub mod Records

@@ -67,3 +67,8 @@ pub const UNMATCHED_BRACE: u8 = 22;
 pub const DECIMAL_BEYOND: u8 = 23;
 
 pub const MORE_MATCHES: u8 = 24;
+
+// The refusals of document 02 ([11]).
+pub const NOT_CUT: u8 = 31;
+
+pub const ROOT_CUT: u8 = 32;
