@@ -13,11 +13,12 @@ use Rattle.form.specs.Decoding.{Sequence, Verdict, scalarOf, utf8Of, Judged}
 use Rattle.form.specs.Tables.{IsTable, Within}
 use Rattle.form.specs.Reading.{countsOf, reading, tableAfter}
 use Rattle.form.specs.Writing.{WriteIs, lengthOf, outputAfter}
+use Rattle.form.specs.Cut.{rescuing, sizesOf, bytesAfter, linesAfter}
 use Rattle.form.specs.Query.{Count, QueryIs}
 use Rattle.text_form.specs.Lexing.{lexed, content}
 use Rattle.text_form.specs.Text as text
 use Rattle.text_form.specs.Text.{parsed, lengthsOf}
-use Rattle.calls.specs.Words.{accepted, refusal, verdictWords, readWords, writeWords, queryWords, tokenWords, stopsOf, parseWords}
+use Rattle.calls.specs.Words.{accepted, refusal, verdictWords, readWords, writeWords, rescueWords, queryWords, tokenWords, stopsOf, parseWords}
 
 -- A check of a string of some coding, whose refusal has the number n: accepted exactly if the bytes are the encoding of some scalar
 -- values, else refused where the first sequence that can't be read begins.
@@ -51,6 +52,14 @@ pub record WriteCalled (doc t t′ o o′ answer : List ℕ) : Type 0 where
   pub is : WriteIs doc t o result o′
   pub words-are : answer ≡ writeWords result
   pub kept : t′ ≡ t
+
+-- A rescue ([11]): every word of the answer and of the changes, every byte of the output, and the table as the read leaves it. The form is
+-- not looked at: any number means 01's.
+pub record RescueCalled (form : ℕ) (doc t t′ o o′ c c′ answer : List ℕ) : Type 0 where
+  pub answer-is : answer ≡ rescueWords (sizesOf (rescuing doc t o c))
+  pub table-is : t′ ≡ tableAfter (reading doc t) t
+  pub output-is : o′ ≡ bytesAfter (rescuing doc t o c) o
+  pub changes-is : c′ ≡ linesAfter (rescuing doc t o c) c
 
 -- A query: rule 9's answer in the words, and every word of the list.
 pub record QueryCalled (doc t q l l′ answer : List ℕ) : Type 0 where

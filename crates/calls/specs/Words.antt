@@ -10,6 +10,8 @@ use Rattle.form.specs.Answer.{Out, got, no, pick}
 use Rattle.form.specs.Decoding.{Verdict, good, bad}
 use Rattle.form.specs.Reading.{Counts}
 use Rattle.form.specs.Query.{Count, counted, failed}
+use Rattle.form.specs.Cut as cut
+use Rattle.form.specs.Cut.{Sizes, sizes}
 use Rattle.form.specs.Numbers.{bitsOf}
 use Rattle.text_form.specs.Numbers.{byte, short, int, long, float, double}
 use Rattle.text_form.specs.Lexing.{Stops, default, key, value, first, later, Token, openCurly, closedCurly, openSquare, closedSquare, comma, colon, semicolon, string, numeral, Lexed, found, ended}
@@ -42,6 +44,11 @@ writeWords (no n p) = refusal n p
 abbrev pub queryWords : Count → List ℕ
 queryWords (counted c) = 0 ∷ 0 ∷ c ∷ 0 ∷ 0 ∷ 0 ∷ 0 ∷ 0 ∷ []
 queryWords (failed n p c) = n ∷ p ∷ c ∷ 0 ∷ 0 ∷ 0 ∷ 0 ∷ 0 ∷ []
+
+-- A rescue: the number of bytes and the number of lines written; refusal 24 gives the true number of lines.
+abbrev pub rescueWords : Sizes → List ℕ
+rescueWords (sizes b l) = 0 ∷ 0 ∷ b ∷ l ∷ 0 ∷ 0 ∷ 0 ∷ 0 ∷ []
+rescueWords (cut.failed n p c) = n ∷ p ∷ c ∷ 0 ∷ 0 ∷ 0 ∷ 0 ∷ 0 ∷ []
 
 -- The number of a token in an answer: signs from 1, strings 8 and, quoted, 9, numbers from 10.
 abbrev pub tokenKind : Token → ℕ

@@ -1,6 +1,6 @@
 -- Demand 1 on the calls: of each promise one outcome, and what that is where it accepts and where it refuses.
 -- Assumes nothing.
-use Prim.Native.Nat.{ℕ, _+_, _*_, _≤_}
+use Prim.Native.Nat.{ℕ, _+_, _*_, _/_, _≤_}
 use mathlib.Core.Path.{_≡_, refl, sym, ap, _∙_}
 use mathlib.Core.Logic.{_⊎_, inl, inr}
 use mathlib.Core.List.{List, [], _∷_}
@@ -19,6 +19,8 @@ use Rattle.form.specs.Layout.{layout}
 use Rattle.form.specs.Tables.{IsTable, Within}
 use Rattle.form.specs.Reading.{One, countsOf, tableAfter, reading, roomOf}
 use Rattle.form.specs.Writing.{Gives, outputAfter, lengthOf, WriteIs, judged, written}
+use Rattle.form.specs.Cut as cut
+use Rattle.form.specs.Cut.{Line, Rescue, saved, lineWords, rescuing, sizesOf, bytesAfter, linesAfter}
 use Rattle.form.specs.Query.{Count, counted, failed, Answered, matched, within, asked, countOf, listAfter, Finds, QueryIs}
 use Rattle.form.specs.Query as query
 use Rattle.form.proofs.Answer.{got-no, guard-got, bind-got}
@@ -28,15 +30,16 @@ use Rattle.form.proofs.Outcomes.{same-list, both, in-each-case}
 use Rattle.text_form.specs.Lexing.{among, Lexed, found, ended, judgedText, onCharacter, lexed, contentOf, content}
 use Rattle.text_form.specs.Text.{Block, parsed, documentOf, lengthsOf}
 use Rattle.text_form.specs.Text as text
-use Rattle.calls.specs.Words.{refusal, readWords, writeWords, queryWords, tokenWords, stopsOf, parseWords, verdictWords}
-use Rattle.calls.specs.Calls.{StringCalled, ReadCalled, TableCalled, WriteCalled, QueryCalled, TokenCalled, ContentCalled, ParseCalled}
+use Rattle.calls.specs.Words.{refusal, readWords, writeWords, rescueWords, queryWords, tokenWords, stopsOf, parseWords, verdictWords}
+use Rattle.calls.specs.Calls.{StringCalled, ReadCalled, TableCalled, WriteCalled, RescueCalled, QueryCalled, TokenCalled, ContentCalled, ParseCalled}
 use Rattle.demands.specs.Reading.{Bytes}
-use Rattle.demands.specs.Numbers.{readNumbers, writeNumbers, queryNumbers, tokenNumbers, contentNumbers, parseNumbers}
+use Rattle.demands.specs.Numbers.{readNumbers, writeNumbers, rescueNumbers, queryNumbers, tokenNumbers, contentNumbers, parseNumbers}
 use Rattle.demands.specs.DemandOne.{Accepts, Refuses, Changed, Answers, Alone, DemandOne}
 use Rattle.demands.proofs.Judged.{then-got}
 use Rattle.demands.proofs.Reading.{sound}
 use Rattle.demands.proofs.Texts.{text-fills}
 use Rattle.demands.proofs.Numbers.{read-numbers, write-refusals, query-refusals, token-numbers, content-numbers, parse-numbers}
+use Rattle.demands.proofs.Rescue.{Way, rescue-way}
 use Rattle.demands.proofs.Outcomes.{one-table-called, one-write-called, one-query-called}
 
 -- ---- answers
@@ -242,6 +245,50 @@ query-answers doc t q l = record {
   each = λ l′ a r. query-each doc t q l l′ a (r .result) (r .is) (r .words-are);
 }
 
+-- ---- a rescue
+
+-- A line has three words.
+line-words : (ls : List Line) → length (lineWords ls) ≡ 3 * length ls
+unfolding lineWords
+line-words [] = refl
+line-words (l ∷ ls) = omega (arith, line-words ls)
+
+-- By what the definition answers: bytes and lines in the room for them, or nothing.
+rescue-each : (form : ℕ) (doc t t′ o o′ c c′ a : List ℕ) → Bytes doc → RescueCalled form doc t t′ o o′ c c′ a
+    → (Accepts a × Changed (getD a 2 0) o o′ × Changed (3 * getD a 3 0) c c′) ⊎ (Refuses rescueNumbers a × (o′ ≡ o) × (c′ ≡ c))
+rescue-each form doc t t′ o o′ c c′ a bytes r =
+    go (rescuing doc t o c) (rescue-way doc bytes (roomOf (length t)) (length c / 3) (length o)) (r .answer-is) (r .output-is) (r .changes-is)
+  where
+    go : (x : Rescue) → Way doc (roomOf (length t)) (length c / 3) (length o) x → a ≡ rescueWords (sizesOf x) → o′ ≡ bytesAfter x o → c′ ≡ linesAfter x c
+        → (Accepts a × Changed (getD a 2 0) o o′ × Changed (3 * getD a 3 0) c c′) ⊎ (Refuses rescueNumbers a × (o′ ≡ o) × (c′ ≡ c))
+    go (saved bs ls) w e f g =
+        let in-room : length (lineWords ls) ≤ length c = omega (arith, line-words ls, w .5) in
+        rw (e, f, g) (inl ((_, refl, refl), over-changed (length bs) o bs refl (w .4), over-changed (3 * length ls) c (lineWords ls) (line-words ls) in-room))
+    go (cut.refused n p k) w e f g = rw e (inr (record { number = n; place = p; count = k; is = refl; one-of = w .0; plain = w .1 }, f, g))
+
+-- The output, and the list of changes, each for itself.
+rescue-answers : (form : ℕ) (doc t t′ o c c′ : List ℕ) → Bytes doc → Answers (λ o′ a. RescueCalled form doc t t′ o o′ c c′ a) rescueNumbers o o (λ a. getD a 2 0)
+rescue-answers form doc t t′ o c c′ bytes = record {
+  one = λ o₁ o₂ a₁ a₂ r s. (r .output-is ∙ sym (s .output-is), r .answer-is ∙ sym (s .answer-is));
+  each = λ o′ a r. go o′ a (rescue-each form doc t t′ o o′ c c′ a bytes r);
+}
+  where
+    go : (o′ a : List ℕ) → (Accepts a × Changed (getD a 2 0) o o′ × Changed (3 * getD a 3 0) c c′) ⊎ (Refuses rescueNumbers a × (o′ ≡ o) × (c′ ≡ c))
+        → (Accepts a × Changed (getD a 2 0) o o′) ⊎ (Refuses rescueNumbers a × (o′ ≡ o))
+    go o′ a (inl x) = inl (x .0, x .1)
+    go o′ a (inr x) = inr (x .0, x .1)
+
+changes-answers : (form : ℕ) (doc t t′ o o′ c : List ℕ) → Bytes doc → Answers (RescueCalled form doc t t′ o o′ c) rescueNumbers c c (λ a. 3 * getD a 3 0)
+changes-answers form doc t t′ o o′ c bytes = record {
+  one = λ c₁ c₂ a₁ a₂ r s. (r .changes-is ∙ sym (s .changes-is), r .answer-is ∙ sym (s .answer-is));
+  each = λ c′ a r. go c′ a (rescue-each form doc t t′ o o′ c c′ a bytes r);
+}
+  where
+    go : (c′ a : List ℕ) → (Accepts a × Changed (getD a 2 0) o o′ × Changed (3 * getD a 3 0) c c′) ⊎ (Refuses rescueNumbers a × (o′ ≡ o) × (c′ ≡ c))
+        → (Accepts a × Changed (3 * getD a 3 0) c c′) ⊎ (Refuses rescueNumbers a × (c′ ≡ c))
+    go c′ a (inl x) = inl (x .0, x .2)
+    go c′ a (inr x) = inr (x .0, x .2)
+
 -- ---- a token, a parse, a check of a string
 
 -- Calls that are lent nothing but their answer.
@@ -285,6 +332,9 @@ demand-one = record {
   is-table = λ d t. record { one = alone-one (TableCalled d t) (one-table-called d t); each = table-each d t };
   write = write-answers;
   write-table = λ doc t t′ o o′ a r. r .kept;
+  rescue = rescue-answers;
+  rescue-changes = changes-answers;
+  rescue-table = λ form doc t t′ o o′ c c′ a r t″ b s. r .table-is ∙ sym (s .table-is);
   query = query-answers;
   token = λ t start stops. record { one = alone-one (TokenCalled t start stops) (λ a₁ a₂ r s. r .answer-is ∙ sym (s .answer-is)); each = token-each t start stops };
   content = content-answers;

@@ -1,6 +1,6 @@
 -- Demand 2 on the calls, from the theorems on reading, writing and texts.
 -- Assumes nothing.
-use Prim.Native.Nat.{ℕ, _+_, _≤_}
+use Prim.Native.Nat.{ℕ, _+_, _/_, _≤_}
 use mathlib.Core.Path.{_≡_, refl, sym, ap, subst, _∙_}
 use mathlib.Core.Bool.{true}
 use mathlib.Core.List.{List, [], _∷_, _++_}
@@ -13,16 +13,19 @@ use Rattle.form.specs.Layout.{Layout, layout}
 use Rattle.form.specs.Table.{size, valueOf}
 use Rattle.form.specs.Reading.{One, countsOf, tableAfter, roomOf}
 use Rattle.form.specs.Writing.{written, Gives}
+use Rattle.form.specs.Cut as cut
+use Rattle.form.specs.Cut.{Kept, Rescue, saved, keptOf, rescued, rescuing, sizesOf, bytesAfter, linesAfter}
 use Rattle.form.proofs.Payloads.{room-le}
 use Rattle.text_form.specs.Text.{Block, parsed, documentOf, lengthsOf}
 use Rattle.text_form.specs.Text as text
 use Rattle.text_form.specs.Lexing.{among}
-use Rattle.calls.specs.Words.{readWords, writeWords, parseWords}
-use Rattle.calls.specs.Calls.{ReadCalled, WriteCalled, ParseCalled}
+use Rattle.calls.specs.Words.{readWords, writeWords, rescueWords, parseWords}
+use Rattle.calls.specs.Calls.{ReadCalled, WriteCalled, RescueCalled, ParseCalled}
 use Rattle.demands.specs.Reading.{Bytes}
-use Rattle.demands.specs.Numbers.{writtenNumbers}
+use Rattle.demands.specs.Numbers.{writtenNumbers, rescueNumbers}
 use Rattle.demands.specs.Writing.{tableValue}
-use Rattle.demands.specs.DemandTwo.{Holds, Reads, RoomFor, ReadAs, Writes, DemandTwo}
+use Rattle.demands.specs.DemandTwo.{Holds, Reads, RoomFor, ReadAs, Writes, CutRescued, DemandTwo}
+use Rattle.demands.specs.Rescue.{cutDocument, documentLines}
 use Rattle.demands.proofs.Called.{Held, held, held-by}
 use Rattle.demands.proofs.Reading as reading
 use Rattle.demands.proofs.Reading.{canonical}
@@ -30,6 +33,7 @@ use Rattle.demands.proofs.Writing.{written-lawful, lawful-written, lawf
 use Rattle.demands.proofs.Texts.{lawful-text, text-fills, text-never-zero}
 use Rattle.demands.proofs.Queries.{tabled, tabled-value}
 use Rattle.demands.proofs.Numbers.{write-numbers}
+use Rattle.demands.proofs.Rescue.{Way, rescue-way, rescued-lawful, every-cut}
 
 -- ---- reading
 
@@ -85,6 +89,10 @@ output-read d o lawful = complete d (layout d) (drop (0 + length (layout d)) o) 
 zero-not-among : among writtenNumbers 0 ≡ true → ⊥
 unfolding among
 zero-not-among e = let z : _≡_ {A = ℕ} 0 1 = cc in omega arith
+
+zero-not-rescued : among rescueNumbers 0 ≡ true → ⊥
+unfolding among
+zero-not-rescued e = let z : _≡_ {A = ℕ} 0 1 = cc in omega arith
 
 module _ (doc w : List ℕ) (d : Document) (bytes : Bytes doc) (h : Holds doc w d) (w′ o o′ b : List ℕ) (k : WriteCalled doc w w′ o o′ b) where
   -- What the definition writes of the table is what the call answers and leaves.
@@ -146,6 +154,52 @@ parse-back t o o′ b r e c w = go (parsed t (length o)) refl (sym (r .answer-is
         let z : n ≡ 0 = cc in
         absurd (text-never-zero t (length o) p (is ∙ ap (λ (m : ℕ). no m p) z))
 
+-- ---- rescues
+
+-- An answer that begins with 0 is of what is kept.
+rescue-back : (form : ℕ) (doc t t′ o o′ c c′ b : List ℕ) → Bytes doc → RescueCalled form doc t t′ o o′ c c′ b
+    → (n m : ℕ) → b ≡ 0 ∷ 0 ∷ n ∷ m ∷ 0 ∷ 0 ∷ 0 ∷ 0 ∷ []
+    → (k : Kept) × (keptOf doc (roomOf (length t)) ≡ got k) × Lawful (cut.documentOf doc (k .forest)) × ReadAs o′ n (cut.documentOf doc (k .forest))
+rescue-back form doc t t′ o o′ c c′ b bytes r n m e =
+    go (rescuing doc t o c) (rescue-way doc bytes (roomOf (length t)) (length c / 3) (length o)) (sym (r .answer-is) ∙ e) (r .output-is)
+  where
+    go : (x : Rescue) → Way doc (roomOf (length t)) (length c / 3) (length o) x → rescueWords (sizesOf x) ≡ 0 ∷ 0 ∷ n ∷ m ∷ 0 ∷ 0 ∷ 0 ∷ 0 ∷ [] → o′ ≡ bytesAfter x o
+        → (k : Kept) × (keptOf doc (roomOf (length t)) ≡ got k) × Lawful (cut.documentOf doc (k .forest)) × ReadAs o′ n (cut.documentOf doc (k .forest))
+    go (saved bs ls) w words out =
+        let k = w .0 in
+        let d = cut.documentOf doc (k .forest) in
+        let whole = rescued-lawful doc bytes (roomOf (length t)) k (room-le (length t)) (w .1) in
+        let lawful : Lawful d = subst (λ f. Lawful (cut.documentOf doc f)) (sym (whole .is)) (whole .lawful) in
+        let long : length (layout d) ≡ n = sym (ap length (w .2)) ∙ cc in
+        let here : over o 0 (layout d) ≡ o′ = ap (over o 0) (sym (w .2)) ∙ sym out in
+        (k, w .1, lawful, subst (λ (i : ℕ). ReadAs o′ i d) long (subst (λ (x : List ℕ). ReadAs x (length (layout d)) d) here (output-read d o lawful)))
+    go (cut.refused k p i) w words out =
+        let z : k ≡ 0 = cc in
+        absurd (zero-not-rescued (rw z at (w .0)))
+
+-- A cut of what was read.
+rescue-cut : (doc rest t₁ t₁′ a : List ℕ) → Bytes (doc ++ rest) → ReadCalled (doc ++ rest) t₁ t₁′ a → (e n : ℕ) → a ≡ 0 ∷ 0 ∷ e ∷ n ∷ 0 ∷ 0 ∷ 0 ∷ 0 ∷ []
+    → (d : Document) × Reads (doc ++ rest) t₁′ a e d × CutRescued doc e (length t₁) d
+rescue-cut doc rest t₁ t₁′ a bytes r e n w =
+    let accepted = held (doc ++ rest) t₁ t₁′ bytes r e n w in
+    let x = accepted .0 in
+    let y = accepted .1 in
+    let d = valueOf (doc ++ rest) (x .head) (x .inner) in (
+      d,
+      held-reads (doc ++ rest) t₁ t₁′ a bytes e n w x y,
+      record {
+        rescues = λ short named form t t′ o o′ c c′ b same lines out s.
+            let room : roomOf (length t) ≡ roomOf (length t₁) = ap roomOf same in
+            let saves : rescuing doc t o c ≡ saved (layout (cutDocument d (length doc))) (documentLines d (length doc)) =
+            ap (λ (i : ℕ). rescued doc i (length c / 3) (length o)) room
+            ∙ every-cut doc rest bytes (roomOf (length t₁)) x (y .is) d refl (omega (arith, short, y .consumed)) named (length c / 3) (length o) (omega (arith, lines)) out in (
+              s .answer-is ∙ ap (λ z. rescueWords (sizesOf z)) saves,
+              s .output-is ∙ ap (λ z. bytesAfter z o) saves,
+              s .changes-is ∙ ap (λ z. linesAfter z c) saves,
+            );
+      },
+    )
+
 pub demand-two : DemandTwo
 demand-two = record {
   sound = sound;
@@ -153,4 +207,6 @@ demand-two = record {
   written = λ doc w d bytes l h w′ o o′ b k. is-written doc w d bytes h w′ o o′ b k l;
   write-back = λ doc w w′ o o′ b d bytes h k. is-read-back doc w d bytes h w′ o o′ b k;
   parse-back = parse-back;
+  rescue-back = rescue-back;
+  rescue-cut = rescue-cut;
 }

@@ -12,7 +12,7 @@ use lib.ListN.{length}
 use Rattle.form.specs.Answer.{Out, got, no, guard, _>>_, documentLimit, recordLimit, depthLimit, stringLimit}
 use Rattle.form.specs.Spans.{part}
 use Rattle.form.specs.Decoding.{verdictBy, walk}
-use Rattle.form.specs.Tree.{Tag, Tags, Entries, list, compound, nil, more, kindOf, tagCount, tagsCount, entriesCount, depth, tagsDepth, entriesDepth, Text, hasEntry, OneKind, Alike, Valid, ValidTags, ValidEntries, Lawful}
+use Rattle.form.specs.Tree.{Tag, Tags, Entries, list, compound, more, kindOf, tagCount, tagsCount, entriesCount, depth, tagsDepth, entriesDepth, Text, hasEntry, OneKind, Alike, Valid, ValidTags, ValidEntries, Lawful}
 use Rattle.form.specs.Table.{Head, Forest, none, node, size, _⊕_, widthOf, holds, valueBy, tagsOf, entriesOf, valueOf}
 use Rattle.form.specs.Tables.{Fair, LeafIs, ContainerIs, NameIs, firstKind, leafFits}
 use Rattle.form.specs.Reading.{hasName}
@@ -27,6 +27,7 @@ use Rattle.form.proofs.Strings.{wellFormed-iff}
 use Rattle.form.proofs.Values.{int-fits, ints-fit, ints-count, kind-is, fair-kind, many-is}
 use Rattle.form.proofs.Writing.{string-good, payload-string, payload-other}
 use Rattle.demands.specs.Reading.{Bytes}
+use Rattle.demands.proofs.Sound.{alike}
 use Rattle.demands.proofs.Names.{Apart, apart-none, apart-new, apart-more, apart-back}
 
 -- ---- chains of tests
@@ -42,12 +43,6 @@ guard-true false n p e = absurd (got-no (sym e))
 
 differ : {A : Type 0} → true ≡ false → A
 differ e = let z : _≡_ {A = ℕ} 0 1 = cc in absurd (omega arith)
-
--- tags that are all of one kind are alike
-alike : (k : ℕ) (ts : Tags) → OneKind k ts → Alike ts
-unfolding OneKind
-alike k nil o = tt
-alike k (more t ts) o = rw (o .0) (o .1)
 
 module _ (doc : List ℕ) where
   -- ---- strings
@@ -65,7 +60,7 @@ module _ (doc : List ℕ) where
   -- ---- leaves
 
   module _ (h : Head) (ts : Tags) (es : Entries) where
-    abbrev value : Tag
+    abbrev pub value : Tag
     value = valueBy doc h ts es
 
     -- what holds no records has no depth, and is one tag
@@ -108,7 +103,7 @@ module _ (doc : List ℕ) where
     unfolding valueBy
     value-list e = rw e refl
 
-    value-compound : h .kind ≡ 10 → value ≡ compound es
+    pub value-compound : h .kind ≡ 10 → value ≡ compound es
     unfolding valueBy
     value-compound e = rw e refl
 

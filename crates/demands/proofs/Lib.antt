@@ -1,3 +1,4 @@
+pub mod Tests
 pub mod Sits
 pub mod Answers
 pub mod Tags
@@ -28,3 +29,14 @@ pub mod Outcomes
 pub mod Rounding
 pub mod Marked
 pub mod Examples
+pub mod Cuts
+pub mod Front
+pub mod Prefix
+pub mod Induction
+pub mod Kept
+pub mod Trees
+pub mod Lined
+pub mod Long
+pub mod Shapes
+pub mod Cutting
+pub mod Rescue

@@ -27,6 +27,7 @@ use Rattle.text_form.proofs.Contents.{content-formed}
 use Rattle.text_form.proofs.Carried.{double-bits, single-bits}
 use Rattle.text_form.proofs.Tokens.{TokenHeld, whole-any, LexedFine, NextFine, token-fine, or-fine, due-fine}
 use Rattle.demands.specs.Numbers.{parseNumbers}
+use Rattle.demands.proofs.Tests.{and-right}
 use Rattle.demands.proofs.Tags.{kind-range}
 use Rattle.demands.proofs.Names.{same-self, same-true}
 
@@ -34,10 +35,6 @@ use Rattle.demands.proofs.Names.{same-self, same-true}
 
 differ : {A : Type 0} → true ≡ false → A
 differ e = let z : _≡_ {A = ℕ} 0 1 = cc in absurd (omega arith)
-
-and-right : (a b : Bool) → (a && b) ≡ true → b ≡ true
-and-right true b e = e
-and-right false b e = differ (sym e)
 
 -- an integer in the range of w bytes fits them
 in-range : (w : ℕ) (z : ℤ) → inRange w z ≡ true → FitsIn w z

@@ -50,7 +50,7 @@ head-near (more t ts) id i = near-is _ (ap (λ b. b ∷ bytesOf 4 (many (more t 
 mutual
   unfolding Payload payload idIn kindOf many
 
-  payload-near : (t : Tag) (bs : List ℕ) → Payload t bs → Near (idIn t) bs (payload t)
+  pub payload-near : (t : Tag) (bs : List ℕ) → Payload t bs → Near (idIn t) bs (payload t)
   payload-near (byte v) bs p = near-is _ p
   payload-near (short v) bs p = near-is _ p
   payload-near (int v) bs p = near-is _ p

@@ -30,7 +30,7 @@ use Rattle.demands.proofs.Names.{Apart, apart-back}
 -- ---- lists
 
 -- tags that are all of one kind are alike
-alike : (k : ℕ) (ts : Tags) → OneKind k ts → Alike ts
+pub alike : (k : ℕ) (ts : Tags) → OneKind k ts → Alike ts
 unfolding OneKind
 alike k nil o = tt
 alike k (more t ts) o = rw (o .0) (o .1)

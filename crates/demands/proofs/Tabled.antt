@@ -8,14 +8,14 @@ use mathlib.Core.Bool.{Bool, true, false, not, _&&_, _||_}
 use native.Mathlib.Omega.{arith}
 use lib.ListN.{length}
 use lib.Dec.{ltb, leb, eqb}
-use borrow.Author.Tests.{leb-true, eqb-true, eqb-false, eq-eqb, ne-eqb, lt-ltb, not-true}
-use Rattle.form.specs.Answer.{Out, got, no, guard, _>>_, _>>=_, pick, depthLimit, documentLimit, rootId}
+use borrow.Author.Tests.{leb-true, eqb-true, eqb-false, eq-eqb, lt-ltb}
+use Rattle.form.specs.Answer.{Out, got, no, guard, _>>_, _>>=_, pick, depthLimit, documentLimit}
 use Rattle.form.specs.Spans.{part}
 use Rattle.form.specs.Decoding.{wellFormed}
 use Rattle.form.specs.Table.{Head, Forest, none, node, size, width, _⊕_, widthOf, holds}
 use Rattle.form.specs.Tables.{leafFits, firstKind, LeafIs, ContainerIs, NameIs, Fair}
 use Rattle.form.specs.Query.{shallow}
-use Rattle.form.specs.Reading.{One, Run, Inside, Span, ListHead, Entry, end, named, heldOne, before, hasName, byteAt, bytesAt, numberAt, stringAt, countAt, arrayAt, leafAt, leafOne, listHeadAt, entryAt, elements, entries, listAt, compoundAt, containerAt, payloadBy, insideAt, documentAt}
+use Rattle.form.specs.Reading.{One, Run, Inside, Span, ListHead, Entry, end, named, before, hasName, byteAt, bytesAt, numberAt, stringAt, countAt, arrayAt, leafAt, leafOne, listHeadAt, entryAt, elements, entries, listAt, compoundAt, containerAt, payloadBy, insideAt, documentAt}
 use Rattle.form.proofs.Tables.{fair-node, fair-none}
 use Rattle.form.proofs.Depths.{shallow-none, shallow-on, shallow-parts, then-got}
 use Rattle.demands.proofs.Answers.{Answers, bind-answers, guard-answers, weaker, got-answers, no-answers}
@@ -301,7 +301,7 @@ module _ (doc : List ℕ) where
         leaf : (k : ℕ) → (0 < k) × (k ≤ 12) → holds k ≡ false → Answers Whatever (TagIs d k name len) (readAt doc room d k name len at n)
         leaf k r h = leaf-tag d k name len at n (r .0) (r .1) h
 
-    tag-is : (d : ℕ) → Reads room d
+    pub tag-is : (d : ℕ) → Reads room d
     unfolding insideAt
     tag-is zero = any-tag zero (λ at n. no-answers at tt) (λ at n. no-answers at tt)
     tag-is (suc d) = any-tag (suc d) (list-is room d (tag-is d)) (compound-is room d (tag-is d))

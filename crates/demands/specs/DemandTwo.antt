@@ -1,6 +1,6 @@
 -- Demand 2, said of the calls that people link, against the tag layout (form/specs/Layout.antt) of documents that keep the rules
 -- (`Lawful`, form/specs/Tree.antt): reading accepts the layouts and nothing else, writing gives them back, and what was written, from a
--- table or from a text, is read as what was meant. That the crate does the same is shown by runs (docs/DIFFERENCES.md).
+-- table, from a text or from a cut document, is read as what was meant. That the crate does the same is shown by runs (docs/DIFFERENCES.md).
 -- The proof is in proofs/DemandTwo.antt.
 -- Assumes nothing.
 use Prim.Native.Nat.{ℕ, _+_, _*_, _≤_, _<_}
@@ -12,10 +12,14 @@ use Rattle.form.specs.Spans.{over}
 use Rattle.form.specs.Tree.{Document, Lawful, entriesCount}
 use Rattle.form.specs.Layout.{Layout, layout}
 use Rattle.form.specs.Tables.{IsTable, Within}
+use Rattle.form.specs.Reading.{roomOf}
+use Rattle.form.specs.Cut as cut
+use Rattle.form.specs.Cut.{Kept, keptOf, lineWords}
 use Rattle.text_form.specs.Text.{Block, parsed, documentOf}
-use Rattle.calls.specs.Calls.{ReadCalled, WriteCalled, ParseCalled}
+use Rattle.calls.specs.Calls.{ReadCalled, WriteCalled, RescueCalled, ParseCalled}
 use Rattle.demands.specs.Reading.{Bytes}
 use Rattle.demands.specs.Writing.{tableValue}
+use Rattle.demands.specs.Rescue.{cutDocument, documentLines}
 
 -- The words w are a table over doc, and stand for the document d.
 pub record Holds (doc w : List ℕ) (d : Document) : Type 0 where
@@ -44,6 +48,14 @@ pub record Writes (d : Document) (o o′ b : List ℕ) : Type 0 where
   pub enough : length (layout d) ≤ length o → (b ≡ 0 ∷ 0 ∷ length (layout d) ∷ 0 ∷ 0 ∷ 0 ∷ 0 ∷ 0 ∷ []) × (o′ ≡ over o 0 (layout d))
   pub short : length o < length (layout d) → (b ≡ outputFull ∷ 0 ∷ 0 ∷ 0 ∷ 0 ∷ 0 ∷ 0 ∷ 0 ∷ []) × (o′ ≡ o)
 
+-- Whoever rescues doc, the first bytes of the e bytes of d and its root's name among them, with a table of as many words, gets the cut of d
+-- and the lines of its open containers, where they have room.
+pub record CutRescued (doc : List ℕ) (e words : ℕ) (d : Document) : Type 0 where
+  pub rescues : length doc < e → 3 + length (d .name) ≤ length doc → (form : ℕ) (t t′ o o′ c c′ b : List ℕ) → length t ≡ words
+      → 3 * length (documentLines d (length doc)) ≤ length c → length (layout (cutDocument d (length doc))) ≤ length o → RescueCalled form doc t t′ o o′ c c′ b
+      → (b ≡ 0 ∷ 0 ∷ length (layout (cutDocument d (length doc))) ∷ length (documentLines d (length doc)) ∷ 0 ∷ 0 ∷ 0 ∷ 0 ∷ [])
+      × (o′ ≡ over o 0 (layout (cutDocument d (length doc)))) × (c′ ≡ over c 0 (lineWords (documentLines d (length doc))))
+
 pub record DemandTwo : Type 0 where
   -- what is accepted is the layout of a lawful document, which the table then holds
   pub sound : (doc t t′ a : List ℕ) → Bytes doc → ReadCalled doc t t′ a → (c n : ℕ) → a ≡ 0 ∷ 0 ∷ c ∷ n ∷ 0 ∷ 0 ∷ 0 ∷ 0 ∷ []
@@ -58,3 +70,10 @@ pub record DemandTwo : Type 0 where
   -- the document that a text means is lawful, and the output of a parse, with whatever stands behind, is read as that document
   pub parse-back : (t o o′ b : List ℕ) → ParseCalled t o o′ b → (e c : ℕ) → b ≡ 0 ∷ 0 ∷ e ∷ c ∷ 0 ∷ 0 ∷ 0 ∷ 0 ∷ []
       → (k : Block) × (parsed t (length o) ≡ got k) × Lawful (documentOf k) × ReadAs o′ c (documentOf k)
+  -- what a rescue writes is lawful, and the output, with whatever stands behind, is read as the document of what is kept
+  pub rescue-back : (form : ℕ) (doc t t′ o o′ c c′ b : List ℕ) → Bytes doc → RescueCalled form doc t t′ o o′ c c′ b
+      → (n m : ℕ) → b ≡ 0 ∷ 0 ∷ n ∷ m ∷ 0 ∷ 0 ∷ 0 ∷ 0 ∷ []
+      → (k : Kept) × (keptOf doc (roomOf (length t)) ≡ got k) × Lawful (cut.documentOf doc (k .forest)) × ReadAs o′ n (cut.documentOf doc (k .forest))
+  -- and where the document is accepted when more follows, that is the cut of the document that is then read
+  pub rescue-cut : (doc rest t₁ t₁′ a : List ℕ) → Bytes (doc ++ rest) → ReadCalled (doc ++ rest) t₁ t₁′ a → (e n : ℕ) → a ≡ 0 ∷ 0 ∷ e ∷ n ∷ 0 ∷ 0 ∷ 0 ∷ 0 ∷ []
+      → (d : Document) × Reads (doc ++ rest) t₁′ a e d × CutRescued doc e (length t₁) d

@@ -3,6 +3,7 @@ pub mod Tables
 pub mod Writing
 pub mod Texts
 pub mod Queries
+pub mod Rescue
 pub mod Numbered
 pub mod Numbers
 pub mod DemandOne
@@ -12,3 +13,4 @@ pub mod Outcomes
 pub mod Rounding
 pub mod Marked
 pub mod Examples
+pub mod Cuts

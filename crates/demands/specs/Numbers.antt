@@ -1,4 +1,4 @@
--- What is claimed of refusals: which of document 01's numbers each call can refuse with, and no others. The proofs are in
+-- What is claimed of refusals: which of the numbers of documents 01 and 02 each call can refuse with, and no others. The proofs are in
 -- proofs/Numbers.antt, under the names given here.
 -- Assumes nothing.
 use Prim.Native.Nat.{ℕ}
@@ -9,6 +9,8 @@ use Rattle.form.specs.Answer.{Out, no}
 use Rattle.form.specs.Table.{Head, Forest}
 use Rattle.form.specs.Reading.{documentAt}
 use Rattle.form.specs.Writing.{written, WriteIs}
+use Rattle.form.specs.Cut as cut
+use Rattle.form.specs.Cut.{rescued}
 use Rattle.form.specs.Query.{asked, refused, within, Count, failed, QueryIs}
 use Rattle.text_form.specs.Lexing.{among, Stops, lexed, content}
 use Rattle.text_form.specs.Text.{parsed}
@@ -43,6 +45,18 @@ IsWriteNumbers =
 abbrev pub IsWriteRefusals : Type 0
 IsWriteRefusals =
     (doc t o : List ℕ) (answer : Out ℕ) (o′ : List ℕ) (n p : ℕ) → WriteIs doc t o answer o′ → answer ≡ no n p → among writeNumbers n ≡ true
+
+-- ---- rescues
+
+-- A rescue ([11]): a read's refusals but that its data ends, output full, more lines than room, not cut, cut in the root's id or name.
+abbrev pub rescueNumbers : List ℕ
+rescueNumbers = 2 ∷ 3 ∷ 4 ∷ 5 ∷ 6 ∷ 7 ∷ 8 ∷ 9 ∷ 13 ∷ 24 ∷ 31 ∷ 32 ∷ []
+
+-- `rescue-numbers`: a rescue refuses with one of these, the count being 0 but in 24.
+abbrev pub IsRescueNumbers : Type 0
+IsRescueNumbers =
+    (doc : List ℕ) → Bytes doc → (room lines out n p c : ℕ) → rescued doc room lines out ≡ cut.refused n p c
+    → (among rescueNumbers n ≡ true) × ((n ≡ 24 → ⊥) → c ≡ 0)
 
 -- ---- queries
 
