@@ -3,7 +3,7 @@
 use Prim.Native.Nat.{ℕ, _+_, _≤_, _<_}
 use mathlib.Core.Bool.{false}
 use mathlib.Core.List.{List}
-use mathlib.Core.Path.{_≡_, refl, sym, ap, _∙_}
+use mathlib.Core.Path.{_≡_, refl, sym, ap, subst, _∙_}
 use native.Mathlib.Omega.{arith}
 use borrow.Author.Tests.{le-leb, lt-leb}
 use lib.ListN.{length, getD}
@@ -13,13 +13,13 @@ use Rattle.form.specs.Table.{none, node, size, word, valueOf}
 use Rattle.form.specs.Tables.{IsTable, Within}
 use Rattle.form.specs.Layout.{layout}
 use Rattle.form.specs.Writing.{judged, written, Gives}
-use Rattle.form.proofs.Tables.{table-sits, table-length, sits-first}
+use Rattle.form.proofs.Tables.{table-sits, table-length, sits-first, one-tree}
 use Rattle.table.specs.declared.Verdict.{Verdict}
 use Rattle.table.specs.Check.{VerdictIs}
 use Rattle.writer.specs.declared.Answer.{Answer}
 use Rattle.writer.specs.declared.Size.{Size}
 use Rattle.writer.specs.Pieces.{laid}
-use Rattle.writer.specs.Steps.{answerOut, Rows, Some, SomeRoom, Sized, Puts, Formed, WrittenIs, WroteIs}
+use Rattle.writer.specs.Steps.{answerOut, Rows, Some, SomeRoom, Sized, Puts, Formed, Fits, WrittenIs, WroteIs}
 use Rattle.writer.proofs.Laid.{document-laid}
 
 module _ (doc t : List ℕ) (small : Within (length doc) t) (i : IsTable (length doc) t) where
@@ -89,6 +89,28 @@ module _ (doc t : List ℕ) (small : Within (length doc) t) (i : IsTable (length
             let w : written doc (i .head) (i .inner) (length o) ≡ got (layout (valueOf doc (i .head) (i .inner))) =
             rw (passes .0, le-leb (length (layout (valueOf doc (i .head) (i .inner)))) (length o) (omega (arith, long))) refl in
             rw w (record { answer-is = ap got (sym long); output-is = put (table-room l) .is ∙ ap (over o 0) laid-is })
+
+-- ---- where there is room for certain
+
+-- Nothing is judged or counted first; the tree of the records is the one that the room is known for.
+module _ (doc t o : List ℕ) (f : Fits doc t o) (bytes : (k : ℕ) → getD doc k 0 < 256) {e : ℕ} (q : e ≡ word t 0 7) (i : IsTable (length doc) t) where
+  root-laid : laid doc false (node (i .head) (i .inner) none) ≡ layout (valueOf doc (i .head) (i .inner))
+  root-laid = document-laid doc bytes (i .head) (i .inner) (i .compound) (i .fair)
+
+  same-layout : layout (valueOf doc (i .head) (i .inner)) ≡ layout (valueOf doc (f .formed .table .head) (f .formed .table .inner))
+  same-layout =
+      let same = one-tree (length doc) (length doc) t i (f .formed .table) in
+      λ j. layout (valueOf doc (same .0 j) (same .1 j))
+
+  -- There is room for the root's bytes.
+  pub put-room : SomeRoom doc t false 0 e o 0
+  put-room = record { some = root doc t (f .formed .small) i q; room = omega (arith, ap length (root-laid ∙ same-layout), f .room) }
+
+  -- They are put, and are the layout of the document.
+  pub put-done : {o′ : List ℕ} {x : ℕ} → ((p : SomeRoom doc t false 0 e o 0) → Puts (laid doc false (p .some .forest)) o 0 o′ x)
+      → Puts (layout (valueOf doc (i .head) (i .inner))) o 0 o′ x
+  unfolding put-room
+  put-done {o′} {x} put = subst (λ bs. Puts bs o 0 o′ x) root-laid (put put-room)
 
 -- ---- the answers of a write
 

@@ -7,7 +7,8 @@ use mathlib.Core.Bool.{Bool}
 use lib.ListN.{length}
 use Rattle.form.specs.Answer.{Out, got, no}
 use Rattle.form.specs.Spans.{over}
-use Rattle.form.specs.Table.{Head, Forest, none, node, size, word}
+use Rattle.form.specs.Layout.{layout}
+use Rattle.form.specs.Table.{Head, Forest, none, node, size, word, valueOf}
 use Rattle.form.specs.Tables.{Fair, Within, IsTable}
 use Rattle.form.specs.Writing.{judged, Gives, written, WriteIs}
 use Rattle.form.specs.Records.{Sits}
@@ -96,6 +97,15 @@ PutOneIs doc t list n end out at out′ r =
 pub record Formed (doc t : List ℕ) : Type 0 where
   pub small : Within (length doc) t
   pub table : IsTable (length doc) t
+
+-- the words form a table, and there is room for the layout of the document that it stands for
+pub record Fits (doc t out : List ℕ) : Type 0 where
+  pub formed : Formed doc t
+  pub room : length (layout (valueOf doc (formed .table .head) (formed .table .inner))) ≤ length out
+
+-- and that was put at the front of the output
+abbrev pub PutIs : List ℕ → List ℕ → List ℕ → List ℕ → ℕ → Type 0
+PutIs doc t out out′ r = (i : IsTable (length doc) t) → Puts (layout (valueOf doc (i .head) (i .inner))) out 0 out′ r
 
 -- what a table gives
 abbrev pub WrittenIs : List ℕ → List ℕ → List ℕ → Answer → List ℕ → Type 0

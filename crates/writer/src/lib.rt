@@ -9,7 +9,7 @@ ghost use Rattle.form.specs.Table.{word as wordOf};
 ghost use Rattle.form.specs.Writing.{stringFine, payloadFine};
 ghost use Rattle.siblings.specs.Lists.{Family};
 ghost use Rattle.writer.specs.Pieces.{headOf, deep as deepOf, mixed as mixedOf, isAt, firstTwice, restFine, ownFine, nameBytes, lengthBytes, leafBytes, listBytes, bodySize, ownSize};
-ghost use Rattle.writer.specs.Steps.{answerOut, fineOut, Placed, Some, One, JudgedIs, OneJudgedIs, SomeRoom, OneRoom, Puts, PutAllIs, PutOneIs, Formed, WrittenIs, WroteIs};
+ghost use Rattle.writer.specs.Steps.{answerOut, fineOut, Placed, Some, One, JudgedIs, OneJudgedIs, SomeRoom, OneRoom, Puts, PutAllIs, PutOneIs, Formed, WrittenIs, WroteIs, Fits, PutIs};
 use siblings::Found;
 use table::Verdict;
 
@@ -363,6 +363,15 @@ fn put_all(
         i = next;
     }
     here
+}
+
+// Writes a table whose records are known to keep the rules, where the output is known to have room: the bytes written.
+pub fn put(doc: &[u8], table: &[u32], out: &mut [u8]) -> usize
+    requires { ⌜ Fits (now doc) (now table) (now out) ⌝ }
+    ensures { λ r. ⌜ PutIs (now (doc .entry)) (now (table .entry)) (now (out .entry)) (now (out .exit)) r ⌝ }
+{
+    let end = table::word(table, 0, table::END);
+    put_all(doc, table, 0, end, false, out, 0)
 }
 
 // A table: its records are judged, then there is room (13), then they are written. The root is taken as records side by side, of which
