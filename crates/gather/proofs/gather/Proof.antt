@@ -1,0 +1,68 @@
+-- `gather::gather` meets its contract: the root's payload is asked as a payload is, it is not whole, and what is kept of it is what is kept
+-- of the document.
+-- Assumes nothing.
+use borrow.Author.Needs.{needs}
+use mathlib.Core.Path.{_≡_, refl, sym, ap, _∙_}
+use Rattle.form.specs.Answer.{got}
+use Rattle.form.specs.Reading.{Span, stringAt}
+use Rattle.fields.specs.Answers.{partOut}
+use Rattle.gather.proofs.Asked.{string-none, root-asked, root-whole, root-kept}
+use Rattle.gather.proofs.gather.Statement.{statement}
+use Rattle.gather.proofs.gather.Tie as tie
+
+abbrev start-of : tie.After-start → tie.Start
+start-of c = c .before .before .before .before .before .before .before
+
+-- the span of the root's name
+abbrev span : tie.After-start → Span
+span c = let g = c .start .given .0 in record { start = g .0; size = g .1 .0; count = g .1 .1 .0; next = g .1 .1 .1 .0 }
+
+is : (c : tie.After-start) → stringAt (start-of c .args .doc .now) 1 ≡ got (span c)
+is c = sym (c .before .before .string-at .ensures) ∙ ap partOut (c .start .given .1)
+
+returns : tie.Need-returns
+returns c = (string-none (c .before .before .before .before .args .doc .now) (c .if1 .taken), refl, refl)
+
+returns-2 : tie.Need-returns-2
+returns-2 c = ((_, _, sym (c .before .before .string-at .ensures) ∙ ap partOut (c .enum-told .given .1)), refl, refl)
+
+payload-requires : tie.Need-payload-requires
+payload-requires c κs =
+    let at-start = c .before .before .before in
+    let start = start-of at-start in
+    root-asked (start .args .doc .now) (start .args .table .now) (start .pre .0) (is at-start) _ _ (start .pre .1)
+
+returns-3 : tie.Need-returns-3
+returns-3 c =
+    let at-payload = c .before .before .before .before .before .before in
+    let at-start = at-payload .before .before .before .before in
+    let start = start-of at-start in
+    absurd
+    (root-whole (start .args .doc .now) (start .args .table .now) (start .pre .0) (is at-start) _ _ _ _ (at-payload .payload .result) (at-payload .payload .ensures)
+    (c .enum-told2 .given .1))
+
+returns-4 : tie.Need-returns-4
+returns-4 c =
+    let at-payload = c .before .before .before .before .before .before .before in
+    let at-start = at-payload .before .before .before .before in
+    let start = start-of at-start in
+    root-kept (start .args .doc .now) (start .args .table .now) (start .pre .0) (is at-start) _ _ _ _ (at-payload .payload .result) (at-payload .payload .ensures) (c .before .ix .given .1)
+
+pub gather-spec : {M : Type 1} → statement M
+gather-spec =
+    tie.close
+    (tie.spec
+    returns
+    (λ c κs. search needs)
+    (λ c. search needs)
+    (λ c. search needs)
+    payload-requires
+    (λ c. search needs)
+    (λ c. search needs)
+    returns-2
+    (λ c. search needs)
+    (λ c. search needs)
+    returns-3
+    (λ c. search needs)
+    (λ c. search needs)
+    returns-4)

@@ -1,0 +1,341 @@
+// Request [11]: a document that is refused with 1 read again, as far as it goes: what is kept of it as records of a table, and the lines of
+// its open containers. The functions have the names of the definitions that they meet, in form/specs/Reading.antt where a tag is whole and
+// in form/specs/Cut.antt where it is not. Since the read was refused with 1 and nothing else, names, room and depth are not asked again.
+ghost use mathlib.Core.Path.{_≡_};
+ghost use mathlib.Core.List.{[], _∷_};
+ghost use Prim.Native.Nat.{ℕ, _+_, _-_, _*_, _≤_, _<_, _^_};
+ghost use lib.ListN.{length};
+ghost use lib.Dec.{eqb};
+ghost use Rattle.form.specs.Answer.{pick};
+ghost use Rattle.form.specs.Spans.{over};
+ghost use Rattle.form.specs.Reading.{leafOne, roomOf, reading};
+ghost use Rattle.form.specs.Cut.{begunAt};
+ghost use Rattle.reader.specs.Steps.{Named};
+ghost use Rattle.gather.specs.Steps.{IsCut, LeafIs, HeldAsked, readIn, elementsIn, entriesIn, elementsKept, entriesKept, PayloadAsked, ElementsAsked, EntriesAsked, PieceIs, SideIs, HeldIs, GatheredIs};
+use fields::Item;
+use fields::Part;
+use fields::Start;
+use fields::wide;
+
+// A payload: whole, with the place behind it and the next record's number; or cut, with the next record's number behind what is kept of it,
+// and how many containers are open, itself counted.
+enum Piece {
+    Whole(usize, usize),
+    Cut(usize, usize),
+}
+
+// Payloads side by side: whole, with the place behind them, the next record's number, and how many there are; or cut, with the next
+// record's number behind what is kept of them, how many those are, and how many containers are open.
+enum Side {
+    Whole(usize, usize, usize),
+    Cut(usize, usize, usize),
+}
+
+// What was gathered: records and lines; or nothing, where the cut falls in the root's id or name.
+pub enum Gathered {
+    Kept { records: usize, lines: usize },
+    NoRoot,
+}
+
+// A payload of kinds 1 to 6: a record, or nothing.
+fn fixed(
+    doc: &[u8],
+    kind: u8,
+    name: usize,
+    len: usize,
+    at: usize,
+    table: &mut [u32],
+    ix: usize,
+) -> Piece
+    requires { ⌜ (Named (now doc) (now table) (roomOf (length (now table))) at ix kind name len) × (ix < roomOf (length (now table))) × (kind < 7) ⌝ }
+    ensures { λ r. ⌜ LeafIs (now (doc .entry)) (roomOf (length (now (table .entry)))) (leafOne (now (doc .entry)) kind name len at) at ix (now (table .entry)) (now (table .exit)) r ⌝ }
+{
+    let width = fields::width_of(kind);
+    if doc.len() - at < width {
+        return Piece::Cut(ix, 0);
+    }
+    table::put(
+        table,
+        ix,
+        table::leaf(wide(kind), name, len, at, width, 0, ix + 1),
+    );
+    Piece::Whole(at + width, ix + 1)
+}
+
+// A payload that holds no records: a record, or nothing.
+fn leaf(
+    doc: &[u8],
+    kind: u8,
+    name: usize,
+    len: usize,
+    at: usize,
+    table: &mut [u32],
+    ix: usize,
+) -> Piece
+    requires { ⌜ (Named (now doc) (now table) (roomOf (length (now table))) at ix kind name len) × (ix < roomOf (length (now table))) ⌝ }
+    ensures { λ r. ⌜ LeafIs (now (doc .entry)) (roomOf (length (now (table .entry)))) (leafOne (now (doc .entry)) kind name len at) at ix (now (table .entry)) (now (table .exit)) r ⌝ }
+{
+    match fields::leaf_at(doc, kind, at) {
+        Part::No {
+            number: _,
+            place: _,
+        } => Piece::Cut(ix, 0),
+        Part::Is {
+            start,
+            len: size,
+            count,
+            next,
+        } => {
+            table::put(
+                table,
+                ix,
+                table::leaf(wide(kind), name, len, start, size, count, ix + 1),
+            );
+            Piece::Whole(next, ix + 1)
+        }
+    }
+}
+
+// Puts the line of an open container at its place.
+fn put_line(lines: &mut [u32], level: usize, n: usize, promised: usize, kept: usize)
+    requires { ⌜ (3 * level + 3 ≤ length (now lines)) × (level ≤ 512) × (n < 2 ^ 32) × (promised < 2 ^ 32) × (kept < 2 ^ 32) ⌝ }
+    ensures { λ _. ⌜ now (lines .exit) ≡ over (now (lines .entry)) (3 * level) (n ∷ promised ∷ kept ∷ []) ⌝ }
+{
+    let at = 3 * level;
+    lines[at] = n as u32;
+    lines[at + 1] = promised as u32;
+    lines[at + 2] = kept as u32;
+}
+
+// The number of children kept, where the last is kept if it is open.
+fn with_open(count: usize, open: usize) -> usize
+    requires { ⌜ count < 2 ^ 32 ⌝ }
+    ensures { λ r. ⌜ r ≡ pick (eqb «open» 0) count (count + 1) ⌝ }
+{
+    if open == 0 { count } else { count + 1 }
+}
+
+// A container, record n, closed behind what was gathered in it.
+fn held(
+    kind: u8,
+    name: usize,
+    len: usize,
+    inner: u8,
+    promised: usize,
+    side: Side,
+    level: usize,
+    table: &mut [u32],
+    n: usize,
+    lines: &mut [u32],
+    most: usize,
+) -> Piece
+    requires { ⌜ HeldAsked (now table) name len promised level n side (now lines) most ⌝ }
+    ensures { λ r. ⌜ HeldIs kind name len inner promised level n (now (table .entry)) (now (table .exit)) (now (lines .entry)) (now (lines .exit)) most side r ⌝ }
+{
+    match side {
+        Side::Whole(at, ix, count) => {
+            table::put(
+                table,
+                n,
+                table::container(wide(kind), name, len, count, wide(inner), ix),
+            );
+            Piece::Whole(at, ix)
+        }
+        Side::Cut(ix, count, open) => {
+            let first = if count == 0 { 0 } else { wide(inner) };
+            table::put(
+                table,
+                n,
+                table::container(wide(kind), name, len, count, first, ix),
+            );
+            if level + open < most {
+                put_line(lines, level, n, promised, count);
+            }
+            Piece::Cut(ix, open + 1)
+        }
+    }
+}
+
+// A payload at `at`, record ix: what is small with no call.
+fn node(
+    doc: &[u8],
+    kind: u8,
+    name: usize,
+    len: usize,
+    at: usize,
+    depth: usize,
+    table: &mut [u32],
+    ix: usize,
+    lines: &mut [u32],
+    most: usize,
+) -> Piece
+    requires { ⌜ PayloadAsked (now doc) (now table) depth kind name len at ix (now lines) most ⌝ }
+    ensures { λ r. ⌜ PieceIs (now (doc .entry)) (roomOf (length (now (table .entry)))) (readIn (now (doc .entry)) (length (now (table .entry))) depth kind name len at ix) (begunAt (now (doc .entry)) (roomOf (length (now (table .entry)))) depth kind name len at ix) (512 - depth) at ix (now (table .entry)) (now (table .exit)) (now (lines .entry)) (now (lines .exit)) most r ⌝ }
+{
+    if kind < 7 {
+        return fixed(doc, kind, name, len, at, table, ix);
+    }
+    payload(doc, kind, name, len, at, depth, table, ix, lines, most)
+}
+
+// The same of any kind, where `depth` containers may still stand within each other.
+fn payload(
+    doc: &[u8],
+    kind: u8,
+    name: usize,
+    len: usize,
+    at: usize,
+    depth: usize,
+    table: &mut [u32],
+    ix: usize,
+    lines: &mut [u32],
+    most: usize,
+) -> Piece
+    requires { ⌜ PayloadAsked (now doc) (now table) depth kind name len at ix (now lines) most ⌝ }
+    ensures { λ r. ⌜ PieceIs (now (doc .entry)) (roomOf (length (now (table .entry)))) (readIn (now (doc .entry)) (length (now (table .entry))) depth kind name len at ix) (begunAt (now (doc .entry)) (roomOf (length (now (table .entry)))) depth kind name len at ix) (512 - depth) at ix (now (table .entry)) (now (table .exit)) (now (lines .entry)) (now (lines .exit)) most r ⌝ }
+{
+    if !fields::is_container(kind) {
+        return leaf(doc, kind, name, len, at, table, ix);
+    }
+    if depth == 0 {
+        return Piece::Cut(ix, 0);
+    }
+    let level = form::DEPTH - depth;
+    if kind == 10 {
+        let s = entries(doc, at, depth - 1, table, ix + 1, lines, most);
+        return held(kind, name, len, 0, 0, s, level, table, ix, lines, most);
+    }
+    match fields::list_head(doc, at) {
+        Start::No {
+            number: _,
+            place: _,
+        } => Piece::Cut(ix, 0),
+        Start::Is { kind: of, count } => {
+            let s = elements(
+                doc,
+                of,
+                count,
+                at + 5,
+                depth - 1,
+                table,
+                ix + 1,
+                lines,
+                most,
+            );
+            held(kind, name, len, of, count, s, level, table, ix, lines, most)
+        }
+    }
+}
+
+// A list's elements: those that are whole, then what is kept of the first that is not, if a byte of it is there.
+fn elements(
+    doc: &[u8],
+    kind: u8,
+    count: usize,
+    at: usize,
+    depth: usize,
+    table: &mut [u32],
+    ix: usize,
+    lines: &mut [u32],
+    most: usize,
+) -> Side
+    requires { ⌜ ElementsAsked (now doc) (now table) depth count kind at ix (now lines) most ⌝ }
+    ensures { λ r. ⌜ SideIs (now (doc .entry)) (roomOf (length (now (table .entry)))) (elementsIn (now (doc .entry)) (length (now (table .entry))) depth count kind at ix) (elementsKept (now (doc .entry)) (length (now (table .entry))) depth count kind at ix) (512 - depth) at ix (now (table .entry)) (now (table .exit)) (now (lines .entry)) (now (lines .exit)) most r ⌝ }
+{
+    let mut here = at;
+    let mut next = ix;
+    let mut done: usize = 0;
+    while done < count {
+        if doc.len() <= here {
+            return Side::Cut(next, done, 0);
+        }
+        match node(doc, kind, 0, 0, here, depth, table, next, lines, most) {
+            Piece::Cut(end, open) => return Side::Cut(end, with_open(done, open), open),
+            Piece::Whole(a, i) => {
+                here = a;
+                next = i;
+            }
+        }
+        done += 1;
+    }
+    Side::Whole(here, next, count)
+}
+
+// A compound's entries: those that are whole, then what is kept of the first that is not, if its id and name are whole.
+fn entries(
+    doc: &[u8],
+    at: usize,
+    depth: usize,
+    table: &mut [u32],
+    ix: usize,
+    lines: &mut [u32],
+    most: usize,
+) -> Side
+    requires { ⌜ EntriesAsked (now doc) (now table) depth at ix (now lines) most ⌝ }
+    ensures { λ r. ⌜ SideIs (now (doc .entry)) (roomOf (length (now (table .entry)))) (entriesIn (now (doc .entry)) (length (now (table .entry))) depth at ix) (entriesKept (now (doc .entry)) (length (now (table .entry))) depth at ix) (512 - depth) at ix (now (table .entry)) (now (table .exit)) (now (lines .entry)) (now (lines .exit)) most r ⌝ }
+{
+    let mut here = at;
+    let mut next = ix;
+    let mut count: usize = 0;
+    loop {
+        match fields::entry_at(doc, here) {
+            Item::No {
+                number: _,
+                place: _,
+            } => return Side::Cut(next, count, 0),
+            Item::End => return Side::Whole(here + 1, next, count),
+            Item::Named {
+                kind,
+                start,
+                len,
+                next: from,
+            } => match node(doc, kind, start, len, from, depth, table, next, lines, most) {
+                Piece::Cut(end, open) => return Side::Cut(end, with_open(count, open), open),
+                Piece::Whole(a, i) => {
+                    here = a;
+                    next = i;
+                    count += 1;
+                }
+            },
+        }
+    }
+}
+
+// What is kept of a document that is refused with 1: its records in the table and, if they are `most` at the most, its lines in the list.
+pub fn gather(doc: &[u8], table: &mut [u32], lines: &mut [u32], most: usize) -> Gathered
+    requires { ⌜ (IsCut (reading (now doc) (now table))) × (3 * most ≤ length (now lines)) ⌝ }
+    ensures { λ r. ⌜ GatheredIs (now (doc .entry)) (now (table .entry)) (now (table .exit)) (now (lines .entry)) (now (lines .exit)) most r ⌝ }
+{
+    if doc.len() == 0 {
+        return Gathered::NoRoot;
+    }
+    match fields::string_at(doc, 1) {
+        Part::No {
+            number: _,
+            place: _,
+        } => Gathered::NoRoot,
+        Part::Is {
+            start,
+            len,
+            count: _,
+            next,
+        } => match payload(
+            doc,
+            10,
+            start,
+            len,
+            next,
+            form::DEPTH,
+            table,
+            0,
+            lines,
+            most,
+        ) {
+            Piece::Whole(_, _) => Gathered::NoRoot,
+            Piece::Cut(ix, open) => Gathered::Kept {
+                records: ix,
+                lines: open,
+            },
+        },
+    }
+}
