@@ -1,6 +1,6 @@
 // The library to link: every entry point under its C name, each one line over a call that keeps the same promise. include/tikfazrul.h says
 // what each word of an answer is, crates/calls/specs defines it.
-ghost use Rattle.calls.specs.Calls.{Mutf8Called, Utf8Called, ReadCalled, TableCalled, WriteCalled, QueryCalled, TokenCalled, ContentCalled, ParseCalled};
+ghost use Rattle.calls.specs.Calls.{Mutf8Called, Utf8Called, ReadCalled, TableCalled, WriteCalled, RescueCalled, QueryCalled, TokenCalled, ContentCalled, ParseCalled};
 
 // Whether bytes are modified UTF-8 (rule 2): 4 at the first sequence that can't be read.
 #[no_mangle]
@@ -45,6 +45,22 @@ pub extern "C" fn tikfazrul_write(
     ensures { λ _. ⌜ WriteCalled (now (doc .entry)) (now (table .entry)) (now (table .exit)) (now (out .entry)) (now (out .exit)) (now (answer .exit)) ⌝ }
 {
     call_write::write(doc, table, out, answer);
+}
+
+// Writes a whole document of one that is cut, with every tag that was completely read before the cut ([11]); a line of three words in the
+// list of changes for each open container. Refusal 24 comes with the true count of lines.
+#[no_mangle]
+pub extern "C" fn tikfazrul_rescue(
+    form: u32,
+    doc: &[u8],
+    table: &mut [u32],
+    out: &mut [u8],
+    changes: &mut [u32],
+    answer: &mut [u64; 8],
+)
+    ensures { λ _. ⌜ RescueCalled form (now (doc .entry)) (now (table .entry)) (now (table .exit)) (now (out .entry)) (now (out .exit)) (now (changes .entry)) (now (changes .exit)) (now (answer .exit)) ⌝ }
+{
+    call_rescue::rescue(form, doc, table, out, changes, answer);
 }
 
 // Asks a table which of its tags match a query (rule 9). Refusal 24 comes with the true count.

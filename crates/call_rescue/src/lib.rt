@@ -1,0 +1,27 @@
+// A rescue under the promise of its C name: it fills eight words that the caller lends (include/tikfazrul.h).
+ghost use Rattle.calls.specs.Calls.{RescueCalled};
+
+// Writes a whole document of one that is cut ([11]). The form is one number for later requests: any means 01's form.
+pub fn rescue(
+    form: u32,
+    doc: &[u8],
+    table: &mut [u32],
+    out: &mut [u8],
+    changes: &mut [u32],
+    answer: &mut [u64; 8],
+)
+    ensures { λ _. ⌜ RescueCalled form (now (doc .entry)) (now (table .entry)) (now (table .exit)) (now (out .entry)) (now (out .exit)) (now (changes .entry)) (now (changes .exit)) (now (answer .exit)) ⌝ }
+{
+    match rescue::rescue(doc, table, out, changes) {
+        rescue::Answer::Saved { bytes, lines } => {
+            *answer = [0, 0, bytes as u64, lines as u64, 0, 0, 0, 0];
+        }
+        rescue::Answer::Refused {
+            number: refusal,
+            place: at,
+            count: many,
+        } => {
+            *answer = [refusal as u64, at as u64, many as u64, 0, 0, 0, 0, 0];
+        }
+    }
+}
