@@ -8,7 +8,7 @@
  * and further words as each function says. Words that a function does not name are 0. A null pointer with the number 0 is an empty slice.
  * No function allocates, keeps a pointer or touches memory other than what it is lent, and each answers for every input. Slices that a
  * function is lent to write to must not overlap the others. The stack that a function takes grows with the depth: 0.13 MB in reading and
- * writing 512 levels, 0.85 MB in asking, and up to 2.2 MB in parsing, which says more below.
+ * writing 512 levels, 0.17 MB in rescuing, 0.85 MB in asking, and up to 2.2 MB in parsing, which says more below.
  *
  * The refusals that the functions below give:
  *
@@ -38,7 +38,9 @@
  *   21  a trailing comma        the comma
  *   22  an unmatched brace      the opening brace
  *   23  a decimal beyond reach  the token: more digits or a larger power of ten than one rounding can do
- *   24  more matches than room  0, with the true number of matches in [2]
+ *   24  a list too short        0, with the true number of matches in [2] (tikfazrul_rescue: of lines of changes)
+ *   31  the document is whole   0: there is nothing to rescue
+ *   32  the root is cut         the first byte of the field not whole: the root's id, or its name's length or content
  */
 #ifndef TIKFAZRUL_H
 #define TIKFAZRUL_H
@@ -77,6 +79,17 @@ void tikfazrul_is_table(size_t doc_len, const uint32_t *table, size_t table_len,
  * out[0] on; no other byte changes. Refused (9, 10; then by record 12, 4, 6, 7, 11; 13 last): the output is as it was. The table's words are
  * used while the call lasts; on return each is as it was. An empty list is written as five zero bytes. */
 void tikfazrul_write(const uint8_t *doc, size_t doc_len, uint32_t *table, size_t table_len, uint8_t *out, size_t out_len, uint64_t answer[8]);
+
+/* Writes a whole document of one that tikfazrul_read refuses with 1, cut in transfer: with every tag that was completely read before the cut,
+ * in file order and with the value it had. Containers open at the cut are closed, lists keep the elements they got, and the entry that is cut
+ * vanishes with its name; an empty list is five zero bytes. Accepted: [2] is the number of bytes written, from out[0] on, and [3] the number of
+ * containers that were open: for each, outermost first, three words from changes[0] on say its record in the new document, the count promised
+ * (0 for a compound) and the count kept. No other byte or word of these two changes; doc_len + 512 bytes and 1,536 words are always enough.
+ * Refused (what tikfazrul_read refuses with 2 to 9, as it does; 31; 32; 24, where [2] is the number of lines; 13): both are as they were. The
+ * table is for the read, with room as there, and ends as the read leaves it: the records after 31, else every word 0. `form` is for what is to
+ * come: any number means the one form there is. */
+void tikfazrul_rescue(uint32_t form, const uint8_t *doc, size_t doc_len, uint32_t *table, size_t table_len, uint8_t *out, size_t out_len,
+                      uint32_t *changes, size_t changes_len, uint64_t answer[8]);
 
 /* Asks which tags of a table match a query, whose names lie in `doc`. The query is steps, sixteen at the most, one after the other, and says
  * how to come from the root to a tag:
