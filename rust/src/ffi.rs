@@ -19,6 +19,18 @@ mod c {
             out_len: usize,
             answer: *mut u64,
         );
+        pub fn tikfazrul_rescue(
+            form: u32,
+            doc: *const u8,
+            doc_len: usize,
+            table: *mut u32,
+            table_len: usize,
+            out: *mut u8,
+            out_len: usize,
+            changes: *mut u32,
+            changes_len: usize,
+            answer: *mut u64,
+        );
         pub fn tikfazrul_query(
             doc: *const u8,
             doc_len: usize,
@@ -67,6 +79,27 @@ pub fn write(doc: &[u8], table: &mut [u32], out: &mut [u8]) -> Answer {
     // SAFETY: the pointers stand for slices of the lengths given. The table is lent to be written to, since its words are used while the
     // call lasts, and so are the output and the answer; none overlaps another.
     unsafe { c::tikfazrul_write(doc.as_ptr(), doc.len(), table.as_mut_ptr(), words, out.as_mut_ptr(), room, answer.as_mut_ptr()) };
+    answer
+}
+
+pub fn rescue(doc: &[u8], table: &mut [u32], out: &mut [u8], changes: &mut [u32]) -> Answer {
+    let mut answer = [0; 8];
+    // SAFETY: the pointers stand for slices of the lengths given; the table, the output, the changes and the answer are lent to be written
+    // to and overlap nothing. Every form is answered.
+    unsafe {
+        c::tikfazrul_rescue(
+            0,
+            doc.as_ptr(),
+            doc.len(),
+            table.as_mut_ptr(),
+            table.len(),
+            out.as_mut_ptr(),
+            out.len(),
+            changes.as_mut_ptr(),
+            changes.len(),
+            answer.as_mut_ptr(),
+        )
+    };
     answer
 }
 

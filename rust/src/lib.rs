@@ -32,6 +32,15 @@
 //!                                    ^^");
 //! ```
 //!
+//! A document that was cut in transfer is refused with 1; [`rescue()`] makes a whole one of what came:
+//!
+//! ```
+//! let cut = b"\x0A\0\x04tile\x08\0\x07SceneId\0\x03S2B\x03\0\x09Origin";
+//! let rescued = tikfazrul::rescue(cut)?;
+//! assert_eq!(rescued.document, b"\x0A\0\x04tile\x08\0\x07SceneId\0\x03S2B\0");
+//! # Ok::<(), tikfazrul::Refusal>(())
+//! ```
+//!
 //! # Coming from quartz_nbt
 //!
 //! | there | here |
@@ -52,11 +61,13 @@ pub mod mutf8;
 mod node;
 mod path;
 mod refusal;
+mod rescue;
 mod table;
 mod text;
 
 pub use node::{Children, Kind, Link, Node, Trail, Walk};
 pub use path::{quoted, Fault, PathError, Query, MAX_NAME, MAX_STEPS};
 pub use refusal::{Place, Refusal};
+pub use rescue::{rescue, rescue_into, Change, Rescued, Saved, CHANGE, MAX_DEPTH};
 pub use table::{query, query_into, read, read_into, write, write_into, Read, Table, MAX_DOCUMENT, MAX_RECORDS, WORDS};
 pub use text::{content, parse, token, Parsed, Stops, Token, TokenData, MAX_TEXT};

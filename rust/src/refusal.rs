@@ -50,6 +50,8 @@ macro_rules! refusals {
             $(#[doc = concat!($number, ": ", $what, ".")] $case(Place),)*
             /// 24: there are more matches than the list has room for. The true number of them.
             MoreMatches(usize),
+            /// 24: more containers are open than the list of changes has room for. The true number of them.
+            MoreChanges(usize),
             /// A number that the library does not give.
             Unknown(u64, Place),
         }
@@ -59,7 +61,7 @@ macro_rules! refusals {
             pub fn number(&self) -> u64 {
                 match self {
                     $(Refusal::$case(_) => $number,)*
-                    Refusal::MoreMatches(_) => 24,
+                    Refusal::MoreMatches(_) | Refusal::MoreChanges(_) => 24,
                     Refusal::Unknown(number, _) => *number,
                 }
             }
@@ -68,7 +70,7 @@ macro_rules! refusals {
             pub fn place(&self) -> Place {
                 match self {
                     $(Refusal::$case(place) => *place,)*
-                    Refusal::MoreMatches(_) => Place::Whole,
+                    Refusal::MoreMatches(_) | Refusal::MoreChanges(_) => Place::Whole,
                     Refusal::Unknown(_, place) => *place,
                 }
             }
@@ -78,6 +80,7 @@ macro_rules! refusals {
                 match self {
                     $(Refusal::$case(_) => $what,)*
                     Refusal::MoreMatches(_) => "there are more matches than the list has room for",
+                    Refusal::MoreChanges(_) => "more containers are open than the list of changes has room for",
                     Refusal::Unknown(..) => "the library gave a number that this wrapper does not know",
                 }
             }
@@ -124,6 +127,8 @@ refusals! {
     21 TrailingComma "nothing follows a comma", "";
     22 UnmatchedBrace "a brace or bracket is opened and not closed", "";
     23 UnheldDecimal "a decimal has more digits, or a larger exponent, than is read exactly", "";
+    31 NotCut "the document is whole: there is nothing to rescue", "";
+    32 RootCut "the data ends in the root's id or name, and nothing can be rescued", "where the field that is not whole begins";
 }
 
 impl Refusal {
@@ -157,8 +162,8 @@ impl Refusal {
 impl fmt::Display for Refusal {
     fn fmt(&self, f: &mut fmt::Formatter) -> fmt::Result {
         write!(f, "{}", self.what())?;
-        if let Refusal::MoreMatches(matches) = self {
-            write!(f, ": {matches} in all")?;
+        if let Refusal::MoreMatches(count) | Refusal::MoreChanges(count) = self {
+            write!(f, ": {count} in all")?;
         }
         if self.place() != Place::Whole {
             write!(f, ", {}", self.place())?;
@@ -178,7 +183,7 @@ mod tests {
 
     #[test]
     fn each_number_has_its_case() {
-        for number in 1..=23 {
+        for number in (1..=23).chain(31..=32) {
             let refusal = Refusal::of(number, Place::Byte(7));
             assert_eq!((refusal.number(), refusal.place()), (number, Place::Byte(7)));
             assert!(!matches!(refusal, Refusal::Unknown(..)), "{number}");
@@ -194,6 +199,7 @@ mod tests {
         assert_eq!(record.to_string(), "a name stands twice in one compound, at record 2 (refusal 6)");
         assert_eq!(Refusal::NoTable(Place::Whole).to_string(), "the words form no table over this document (refusal 10)");
         assert!(Refusal::MoreMatches(3).to_string().contains("3 in all"));
+        assert!(Refusal::MoreChanges(3).to_string().contains("3 in all"));
     }
 
     #[test]

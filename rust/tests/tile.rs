@@ -187,6 +187,12 @@ fn wrong_command_lines_say_so() {
         &["hex", "--json", "reef.nbt"],
         &["check", "--full", "reef.nbt"],
         &["list", "--line", "reef.nbt"],
+        &["rescue", "cut.nbt"],
+        &["rescue", "cut.nbt", "cut-list.nbt", "-o", "nowhere/"],
+        &["rescue", "cut.nbt", "cut-list.nbt", "-o", "-"],
+        &["rescue", "cut.nbt", "cut.nbt", "-o", "."],
+        &["rescue", "-", "-o", "."],
+        &["rescue", "--json", "cut.nbt", "-o", "-"],
     ] {
         let (out, err, status) = tile(args);
         assert_eq!((out.as_str(), status), ("", 2), "{args:?}");
@@ -198,7 +204,7 @@ fn wrong_command_lines_say_so() {
 fn help_teaches() {
     let (help, err, status) = tile(&["--help"]);
     assert_eq!((err.as_str(), status), ("", 0));
-    for command in ["list", "check", "query", "text", "write", "hex"] {
+    for command in ["list", "check", "query", "text", "write", "rescue", "hex"] {
         assert!(help.contains(&format!("tile {command} ")), "{command}");
         let (about, _, status) = tile(&[command, "--help"]);
         assert_eq!(status, 0);
@@ -244,4 +250,97 @@ trailing-comma.snbt: refused: nothing follows a comma, at byte 42 of the text (r
     assert!(String::from_utf8(late.stderr).unwrap().contains("(refusal 21), line 2, column 6\n"));
     assert_eq!(tile(&["query", "deep/clouds", "rare-name.snbt"]).0, "root/deep/clouds  Byte  7\n");
     assert_eq!(tile(&["text", "second-origin.snbt", "-o", "-"]).2, 1);
+}
+
+#[test]
+fn a_cut_document_is_rescued() {
+    let file = scratch("rescued.nbt");
+    let wanted = "\
+cut-list.nbt: saved 156 bytes, 15 records; open where the data ends:
+  root                 Compound  2 entries kept
+  root/Tiles           List      3 of 5 elements kept
+  root/Tiles[2]        Compound  1 entry kept
+  root/Tiles[2]/Scene  Compound  0 entries kept
+";
+    assert_eq!(tile(&["rescue", "cut-list.nbt", "-o", file.to_str().unwrap()]), (wanted.to_owned(), String::new(), 0));
+    let saved = std::fs::read(&file).unwrap();
+    assert!(tile(&["check", file.to_str().unwrap()]).0.ends_with(": accepted: 156 bytes, 15 records\n"));
+    // on standard output the document stands alone
+    let piped = fed(&["rescue", "cut-list.nbt", "-o", "-"], b"");
+    assert_eq!((piped.stdout, piped.stderr, piped.status.code()), (saved, wanted.as_bytes().to_vec(), Some(0)));
+    let (out, err, status) = tile(&["rescue", "--json", "cut-list.nbt", "-o", file.to_str().unwrap()]);
+    assert!(
+        out.starts_with(r#"{"file":"cut-list.nbt","ok":true,"bytes":156,"count":15,"inflated":false,"open":[{"record":0,"path":"root","#)
+    );
+    assert!(out.contains(r#"{"record":2,"path":"root/Tiles","kind":"List","promised":5,"kept":3},"#), "{out}");
+    assert_eq!((err.as_str(), status), ("", 0));
+    std::fs::remove_file(&file).unwrap();
+}
+
+#[test]
+fn what_cannot_be_rescued_changes_no_file() {
+    let file = scratch("kept.nbt");
+    std::fs::write(&file, b"kept").unwrap();
+    let (whole, root) = (scratch("whole.nbt"), scratch("root.nbt"));
+    std::fs::copy(samples().join("reef.nbt"), &whole).unwrap();
+    std::fs::write(&root, b"\x0A\0").unwrap();
+    for (from, words) in [
+        (whole.to_str().unwrap(), "the document is whole: there is nothing to rescue (refusal 31)"),
+        (root.to_str().unwrap(), "the data ends in the root's id or name, and nothing can be rescued, at byte 1, where the field"),
+        ("second-origin.nbt", "a name stands twice in one compound, at byte 23, the later entry (refusal 6)"),
+        ("reef.nbt.zlib", "zlib data (78 01)"),
+    ] {
+        let (out, err, status) = tile(&["rescue", from, "-o", file.to_str().unwrap()]);
+        assert_eq!((out.as_str(), status), ("", 1), "{err}");
+        assert!(err.contains(words), "{err}");
+    }
+    assert_eq!(std::fs::read(&file).unwrap(), b"kept");
+    // a file is not written over itself
+    std::fs::copy(samples().join("cut.nbt"), &file).unwrap();
+    let (_, err, status) = tile(&["rescue", file.to_str().unwrap(), "-o", file.to_str().unwrap()]);
+    assert!(err.contains("is not written over itself"), "{err}");
+    assert_eq!((std::fs::read(&file).unwrap().len(), status), (60, 2));
+    for used in [file, whole, root] {
+        std::fs::remove_file(used).unwrap();
+    }
+}
+
+#[test]
+fn several_files_are_rescued_into_a_folder() {
+    let folder = scratch("rescued");
+    std::fs::create_dir_all(&folder).unwrap();
+    // cut in the stored bytes, and in what follows them
+    let whole = std::fs::read(samples().join("reef.nbt.gz")).unwrap();
+    let (packed, tail) = (scratch("cut-gzip.nbt.gz"), scratch("cut-tail.nbt.gz"));
+    std::fs::write(&packed, &whole[..80]).unwrap();
+    std::fs::write(&tail, &whole[..whole.len() - 3]).unwrap();
+    let into = folder.to_str().unwrap();
+    let (out, err, status) = tile(&["rescue", "cut.nbt", packed.to_str().unwrap(), tail.to_str().unwrap(), "reef.nbt", "-o", into]);
+    assert_eq!(status, 1, "reef.nbt is whole");
+    assert!(out.contains("cut.nbt: saved 54 bytes, 3 records; open where the data ends:\n  root  Compound  2 entries kept\n"), "{out}");
+    assert!(out.contains("cut-gzip.nbt.gz: saved 54 bytes, 3 records, inflated from gzip; open"), "{out}");
+    assert!(out.contains("cut-tail.nbt.gz: saved 110 bytes, 5 records, inflated from gzip; every tag came\n"), "{out}");
+    assert!(err.contains("reef.nbt: refused: the document is whole"), "{err}");
+    let saved = |name: &str| std::fs::read(folder.join(name)).unwrap();
+    assert_eq!(saved("cut.nbt"), saved("cut-gzip.nbt"));
+    assert_eq!(saved("cut-tail.nbt"), std::fs::read(samples().join("reef.nbt")).unwrap());
+    assert_eq!(std::fs::read_dir(&folder).unwrap().count(), 3);
+    std::fs::remove_dir_all(&folder).unwrap();
+    for used in [packed, tail] {
+        std::fs::remove_file(used).unwrap();
+    }
+}
+
+#[test]
+fn check_names_the_rescue_where_there_is_one() {
+    let (out, _, status) = tile(&["check", "cut.nbt"]);
+    assert!(out.ends_with("\n  tile rescue cut.nbt -o … saves the tags that came whole\n"), "{out}");
+    assert_eq!(status, 1);
+    for (bytes, named) in [(&b"\x0A\0\0"[..], true), (b"\x0A\0", false), (b"\x0A\0\0\x0D\0\0", false)] {
+        let out = String::from_utf8(fed(&["check", "-"], bytes).stdout).unwrap();
+        assert_eq!(out.contains("\n  tile rescue - -o … saves"), named, "{out}");
+    }
+    let whole = std::fs::read(samples().join("reef.nbt.gz")).unwrap();
+    let out = String::from_utf8(fed(&["check", "-"], &whole[..60]).stdout).unwrap();
+    assert!(out.ends_with("; `tile rescue` takes what can be inflated\n"), "{out}");
 }

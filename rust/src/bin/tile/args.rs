@@ -1,5 +1,7 @@
 //! What the command line asks for.
-use std::ffi::OsString;
+use std::collections::HashSet;
+use std::ffi::{OsStr, OsString};
+use std::path::{Path, PathBuf};
 use tikfazrul::Query;
 
 #[derive(Clone, Copy, PartialEq, Eq)]
@@ -9,6 +11,7 @@ pub enum Command {
     Query,
     Text,
     Write,
+    Rescue,
     Hex,
 }
 
@@ -36,10 +39,11 @@ tile: looks into NBT documents, with every answer from a proved library.
   tile query PATH FILE…       the tags that a path leads to
   tile text FILE -o FILE      a text (SNBT) made a document
   tile write FILE -o FILE     a document read and written again
+  tile rescue FILE… -o FILE   a whole document of one that was cut in transfer
   tile hex FILE…              the bytes
 
-  -o FILE    where to write; - is standard output
-  --json     one JSON object for each file, on a line of its own (list, check, query)
+  -o FILE    where to write; - is standard output; a folder holds what is rescued under the names of the files
+  --json     one JSON object for each file, on a line of its own (list, check, query, rescue)
   --full     strings and arrays whole, however long (list, query)
   --line     the bytes as one line of digits (hex)
   --help     this; tile COMMAND --help tells more
@@ -68,7 +72,8 @@ const ABOUT_CHECK: &str = "\
 tile check [--json] FILE…
 
 Says of each file whether it is a lawful document. A refusal has a number, words, a place, and the bytes around the place with a mark below
-it. Places in gzip'd files count inflated bytes. Exit status 1 if any file is refused.
+it. Places in gzip'd files count inflated bytes. Where the data ends too soon, tile rescue saves what came. Exit status 1 if any file is
+refused.
 
   tile check samples/second-origin.nbt
   find world -name '*.dat' -print0 | xargs -0 tile check >report.txt
@@ -109,6 +114,18 @@ document is refused.
   tile write samples/reef.nbt.gz -o reef.nbt
 ";
 
+const ABOUT_RESCUE: &str = "\
+tile rescue [--json] FILE… -o FILE
+
+Makes a whole document of one that was cut in transfer: with every tag that came whole, in file order and with the value it had. Says which
+lists and compounds were open where the data ends, how many elements a list promised, and how many children each has kept. Of a gzip'd
+file that is cut, what can be inflated is taken. Nothing is written of a document that is whole, that is refused for anything else, or that
+ends before the root's name does: exit status 1. Several files are saved in a folder, under their own names without .gz.
+
+  tile rescue samples/cut-list.nbt -o saved.nbt
+  tile rescue inbox/*.nbt.gz -o saved/
+";
+
 const ABOUT_HEX: &str = "\
 tile hex [--line] FILE…
 
@@ -126,6 +143,7 @@ impl Command {
             "query" => Some(Command::Query),
             "text" => Some(Command::Text),
             "write" => Some(Command::Write),
+            "rescue" => Some(Command::Rescue),
             "hex" => Some(Command::Hex),
             _ => None,
         }
@@ -138,13 +156,14 @@ impl Command {
             Command::Query => ABOUT_QUERY,
             Command::Text => ABOUT_TEXT,
             Command::Write => ABOUT_WRITE,
+            Command::Rescue => ABOUT_RESCUE,
             Command::Hex => ABOUT_HEX,
         }
     }
 
-    /// Whether it writes one file from one.
+    /// Whether it writes files.
     pub fn writes(self) -> bool {
-        matches!(self, Command::Text | Command::Write)
+        matches!(self, Command::Text | Command::Write | Command::Rescue)
     }
 }
 
@@ -210,23 +229,77 @@ fn path(args: &mut Args) -> Result<(), Instead> {
     Ok(())
 }
 
+impl Args {
+    /// The folder that files are rescued into, where -o names one.
+    fn folder(&self) -> Option<&Path> {
+        let out = Path::new(self.out.as_ref()?);
+        (self.command == Command::Rescue && out.is_dir()).then_some(out)
+    }
+
+    /// Where what is made of a file goes; `None` is standard output.
+    pub fn target(&self, file: &OsStr) -> Option<PathBuf> {
+        match (self.folder(), self.out.as_ref()?) {
+            (Some(folder), _) => Some(folder.join(saved_name(file))),
+            (None, out) => (out != "-").then(|| PathBuf::from(out)),
+        }
+    }
+}
+
+/// A file's own name, without .gz.
+fn saved_name(file: &OsStr) -> OsString {
+    let path = Path::new(file);
+    match path.extension() {
+        Some(end) if end.eq_ignore_ascii_case("gz") => path.file_stem(),
+        _ => path.file_name(),
+    }
+    .unwrap_or_default()
+    .to_owned()
+}
+
+/// Whether the files that are rescued have places to go to, and each its own.
+fn folder(args: &Args) -> Result<(), Instead> {
+    if args.command != Command::Rescue {
+        return Ok(());
+    }
+    if args.folder().is_none() {
+        return match args.files.len() {
+            1 => Ok(()),
+            _ => fault("several files are rescued into a folder that is there: -o FOLDER".to_owned()),
+        };
+    }
+    let mut names = HashSet::new();
+    for file in &args.files {
+        if file == "-" {
+            return fault("standard input has no name to be saved under in a folder".to_owned());
+        }
+        if !names.insert(saved_name(file)) {
+            return fault(format!("two files would be saved as {}", saved_name(file).to_string_lossy()));
+        }
+    }
+    Ok(())
+}
+
 fn complete(args: Args) -> Result<Args, Instead> {
     let writes = args.command.writes();
     if args.files.is_empty() {
         return fault("no file is given; - is standard input".to_owned());
     }
-    if writes && args.files.len() > 1 {
+    if writes && args.files.len() > 1 && args.command != Command::Rescue {
         return fault("one file at a time is written".to_owned());
     }
     if writes && args.out.is_none() {
         return fault("-o FILE says where to write; -o - is standard output".to_owned());
     }
     if !writes && args.out.is_some() {
-        return fault("-o goes with text and write alone".to_owned());
+        return fault("-o goes with text, write and rescue alone".to_owned());
     }
-    if args.json && (writes || args.command == Command::Hex) {
-        return fault("--json goes with list, check and query".to_owned());
+    if args.json && matches!(args.command, Command::Text | Command::Write | Command::Hex) {
+        return fault("--json goes with list, check, query and rescue".to_owned());
     }
+    if args.json && args.out.as_deref() == Some(OsStr::new("-")) {
+        return fault("--json speaks on standard output, so -o wants a file".to_owned());
+    }
+    folder(&args)?;
     if args.full && !matches!(args.command, Command::List | Command::Query) {
         return fault("--full goes with list and query".to_owned());
     }

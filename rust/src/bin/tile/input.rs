@@ -29,6 +29,14 @@ impl Trouble {
 pub struct Input {
     pub bytes: Vec<u8>,
     pub inflated: bool,
+    /// What gzip says where its bytes end too soon, and these are what came before.
+    pub cut: Option<String>,
+}
+
+impl Input {
+    pub fn plain(bytes: Vec<u8>) -> Input {
+        Input { bytes, inflated: false, cut: None }
+    }
 }
 
 /// A little over what any document has, so that a longer one is refused for its length without being held whole.
@@ -53,13 +61,22 @@ pub fn raw(file: &OsStr) -> Result<Vec<u8>, Trouble> {
 pub fn shown(file: &OsStr) -> Result<Input, Trouble> {
     let bytes = whole(file, u64::MAX).map_err(Trouble::unread)?;
     match unpack(bytes.clone()) {
-        Ok(input) => Ok(input),
-        Err(_) => Ok(Input { bytes, inflated: false }),
+        Ok(input) if input.cut.is_none() => Ok(input),
+        _ => Ok(Input::plain(bytes)),
     }
 }
 
 /// The document that stands in a file.
 pub fn document(file: &OsStr) -> Result<Input, Trouble> {
+    let input = arrived(file)?;
+    match input.cut {
+        Some(why) => Err(Trouble::Packed(format!("{}; `tile rescue` takes what can be inflated", not_whole(&why)))),
+        None => Ok(input),
+    }
+}
+
+/// What came of the document that stands in a file: of a gzip'd one that ends too soon, what can be inflated.
+pub fn arrived(file: &OsStr) -> Result<Input, Trouble> {
     unpack(raw(file)?)
 }
 
@@ -71,7 +88,7 @@ fn unpack(bytes: Vec<u8>) -> Result<Input, Trouble> {
             "this is zlib data (78 {second:02X}), as region files hold it, and no document; inflate it first, for instance with \
              `pigz -dz` or `zlib-flate -uncompress`"
         ))),
-        _ => Ok(Input { bytes, inflated: false }),
+        _ => Ok(Input::plain(bytes)),
     }
 }
 
@@ -101,15 +118,23 @@ fn collect(gzip: &mut Child) -> Result<Input, Trouble> {
     out.take(ENOUGH).read_to_end(&mut bytes).map_err(Trouble::unread)?;
     if bytes.len() as u64 == ENOUGH {
         // too long for any document: there is no need for the rest
-        return Ok(Input { bytes, inflated: true });
+        return Ok(Input { bytes, inflated: true, cut: None });
     }
     let mut said = String::new();
     let _ = gzip.stderr.take().expect("it is piped").take(4096).read_to_string(&mut said);
     let status = gzip.wait().map_err(Trouble::unread)?;
     // 2 is a warning: bytes that follow the gzip'd ones
-    if !matches!(status.code(), Some(0 | 2)) {
-        let why = said.lines().map(str::trim).find(|line| !line.is_empty()).unwrap_or("no reason given").to_owned();
-        return Err(Trouble::Packed(format!("this is a gzip'd file (1F 8B) that can't be inflated whole: {why}")));
+    if matches!(status.code(), Some(0 | 2)) {
+        return Ok(Input { bytes, inflated: true, cut: None });
     }
-    Ok(Input { bytes, inflated: true })
+    let why = said.lines().map(str::trim).find(|line| !line.is_empty()).unwrap_or("no reason given").to_owned();
+    // then gzip has put out all that it could inflate
+    if why.ends_with("unexpected end of file") {
+        return Ok(Input { bytes, inflated: true, cut: Some(why) });
+    }
+    Err(Trouble::Packed(not_whole(&why)))
+}
+
+fn not_whole(why: &str) -> String {
+    format!("this is a gzip'd file (1F 8B) that can't be inflated whole: {why}")
 }

@@ -1,7 +1,7 @@
 //! The same for machines: one JSON object for each file.
 use crate::input::Trouble;
 use std::fmt::Write;
-use tikfazrul::{Kind, Node, Place, Trail};
+use tikfazrul::{Change, Kind, Node, Place, Rescued, Trail};
 
 pub fn string(text: &str) -> String {
     let mut json = String::from("\"");
@@ -60,6 +60,17 @@ pub fn records(root: Node) -> String {
     let mut trail = Trail::new();
     let records: Vec<String> = root.walk().map(|(depth, found)| node(&found, trail.step(depth, &found))).collect();
     format!("\"records\":[{}]", records.join(","))
+}
+
+/// The lists and compounds that were open where the data ends.
+pub fn open(rescued: Option<&Rescued>) -> String {
+    let one = |change: Change| {
+        let (path, kind) = (string(change.path), string(change.kind.tag_name()));
+        let (record, promised, kept) = (change.record, change.promised, change.kept);
+        format!("{{\"record\":{record},\"path\":{path},\"kind\":{kind},\"promised\":{promised},\"kept\":{kept}}}")
+    };
+    let open: Vec<String> = rescued.into_iter().flat_map(Rescued::changes).map(one).collect();
+    format!("\"open\":[{}]", open.join(","))
 }
 
 /// An object for a file: its name, whether it is accepted, and what else there is.

@@ -9,8 +9,9 @@ use args::{Args, Command, Instead};
 use input::{Input, Trouble};
 use std::ffi::OsStr;
 use std::io::{self, BufWriter, Write};
+use std::path::Path;
 use std::process::ExitCode;
-use tikfazrul::{hex, read, Node, Refusal, Table, Trail};
+use tikfazrul::{hex, read, Node, Refusal, Rescued, Table, Trail};
 
 fn main() -> ExitCode {
     let args = match args::parse(std::env::args_os().skip(1)) {
@@ -88,20 +89,29 @@ fn complaint(args: &Args, file: &OsStr, trouble: &Trouble, said: &mut Vec<u8>) -
     let words = format!("{}: {}", name(file), show::trouble(trouble)).replace('\n', "\n  ");
     if args.command == Command::Check && !matches!(trouble, Trouble::Io(_)) {
         writeln!(said, "{words}")?;
+        if can_be_rescued(trouble) {
+            let file = if file == "-" { "-".to_owned() } else { name(file) };
+            writeln!(said, "  tile rescue {file} -o … saves the tags that came whole")?;
+        }
         return Ok(None);
     }
     Ok(Some(words))
+}
+
+fn can_be_rescued(trouble: &Trouble) -> bool {
+    matches!(trouble, Trouble::Refused(Refusal::DataEnds(_), bytes) if tikfazrul::rescue(bytes).is_ok())
 }
 
 /// Does what is asked to one file.
 fn one(args: &Args, file: &OsStr, said: &mut Vec<u8>) -> Result<(), Trouble> {
     match args.command {
         Command::Hex => dump(args, &input::shown(file)?, said),
-        Command::Text => save(args, &parsed(input::raw(file)?)?)?,
+        Command::Text => save(args, file, &parsed(input::raw(file)?)?)?,
         Command::Write => {
             let (input, table) = load(file)?;
-            save(args, &again(input, table)?)?;
+            save(args, file, &again(input, table)?)?;
         }
+        Command::Rescue => salvage(args, file, input::arrived(file)?, said)?,
         Command::List | Command::Check | Command::Query => {
             let (input, table) = load(file)?;
             answer(args, file, &input, &table, said)?;
@@ -114,7 +124,7 @@ fn one(args: &Args, file: &OsStr, said: &mut Vec<u8>) -> Result<(), Trouble> {
 fn load(file: &OsStr) -> Result<(Input, Table), Trouble> {
     let text = file.to_string_lossy().to_lowercase().ends_with(".snbt");
     let input = match text {
-        true => Input { bytes: input::raw(file).and_then(parsed)?, inflated: false },
+        true => Input::plain(input::raw(file).and_then(parsed)?),
         false => input::document(file)?,
     };
     match read(&input.bytes) {
@@ -134,12 +144,65 @@ fn again(input: Input, mut table: Table) -> Result<Vec<u8>, Trouble> {
     tikfazrul::write(&input.bytes, &mut table).map_err(|refusal| Trouble::Refused(refusal, input.bytes))
 }
 
-fn save(args: &Args, document: &[u8]) -> Result<(), Trouble> {
-    let saved = match args.out.as_deref() {
-        Some(file) if file != "-" => std::fs::write(file, document),
-        _ => io::stdout().write_all(document),
+fn save(args: &Args, file: &OsStr, document: &[u8]) -> Result<(), Trouble> {
+    let saved = match args.target(file) {
+        Some(target) => std::fs::write(target, document),
+        None => io::stdout().write_all(document),
     };
     saved.map_err(Trouble::unwritten)
+}
+
+/// Saves what came of a document that is cut, and says what was open. Of a whole one there is nothing to rescue, but where the gzip'd bytes
+/// around it are cut.
+fn salvage(args: &Args, file: &OsStr, input: Input, said: &mut Vec<u8>) -> Result<(), Trouble> {
+    over_itself(args, file)?;
+    let inflated = input.inflated;
+    match tikfazrul::rescue(&input.bytes) {
+        Ok(rescued) => {
+            save(args, file, &rescued.document)?;
+            report(args, file, inflated, rescued.document.len(), rescued.table.len(), Some(&rescued), said)
+        }
+        Err(Refusal::NotCut(_)) if input.cut.is_some() => {
+            let table = read(&input.bytes).map_err(|refusal| Trouble::Refused(refusal, input.bytes.clone()))?;
+            let records = table.len();
+            let document = again(input, table)?;
+            save(args, file, &document)?;
+            report(args, file, inflated, document.len(), records, None, said)
+        }
+        Err(refusal) => Err(Trouble::Refused(refusal, input.bytes)),
+    }
+}
+
+/// What is rescued never takes the place of what it is rescued from.
+fn over_itself(args: &Args, file: &OsStr) -> Result<(), Trouble> {
+    let real = |path: &Path| std::fs::canonicalize(path).ok();
+    match args.target(file).and_then(|target| real(&target)) {
+        Some(target) if Some(&target) == real(Path::new(file)).as_ref() => Err(Trouble::Io("is not written over itself".to_owned())),
+        _ => Ok(()),
+    }
+}
+
+/// Says what was saved: on standard error where the document itself is on standard output.
+fn report(
+    args: &Args,
+    file: &OsStr,
+    inflated: bool,
+    bytes: usize,
+    records: usize,
+    rescued: Option<&Rescued>,
+    said: &mut Vec<u8>,
+) -> Result<(), Trouble> {
+    if args.json {
+        let more = format!("\"bytes\":{bytes},\"count\":{records},\"inflated\":{inflated},{}", json::open(rescued));
+        return writeln!(said, "{}", json::file(&file.to_string_lossy(), true, &more)).map_err(Trouble::unwritten);
+    }
+    let gzip = if inflated { ", inflated from gzip" } else { "" };
+    let words = format!("{}: saved {}{gzip}; {}", name(file), show::size(bytes, records), show::open(rescued));
+    match args.target(file) {
+        Some(_) => writeln!(said, "{words}").map_err(Trouble::unwritten)?,
+        None => grumble(&words),
+    }
+    Ok(())
 }
 
 fn dump(args: &Args, input: &Input, said: &mut Vec<u8>) {

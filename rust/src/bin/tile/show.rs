@@ -1,7 +1,7 @@
 //! Tags and refusals in words for people.
 use crate::input::Trouble;
 use std::io::{self, Write};
-use tikfazrul::{quoted, Kind, Link, Node, Place};
+use tikfazrul::{quoted, Change, Kind, Link, Node, Place, Rescued};
 
 /// How many characters of a string, and elements of an array, are shown unless all are asked for.
 const CHARACTERS: usize = 60;
@@ -81,6 +81,23 @@ pub fn matches(out: &mut dyn Write, found: &[(String, Node)], full: bool) -> io:
         writeln!(out, "{text:path$}  {:kind$}  {}", node.kind(), value(node, full))?;
     }
     Ok(())
+}
+
+/// The lists and compounds that were open where the data ends, a line each, aligned.
+pub fn open(rescued: Option<&Rescued>) -> String {
+    let Some(rescued) = rescued else {
+        return "every tag came".to_owned();
+    };
+    let path = rescued.changes().map(|change| change.path.chars().count().min(WIDEST)).max().unwrap_or(0);
+    let line = |change: Change| format!("\n  {:path$}  {:8}  {}", change.path, change.kind, kept(&change));
+    format!("open where the data ends:{}", rescued.changes().map(line).collect::<String>())
+}
+
+fn kept(change: &Change) -> String {
+    match change.kind {
+        Kind::List => format!("{} of {} kept", change.kept, plural(change.promised, "element", "elements")),
+        _ => format!("{} kept", plural(change.kept, "entry", "entries")),
+    }
 }
 
 /// Why there is no document, and the bytes where the trouble is.
