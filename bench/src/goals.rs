@@ -40,13 +40,15 @@ pub enum Goal {
     ReadGrowthRandom,
     WriteTiles,
     WriteArrays,
+    Rescue,
+    RescueGrowth,
     TextTiles,
     TextGrowth,
     QueryLevels,
 }
 
 /// The last two bounds, and the tenth over a copy, are what "linear", "proportional" and "at the speed of" are taken for here.
-const GOALS: [(Goal, &str, Wanted); 10] = [
+const GOALS: [(Goal, &str, Wanted); 12] = [
     (Goal::Strings, "string checks, throughput over from_utf8's", Wanted::AtLeast(0.8)),
     (Goal::ReadTiles, "reading tiles, the crate's time over ours", Wanted::AtLeast(10.0)),
     (Goal::ReadNeverSlower, "reading anything, the crate's time over ours", Wanted::AtLeast(1.0)),
@@ -54,6 +56,8 @@ const GOALS: [(Goal, &str, Wanted); 10] = [
     (Goal::ReadGrowthRandom, "the same in random order", Wanted::AtMost(8.0)),
     (Goal::WriteTiles, "writing tiles, the crate's time over ours", Wanted::AtLeast(5.0)),
     (Goal::WriteArrays, "writing long arrays, time over a copy's", Wanted::AtMost(1.1)),
+    (Goal::Rescue, "rescuing many records, time over a read of the same bytes", Wanted::AtMost(4.0)),
+    (Goal::RescueGrowth, "rescuing tiles and one compound in sorted order, time a record at 10^6 over 10^3", Wanted::AtMost(3.0)),
     (Goal::TextTiles, "texts of tiles, the crate's time over ours", Wanted::AtLeast(3.0)),
     (Goal::TextGrowth, "texts, time a byte at 10^6 bytes over 10^4", Wanted::AtMost(3.0)),
     (Goal::QueryLevels, "queries, time by levels and steps on a path of 512 over one of 32", Wanted::AtMost(3.0)),

@@ -2,7 +2,7 @@
 #[path = "../../rust/src/ffi.rs"]
 mod ffi;
 
-pub use ffi::{check_mutf8, check_utf8, query, read, write, Answer};
+pub use ffi::{check_mutf8, check_utf8, query, read, rescue, write, Answer};
 
 /// The words of a record.
 pub const WORDS: usize = 8;

@@ -8,6 +8,7 @@ mod markdown;
 mod quartz;
 mod query;
 mod read;
+mod rescue;
 mod stack;
 mod strings;
 mod text;
@@ -25,10 +26,11 @@ pub struct Bench {
 
 type Section = (&'static str, fn(&mut Bench));
 
-const SECTIONS: [Section; 7] = [
+const SECTIONS: [Section; 8] = [
     ("strings", strings::section),
     ("read", read::section),
     ("write", write::section),
+    ("rescue", rescue::section),
     ("text", text::section),
     ("tokens", tokens::section),
     ("query", query::section),

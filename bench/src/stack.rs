@@ -3,6 +3,7 @@
 use crate::inputs::{around, list_text, nested, tile_text, wide, Doc, Order};
 use crate::library::{self, Answer, MOST_TEXT, WORDS};
 use crate::markdown::{self, grouped};
+use crate::rescue::Cut;
 use crate::Bench;
 use std::ffi::{c_int, c_void};
 
@@ -93,6 +94,8 @@ fn documents() {
     row("tikfazrul_is_table", "the table of one 512 deep", 0, || library::is_table(&deep.bytes, &table));
     write("the table of one 512 deep", &deep);
     write("one compound of 100,000 in random order", &wide(100_000, 0, 0, Order::Random));
+    let mut cut = Cut::innermost(512);
+    row("tikfazrul_rescue", "one 512 deep, cut in the innermost", 0, || cut.rescue());
     let mut list = vec![0; deep.tags];
     for (what, query) in [("04 03, eight times", [4, 3].repeat(8)), ("04 01 x, eight times", [4, 1, 0, 1, b'x'].repeat(8))] {
         row("tikfazrul_query", &format!("{what}, on one 512 deep"), 0, || library::query(&deep.bytes, &table, &query, &mut list));
