@@ -210,19 +210,12 @@ fn payload(
             number: _,
             place: _,
         } => Piece::Cut(ix, 0),
-        Start::Is { kind: of, count } => {
-            let s = elements(
-                doc,
-                of,
-                count,
-                at + 5,
-                depth - 1,
-                table,
-                ix + 1,
-                lines,
-                most,
-            );
-            held(kind, name, len, of, count, s, level, table, ix, lines, most)
+        Start::Is {
+            kind: of,
+            count: many,
+        } => {
+            let s = elements(doc, of, many, at + 5, depth - 1, table, ix + 1, lines, most);
+            held(kind, name, len, of, many, s, level, table, ix, lines, most)
         }
     }
 }
