@@ -23,8 +23,8 @@ use Rattle.form.proofs.Cut.{not-both, kept-is, rescued-accepted, rescued-other,
 use Rattle.demands.specs.Reading.{Bytes}
 use Rattle.demands.specs.Rescue.{Whole}
 use Rattle.demands.proofs.Rescue.{rescued-lawful, rescued-long, rescued-lined, rescued-written}
-use Rattle.writer.specs.Steps.{WroteIs, Fits, PutIs as TablePutIs}
-use Rattle.rescue.specs.Answers.{GatheredIn, LaidIs, Roomy, PutIs, mostOf, TightAsked, CutIs}
+use Rattle.writer.specs.Steps.{WroteIs, Fits, PutIs}
+use Rattle.rescue.specs.Answers.{GatheredIn, LaidIs, Roomy, KeptPut, mostOf, TightAsked, CutIs}
 use Rattle.gather.specs.declared.Gathered.{Gathered}
 use Rattle.gather.specs.Steps.{KeptIn, GatheredIs}
 
@@ -63,12 +63,12 @@ roomy-fits doc t w o records bytes g e =
 
 -- What is put of them is the layout of what is kept.
 pub put-is : (doc t w o o′ : List ℕ) (records r : ℕ) → Bytes doc → GatheredIn doc t records → w ≡ take (8 * records) t
-    → TablePutIs doc w o o′ r → PutIs doc t o o′ r
+    → PutIs doc w o o′ r → KeptPut doc t o o′ r
 put-is doc t w o o′ records r bytes g e h k is =
     let same : g .k ≡ k = cc (g .is, is) in
     let whole = rescued-lawful doc bytes (roomOf (length t)) k (room-le (length t)) is in
     let words = e ∙ g .words-are ∙ ap (λ (k : Kept). flat 0 (k .forest)) same ∙ ap (flat 0) (whole .is) in
-    let puts = subst (λ u. TablePutIs doc u o o′ r) words h (whole .table) in
+    let puts = subst (λ u. PutIs doc u o o′ r) words h (whole .table) in
     let laid = table-laid doc (roomOf (length t)) k whole in
     (omega (arith, puts .next, ap length laid), puts .is ∙ ap (over o 0) laid)
 
@@ -229,7 +229,7 @@ module _ (doc t t′ c d : List ℕ) (most n l : ℕ) (g : KeptIn doc t t′ c d
       roomy = record { gathered = gathered-in; room = enough }
 
       -- The document, and its lines, which stand in the list already.
-      pub cut-put : Bytes doc → (o′ : List ℕ) (z : ℕ) → PutIs doc t′ o o′ z → CutIs doc t o c (sizes z l) o′ d
+      pub cut-put : Bytes doc → (o′ : List ℕ) (z : ℕ) → KeptPut doc t′ o o′ z → CutIs doc t o c (sizes z l) o′ d
       cut-put bytes o′ z h =
           let put = h (g .k) (ap (λ n. keptOf doc (roomOf n)) same-table ∙ g .is) in
           let bs = layout (documentOf doc (g .k .forest)) in

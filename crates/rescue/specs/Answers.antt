@@ -39,8 +39,8 @@ pub record Roomy (doc t : List ℕ) (records : ℕ) (o : List ℕ) : Type 0 wher
   pub room : length doc + length (gathered .k .lines) ≤ length o
 
 -- The layout of what is kept at the front of the output, and how long it is.
-abbrev pub PutIs : List ℕ → List ℕ → List ℕ → List ℕ → ℕ → Type 0
-PutIs doc t o o′ r =
+abbrev pub KeptPut : List ℕ → List ℕ → List ℕ → List ℕ → ℕ → Type 0
+KeptPut doc t o o′ r =
     (k : Kept) → keptOf doc (roomOf (length t)) ≡ got k
     → (r ≡ length (layout (documentOf doc (k .forest)))) × (o′ ≡ over o 0 (layout (documentOf doc (k .forest))))
 

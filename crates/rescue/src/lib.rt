@@ -5,7 +5,7 @@ ghost use Rattle.form.specs.Answer.{no};
 ghost use Rattle.form.specs.Reading.{reading};
 ghost use Rattle.form.specs.Cut.{RescueIs};
 ghost use Rattle.writer.specs.Steps.{answerOut};
-ghost use Rattle.rescue.specs.Answers.{rescueOut, GatheredIn, LaidIs, Roomy, PutIs, mostOf, TightAsked, CutIs};
+ghost use Rattle.rescue.specs.Answers.{rescueOut, GatheredIn, LaidIs, Roomy, KeptPut, mostOf, TightAsked, CutIs};
 use gather::Gathered;
 
 // The answer to a rescue: the bytes and the lines written; or the number and the place of the refusal, and the true count of lines in 24.
@@ -33,7 +33,7 @@ fn lay(doc: &[u8], table: &mut [u32], records: usize, out: &mut [u8]) -> writer:
 // The same where the output has room for the cut document and a byte for each line, so that nothing is judged or counted first.
 fn put(doc: &[u8], table: &[u32], records: usize, out: &mut [u8]) -> usize
     requires { ⌜ Roomy (now doc) (now table) records (now out) ⌝ }
-    ensures { λ r. ⌜ PutIs (now (doc .entry)) (now (table .entry)) (now (out .entry)) (now (out .exit)) r ⌝ }
+    ensures { λ r. ⌜ KeptPut (now (doc .entry)) (now (table .entry)) (now (out .entry)) (now (out .exit)) r ⌝ }
 {
     let words = table::WORDS * records;
     writer::put(doc, &table[..words], out)
