@@ -5,6 +5,7 @@ use mathlib.Core.List.{List, [], _∷_, _++_}
 use mathlib.Core.Bool.{Bool, true, false, _&&_}
 use lib.ListN.{length, take, drop}
 use lib.Dec.{eqb}
+use Rattle.form.specs.Answer.{pick}
 
 -- What stands in a span.
 abbrev pub part : List ℕ → ℕ → ℕ → List ℕ
@@ -20,3 +21,8 @@ same [] [] = true
 same [] (y ∷ ys) = false
 same (x ∷ xs) [] = false
 same (x ∷ xs) (y ∷ ys) = eqb x y && same xs ys
+
+-- Whether a number is one of a list's.
+unfoldable pub among : List ℕ → ℕ → Bool
+among [] b = false
+among (x ∷ l) b = pick (eqb b x) true (among l b)

@@ -8,16 +8,12 @@ use lib.Dec.{ltb, leb, eqb}
 use lib.ListN.{length, getD, drop}
 use Rattle.form.specs.Answer.{Out, got, no, _>>=_, _>>_, guard, pick, overLimit, outputFull, badText, quoteOpen, unknownEscape, unexpectedToken, textEnds, textLimit}
 use Rattle.form.specs.Spans.{part}
+unfoldable pub use Rattle.form.specs.Spans.{among}
 use Rattle.form.specs.Strings.{encodeBy, scalarBytes}
 use Rattle.form.specs.Decoding.{Sequence, is, stuck, utf8Of, utf8Verdict, isGood}
 use Rattle.text_form.specs.Numbers.{Number, isDigit, number}
 
 -- ---- characters
-
--- A byte is one of some.
-unfoldable pub among : List ℕ → ℕ → Bool
-among [] b = false
-among (x ∷ l) b = pick (eqb b x) true (among l b)
 
 -- ASCII whitespace: tab, line feed, form feed, carriage return, space; 0x0B is none (rule 10).
 abbrev pub blank : ℕ → Bool
