@@ -5,11 +5,11 @@ use mathlib.Core.Path.{_≡_, refl, sym, ap, _∙_}
 use mathlib.Core.List.{List}
 use mathlib.Core.Bool.{Bool, true, false, not, _||_}
 use lib.Dec.{ltb}
-use borrow.Author.Tests.{lt-ltb, ltb-true}
+use borrow.Author.Tests.{lt-ltb}
 use Rattle.form.specs.Answer.{got, no, _>>_, tooDeep}
 use Rattle.form.specs.Table.{size, word, holds}
 use Rattle.form.specs.Query.{shallow}
-use Rattle.form.proofs.Depths.{shallow-none, shallow-stop, shallow-on, shallow-parts, then-no, then-got}
+use Rattle.form.proofs.Depths.{shallow-none, shallow-stop, shallow-on, then-no, then-got}
 use Rattle.query.specs.Found.{depthOut}
 use Rattle.query.specs.declared.Depth.{Depth}
 use Rattle.query.specs.declared.Depth.the-variants.{Fine, TooDeep}
@@ -54,19 +54,6 @@ module _ (d : ℕ) (t : List ℕ) (left i end : ℕ) (s : Side d t i end) (f : F
   fine-leaf k =
       by-parts (leaf-test (holds (f .head .kind)) left (rw (f .stands .kind) at k))
       ∙ then-got (shallow (left - 1) (i + 1) (f .inner .forest)) (shallow left (word t i 7) (f .later .forest)) (ap (shallow (left - 1) (i + 1)) (f .bare k) ∙ shallow-none (left - 1) (i + 1))
-
-  -- ---- what an accepted answer says of the parts
-
-  pub inside-fine : holds (word t i 0) ≡ true → shallow left i (s .forest) ≡ got tt → (0 < left) × (shallow (left - 1) (i + 1) (f .inner .forest) ≡ got tt)
-  inside-fine k e =
-      let p = shallow-parts left i (f .head) (f .inner .forest) (f .later .forest) (ap (shallow left i) (sym (f .is)) ∙ e) in
-      let h : holds (f .head .kind) ≡ true = rw (f .stands .kind) at k in
-      (ltb-true 0 left (rw h at (p .0)), p .1)
-
-  pub later-fine : shallow left i (s .forest) ≡ got tt → shallow left (word t i 7) (f .later .forest) ≡ got tt
-  later-fine e =
-      let x : word t i 7 ≡ i + 1 + size (f .inner .forest) = f .stands .end in
-      rw x (shallow-parts left i (f .head) (f .inner .forest) (f .later .forest) (ap (shallow left i) (sym (f .is)) ∙ e) .2)
 
 -- ---- the loop
 

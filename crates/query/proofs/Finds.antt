@@ -1,21 +1,23 @@
 -- What a query answers, way by way: each refusal in rule 9's order, and the list filled.
 -- Assumes nothing.
-use Prim.Native.Nat.{ℕ, suc, _+_, _-_, _/_, _≤_, _<_}
+use Prim.Native.Nat.{ℕ, suc, _+_, _/_, _≤_, _<_}
 use mathlib.Core.Path.{_≡_, refl, sym, ap, _∙_}
 use mathlib.Core.List.{List, [], _∷_}
 use mathlib.Core.Bool.{true, false}
 use native.Mathlib.Omega.{arith}
-use lib.ListN.{length, set}
+use lib.ListN.{length, set, length-set}
+use lib.Dec.{eqb}
 use lib.Seq.{sets}
-use borrow.Author.Tests.{lt-ltb, le-ltb, le-leb, lt-leb}
+use borrow.Author.Tests.{lt-ltb, le-leb, lt-leb}
 use Rattle.form.specs.Answer.{got, no, tooDeep, badQuery, moreMatches, overLimit, noTable, depthLimit}
 use Rattle.form.specs.Spans.{over}
 use Rattle.form.specs.Table.{Forest, none, node, valueOf}
-use Rattle.form.specs.Tables.{IsTable, Within}
-use Rattle.form.specs.Paths.{Step, matches}
+use Rattle.form.specs.Tables.{Fair, IsTable, Within}
+use Rattle.form.specs.Paths.{Step, fits, paths, matches}
 use Rattle.form.specs.Query.{spelt, shallow, asked, within, Count, counted, failed, Finds, QueryIs}
 use Rattle.form.proofs.Table.{sets-over, size-one}
-use Rattle.form.proofs.Tables.{table-sits, table-length}
+use Rattle.form.proofs.Tables.{table-sits, table-length, fair-inner}
+use Rattle.form.proofs.Paths.{paths-length, which-length, tree-paths}
 use Rattle.steps.specs.Steps.{stepsFrom}
 use Rattle.steps.specs.Spelling.{TakenIs}
 use Rattle.steps.specs.declared.Taken.{Taken}
@@ -27,17 +29,13 @@ use Rattle.query.specs.Walks.{putAt, noted, Walks}
 
 -- ---- the list
 
--- With no room nothing is written.
-noted-none : (c : ℕ) (ms l : List ℕ) → noted 0 c ms l ≡ l
-unfolding noted putAt
-noted-none c [] l = refl
-noted-none c (m ∷ ms) l = rw (le-ltb c 0 (omega arith)) (noted-none (suc c) ms l)
-
 -- With room for all of them they stand one after the other.
-noted-all : (room c : ℕ) (ms l : List ℕ) → c + length ms ≤ room → noted room c ms l ≡ sets l c ms
+noted-all : (c : ℕ) (ms l : List ℕ) → c + length ms ≤ length l → noted c ms l ≡ sets l c ms
 unfolding noted putAt
-noted-all room c [] l h = refl
-noted-all room c (m ∷ ms) l h = rw (lt-ltb c room (omega arith)) (noted-all room (suc c) ms (set l c m) (omega arith))
+noted-all c [] l h = refl
+noted-all c (m ∷ ms) l h =
+    let long = length-set l c m in
+    rw (lt-ltb c (length l) (omega arith)) (noted-all (suc c) ms (set l c m) (omega arith))
 
 -- ---- the table's records
 
@@ -55,6 +53,27 @@ table-side d t i = record {
 pub table-fine : (d : ℕ) (t : List ℕ) (r : Depth) → ((d′ : ℕ) (g : Side d′ t 0 (length t / 8)) → depthOut r ≡ shallow depthLimit 0 (g .forest)) → r ≡ Fine
     → (i : IsTable d t) → shallow depthLimit 0 (node (i .head) (i .inner) none) ≡ got tt
 table-fine d t r e f i = sym (e d (table-side d t i)) ∙ ap depthOut f
+
+-- ---- room for the matches
+
+-- No more were counted than there is room.
+pub room-counted : {ms k k′ : List ℕ} {r room : ℕ} → Walks ms 0 k r k′ → r ≤ room → length ms ≤ room
+room-counted w h = let c = w .counted in omega arith
+
+-- There is a word for every record, and no more tags match than there are records.
+pub room-each : (doc t : List ℕ) (i : IsTable (length doc) t) (ss : List Step) {room : ℕ} → length t / 8 ≤ room → length (matches (valueOf doc (i .head) (i .inner)) ss) ≤ room
+unfolding matches
+room-each doc t i ss h =
+    let entries : eqb (i .head .kind) 9 ≡ false = rw (i .compound) in
+    let fair : Fair (length doc) false (i .inner) = rw entries at (fair-inner (length doc) false (i .head) (i .inner) none (i .fair)) in
+    let ends = table-side (length doc) t i .ends in
+    omega (
+      arith,
+      size-one (i .head) (i .inner),
+      which-length (fits ss) 0 (paths (valueOf doc (i .head) (i .inner))),
+      ap length (tree-paths doc (length doc) (i .head) (i .inner) fair),
+      paths-length doc 10 0 [] (i .inner),
+    )
 
 -- ---- what asking gives
 
@@ -92,35 +111,26 @@ module _ (doc q : List ℕ) (t : List ℕ) (i : IsTable (length doc) t) where
         → Finds (within (length l) (asked doc q (i .head) (i .inner))) l c l
     finds-bad k l c e f g = finds-no badQuery (k .place) l c g (asked-bad (k .place) fine (sym (e .is) ∙ rw f))
 
-    module _ (k : Taken) (e : TakenIs q k) (ok : k .ok ≡ true) (l : List ℕ) where
-      asks : asked doc q (i .head) (i .inner) ≡ got (tags (stepsFrom q (k .query) 0))
-      asks = asked-got (stepsFrom q (k .query) 0) fine (sym (e .is) ∙ rw ok)
+    module _ (taken : Taken) (is : TakenIs q taken) (ok : taken .ok ≡ true) (l : List ℕ) where
+      asks : asked doc q (i .head) (i .inner) ≡ got (tags (stepsFrom q (taken .query) 0))
+      asks = asked-got (stepsFrom q (taken .query) 0) fine (sym (is .is) ∙ rw ok)
 
-      -- Counting changes nothing.
-      pub count-keeps : {r : ℕ} {l′ : List ℕ} → Walks (tags (stepsFrom q (k .query) 0)) 0 0 l r l′ → l′ ≡ l
-      count-keeps w = w .listed ∙ noted-none 0 (tags (stepsFrom q (k .query) 0)) l
-
-      -- 24.
-      pub finds-short : (r : ℕ) (l′ : List ℕ) → Walks (tags (stepsFrom q (k .query) 0)) 0 0 l r l′ → length l′ < r
-          → Finds (within (length l) (asked doc q (i .head) (i .inner))) l (failed moreMatches 0 r) l′
-      finds-short r l′ w h =
-          let c = w .counted in
-          let e : length l′ ≡ length l = ap length (count-keeps w) in
-          let c′ : length (tags (stepsFrom q (k .query) 0)) ≡ r = omega arith in
-          rw (asks, lt-leb (length (tags (stepsFrom q (k .query) 0))) (length l) (omega arith)) (record { answer-is = ap (failed moreMatches 0) (sym c′); list-is = count-keeps w })
+      -- 24: the matches were counted, with a list k of the walk's own.
+      pub finds-short : {r : ℕ} {k k′ : List ℕ} → Walks (tags (stepsFrom q (taken .query) 0)) 0 k r k′ → length l < r
+          → Finds (within (length l) (asked doc q (i .head) (i .inner))) l (failed moreMatches 0 r) l
+      finds-short {r} {k} {k′} w h =
+          let ms = tags (stepsFrom q (taken .query) 0) in
+          let c : r ≡ length ms = let x = w .counted in omega arith in
+          rw (asks, lt-leb (length ms) (length l) (omega arith)) (record { answer-is = ap (failed moreMatches 0) c; list-is = refl })
 
       -- The list is filled.
-      pub finds-full : (r : ℕ) (l′ : List ℕ) → Walks (tags (stepsFrom q (k .query) 0)) 0 0 l r l′ → r ≤ length l′
-          → (r′ : ℕ) (l″ : List ℕ) → Walks (tags (stepsFrom q (k .query) 0)) (length l′) 0 l′ r′ l″
-          → Finds (within (length l) (asked doc q (i .head) (i .inner))) l (counted r′) l″
-      finds-full r l′ w h r′ l″ v =
-          let ms = tags (stepsFrom q (k .query) 0) in
-          let c = w .counted in
-          let c′ : r′ ≡ length ms = let x = v .counted in omega arith in
-          let e : length l′ ≡ length l = ap length (count-keeps w) in
-          let le : length ms ≤ length l = omega arith in
-          let written : l″ ≡ over l 0 ms = v .listed ∙ ap (λ (x : List ℕ). noted (length x) 0 ms x) (count-keeps w) ∙ noted-all (length l) 0 ms l (omega arith) ∙ sets-over ms l 0 (omega arith) in
-          rw (asks, le-leb (length ms) (length l) le) (record { answer-is = ap counted c′; list-is = written })
+      pub finds-full : length (tags (stepsFrom q (taken .query) 0)) ≤ length l → {r : ℕ} {l′ : List ℕ} → Walks (tags (stepsFrom q (taken .query) 0)) 0 l r l′
+          → Finds (within (length l) (asked doc q (i .head) (i .inner))) l (counted r) l′
+      finds-full room {r} {l′} w =
+          let ms = tags (stepsFrom q (taken .query) 0) in
+          let c : r ≡ length ms = let x = w .counted in omega arith in
+          let written : l′ ≡ over l 0 ms = w .listed ∙ noted-all 0 ms l (omega arith) ∙ sets-over ms l 0 (omega arith) in
+          rw (asks, le-leb (length ms) (length l) room) (record { answer-is = ap counted c; list-is = written })
 
 -- ---- the whole answer
 

@@ -1,17 +1,18 @@
 -- Records side by side in a table, and what the walk below one record may rely on.
 -- Assumes nothing.
-use Prim.Native.Nat.{ℕ, _+_, _-_, _*_, _≤_}
+use Prim.Native.Nat.{ℕ, zero, suc, _+_, _*_, _≤_, max}
 use mathlib.Core.Path.{_≡_}
 use mathlib.Core.List.{List}
-use mathlib.Core.Bool.{Bool, true, false}
+use mathlib.Core.Bool.{Bool}
 use lib.ListN.{length}
-use Rattle.form.specs.Answer.{got, depthLimit, recordLimit}
-use Rattle.form.specs.Table.{Forest, none, size, word, holds}
+use lib.Dec.{ltb}
+use Rattle.form.specs.Answer.{pick, depthLimit, recordLimit}
+use Rattle.form.specs.Table.{Forest, size, word}
 use Rattle.form.specs.Tables.{Fair}
-use Rattle.form.specs.Query.{shallow}
+use Rattle.form.specs.Paths.{Hop}
 use Rattle.form.specs.Records.{Sits}
-use Rattle.steps.specs.Levels.{recordNo, Ready}
-use Rattle.steps.specs.declared.Query.{Query}
+use Rattle.reach.specs.Levels.{RecordIn}
+use Rattle.reach.specs.Plans.{Reaches}
 
 -- The records from `from` up to `end`, with those in them: they stand in the table, and are as rule 7 has them over a document of d bytes.
 pub record Side (d : ℕ) (t : List ℕ) (from end : ℕ) : Type 0 where
@@ -25,20 +26,24 @@ pub record Side (d : ℕ) (t : List ℕ) (from end : ℕ) : Type 0 where
 abbrev pub Held : ℕ → List ℕ → ℕ → Type 0
 Held d t n = Side d t (n + 1) (word t n 7)
 
--- The record at the end of a path of d levels, n, and those in it: only a list or a compound holds any, and stands within the depth.
-pub record Under (doc t : List ℕ) (n d : ℕ) : Type 0 where
-  pub side : Held (length doc) t n
-  pub bare : holds (word t n 0) ≡ false → side .forest ≡ none
-  pub deep : holds (word t n 0) ≡ true → (d ≤ depthLimit) × (shallow (depthLimit - d) (n + 1) (side .forest) ≡ got tt)
-  pub row : 8 * n + 8 ≤ length t
-  pub few : length t ≤ 8 * recordLimit
+-- How many levels the records from `from` up to `end` have, each with those in it, of which `most` are looked at: the walk's depth.
+unfoldable pub levelsBy : ℕ → List ℕ → ℕ → ℕ → ℕ
+levelsBy zero t from end = 0
+levelsBy (suc most) t from end =
+    pick (ltb from end) (max (suc (levelsBy most t (from + 1) (word t from 7))) (levelsBy most t (word t from 7) end)) 0
 
--- What the walk may rely on: a query, a path of d levels whose last is that record, and a list with the room.
-pub record Walkable (doc t q : List ℕ) (query : Query) (trail : List ℕ) (d : ℕ) (list : List ℕ) (room count : ℕ) : Type 0 where
-  pub ready : Ready doc t q query trail d
-  pub some : 1 ≤ d
-  pub long : length trail ≡ 2 * (depthLimit + 1)
-  pub under : Under doc t (recordNo trail (d - 1)) d
-  pub levels : d ≤ depthLimit + 1
-  pub fits : room ≤ length list
-  pub counted : count ≤ recordNo trail (d - 1) + 1
+-- The levels below record n.
+abbrev pub levelsBelow : List ℕ → ℕ → ℕ
+levelsBelow t n = levelsBy (length t) t (n + 1) (word t n 7)
+
+-- What the walk over the records in record n may rely on: the record and those in it, which have no more levels than containers may stand
+-- within each other; the set of a path; and how many tags were counted before.
+pub record Walkable (doc t q plan : List ℕ) (n set count : ℕ) : Type 0 where
+  pub side : Held (length doc) t n
+  pub own : RecordIn doc t n
+  pub few : length t ≤ 8 * recordLimit
+  pub shallow : levelsBelow t n ≤ depthLimit
+  pub total : ℕ
+  pub path : List Hop
+  pub reaches : Reaches q plan total path set
+  pub counted : count ≤ n + 1

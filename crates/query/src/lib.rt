@@ -1,5 +1,5 @@
-// Rule 9 and demand 3: the numbers of the tags of a table that match a query. One walk in file order with the path to each record, and no
-// way below a record under which nothing can match; the matches are counted first, and then written.
+// Rule 9 and demand 3: the numbers of the tags of a table that match a query. One walk in file order hands down from each record to those in
+// it the set of the steps that may come next, and passes over a record in which nothing can match.
 use steps::Query;
 use table::Verdict;
 ghost use mathlib.Core.Path.{_≡_};
@@ -12,10 +12,10 @@ ghost use Rattle.form.specs.Tables.{IsTable};
 ghost use Rattle.form.specs.Paths.{matches};
 ghost use Rattle.form.specs.Query.{shallow, asked, within, failed, Finds, QueryIs};
 ghost use Rattle.steps.specs.Steps.{stepsFrom, QueryIn};
-ghost use Rattle.steps.specs.Levels.{recordNo, hopsFrom};
+ghost use Rattle.reach.specs.Sets.{has as hasIn};
 ghost use Rattle.query.specs.Found.{foundCount, depthOut};
 ghost use Rattle.query.specs.Sides.{Side, Walkable};
-ghost use Rattle.query.specs.Walks.{hit, Walks, foundAt, foundIn, Done};
+ghost use Rattle.query.specs.Walks.{Walks, hit, goesIn, Done};
 
 // The answer to a query: how many tags match, whose numbers stand in the list; or the number and the place of the refusal, and in 24 how
 // many match.
@@ -35,9 +35,6 @@ enum Depth {
     Fine,
     TooDeep(usize),
 }
-
-// The words of a path: two for each level. What stands in 512 containers is at most at level 513.
-const TRAIL: usize = 2 * (form::DEPTH + 1);
 
 // ---- depth
 
@@ -65,91 +62,84 @@ fn first_deep(table: &[u32], from: usize, end: usize, left: usize) -> Depth
 
 // ---- the walk
 
-// A match is counted, and written if there is room for it.
-fn note(list: &mut [u32], room: usize, count: usize, matched: bool, n: usize) -> usize
-    requires { ⌜ (room ≤ length (now list)) × (count ≤ recordLimit) × (n ≤ recordLimit) ⌝ }
-    ensures { λ r. ⌜ Walks (hit matched n) room count (now (list .entry)) r (now (list .exit)) ⌝ }
+// A match is counted, and written if there is room for it: record n, where the end is in its set.
+fn note(list: &mut [u32], count: usize, set: u32, n: usize) -> usize
+    requires { ⌜ (count ≤ recordLimit) × (n ≤ recordLimit) ⌝ }
+    ensures { λ r. ⌜ Walks (hit (hasIn set 0) n) count (now (list .entry)) r (now (list .exit)) ⌝ }
 {
-    if !matched {
+    if !reach::has(set, 0) {
         return count;
     }
-    if count < room {
+    if count < list.len() {
         list[count] = n as u32;
         return count + 1;
     }
     count + 1
 }
 
-// The record at the end of a path of d levels, and those in it. Nothing below it is looked at where no path that goes on from it can fit.
-fn visit(
-    doc: &[u8],
-    table: &[u32],
-    q: &[u8],
-    query: Query,
-    trail: &mut [u32],
-    d: usize,
-    list: &mut [u32],
-    room: usize,
-    count: usize,
-) -> usize
-    requires { ⌜ (Walkable (now doc) (now table) (now q) query (now trail) d (now list) room count) × (count ≤ recordNo (now trail) (d - 1)) ⌝ }
-    ensures { λ r. ⌜ Done (now (doc .entry)) (now (table .entry)) (recordNo (now (trail .entry)) (d - 1)) (foundAt (now (doc .entry)) (now (table .entry)) (now (q .entry)) query (recordNo (now (trail .entry)) (d - 1)) (hopsFrom (now (doc .entry)) (now (table .entry)) (now (trail .entry)) d 1)) d (now (trail .entry)) (now (trail .exit)) room count (now (list .entry)) r (now (list .exit)) ⌝ }
+// Whether the records in record n, which ends at `end`, are looked at.
+fn goes_in(set: u32, n: usize, end: usize) -> bool
+    requires { ⌜ n ≤ recordLimit ⌝ }
+    ensures { λ r. ⌜ r ≡ goesIn set n end ⌝ }
 {
-    let n = steps::record_at(trail, d - 1);
-    let matched = steps::path_fits(doc, table, q, query, trail, d);
-    let more = note(list, room, count, matched, n);
-    if !table::is_container(table::word(table, n, table::KIND)) {
-        return more;
+    if n + 1 < end {
+        return reach::goes_on(set);
     }
-    if !steps::goes_on(doc, table, q, query, trail, d) {
-        return more;
-    }
-    visit_all(doc, table, q, query, trail, d, list, room, more)
+    false
 }
 
-// The records in the record at the end of a path of d levels, one after the other, each with those in it.
+// The records in record n, one after the other, each with those in it, where `set` has the steps that may come next. Nothing in a record is
+// looked at where none may.
 fn visit_all(
     doc: &[u8],
     table: &[u32],
     q: &[u8],
-    query: Query,
-    trail: &mut [u32],
-    d: usize,
+    plan: &[u32; reach::PLAN],
+    n: usize,
+    set: u32,
     list: &mut [u32],
-    room: usize,
     count: usize,
 ) -> usize
-    requires { ⌜ (Walkable (now doc) (now table) (now q) query (now trail) d (now list) room count) × (holds (wordOf (now table) (recordNo (now trail) (d - 1)) 0) ≡ true) ⌝ }
-    ensures { λ r. ⌜ Done (now (doc .entry)) (now (table .entry)) (recordNo (now (trail .entry)) (d - 1)) (foundIn (now (doc .entry)) (now (table .entry)) (now (q .entry)) query (recordNo (now (trail .entry)) (d - 1)) (hopsFrom (now (doc .entry)) (now (table .entry)) (now (trail .entry)) d 1)) d (now (trail .entry)) (now (trail .exit)) room count (now (list .entry)) r (now (list .exit)) ⌝ }
+    requires { ⌜ Walkable (now doc) (now table) (now q) (now plan) n set count ⌝ }
+    ensures { λ r. ⌜ Done (now (doc .entry)) (now (table .entry)) (now (q .entry)) (now (plan .entry)) n set count (now (list .entry)) r (now (list .exit)) ⌝ }
 {
-    let parent = steps::record_at(trail, d - 1);
-    let end = table::word(table, parent, table::END);
+    let end = table::word(table, n, table::END);
     let mut more = count;
-    let mut i = parent + 1;
+    let mut i = n + 1;
     let mut index: usize = 0;
     while i < end {
-        trail[2 * d] = i as u32;
-        trail[2 * d + 1] = index as u32;
-        more = visit(doc, table, q, query, trail, d + 1, list, room, more);
-        i = table::word(table, i, table::END);
+        let own = reach::next(doc, table, q, plan, set, n, i, index);
+        more = note(list, more, own, i);
+        let next = table::word(table, i, table::END);
+        if goes_in(own, i, next) {
+            more = visit_all(doc, table, q, plan, i, own, list, more);
+        }
+        i = next;
         index += 1;
     }
     more
 }
 
-// How many tags of a table match; the numbers of the first `room` of them are written into the list.
-fn walk(doc: &[u8], table: &[u32], q: &[u8], query: Query, list: &mut [u32], room: usize) -> usize
-    requires { ⌜ (IsTable (length (now doc)) (now table)) × ((i : IsTable (length (now doc)) (now table)) → shallow depthLimit 0 (node (i .head) (i .inner) none) ≡ got tt) × (length (now table) ≤ 8 * recordLimit) × (QueryIn (now q) query) × (room ≤ length (now list)) ⌝ }
-    ensures { λ r. ⌜ ((i : IsTable (length (now (doc .entry))) (now (table .entry))) → Walks (matches (valueOf (now (doc .entry)) (i .head) (i .inner)) (stepsFrom (now (q .entry)) query 0)) room 0 (now (list .entry)) r (now (list .exit))) ⌝ }
+// How many tags of a table match; their numbers are written into the list as far as it has room.
+fn walk(doc: &[u8], table: &[u32], q: &[u8], query: Query, list: &mut [u32]) -> usize
+    requires { ⌜ ((i : IsTable (length (now doc)) (now table)) × (shallow depthLimit 0 (node (i .head) (i .inner) none) ≡ got tt)) × (length (now table) ≤ 8 * recordLimit) × (QueryIn (now q) query) ⌝ }
+    ensures { λ r. ⌜ ((i : IsTable (length (now (doc .entry))) (now (table .entry))) → Walks (matches (valueOf (now (doc .entry)) (i .head) (i .inner)) (stepsFrom (now (q .entry)) query 0)) 0 (now (list .entry)) r (now (list .exit))) ⌝ }
 {
-    let mut trail = [0u32; TRAIL];
-    visit(doc, table, q, query, &mut trail, 1, list, room, 0)
+    let mut plan = [0u32; reach::PLAN];
+    reach::lay(query, &mut plan);
+    let set = reach::start(&plan, query.count);
+    let more = note(list, 0, set, 0);
+    if goes_in(set, 0, table::word(table, 0, table::END)) {
+        return visit_all(doc, table, q, &plan, 0, set, list, more);
+    }
+    more
 }
 
 // ---- the answer
 
 // What asking a table gives: a container too deep (7), then a query that is malformed (14), then more matches than there is room (24), with
-// the true count. The list is written only once the count is known to fit.
+// the true count. The list is written only where the count is known to fit: it has a word for every record, or the matches were counted
+// before, in a walk whose list is not the caller's.
 fn ask(doc: &[u8], table: &[u32], q: &[u8], list: &mut [u32]) -> Found
     requires { ⌜ (IsTable (length (now doc)) (now table)) × (length (now table) ≤ 8 * recordLimit) ⌝ }
     ensures { λ r. ⌜ ((i : IsTable (length (now (doc .entry))) (now (table .entry))) → Finds (within (length (now (list .entry))) (asked (now (doc .entry)) (now (q .entry)) (i .head) (i .inner))) (now (list .entry)) (foundCount r) (now (list .exit))) ⌝ }
@@ -163,17 +153,19 @@ fn ask(doc: &[u8], table: &[u32], q: &[u8], list: &mut [u32]) -> Found
     if !taken.ok {
         return refused(form::BAD_QUERY, taken.place);
     }
-    let count = walk(doc, table, q, query, list, 0);
-    if list.len() < count {
-        return Found::Refused {
-            number: form::MORE_MATCHES,
-            place: 0,
-            count: count,
-        };
+    if list.len() < table.len() / table::WORDS {
+        let mut none = [0u32; 1];
+        let count = walk(doc, table, q, query, &mut none);
+        if list.len() < count {
+            return Found::Refused {
+                number: form::MORE_MATCHES,
+                place: 0,
+                count: count,
+            };
+        }
     }
-    let room = list.len();
     Found::Matches {
-        count: walk(doc, table, q, query, list, room),
+        count: walk(doc, table, q, query, list),
     }
 }
 

@@ -1,10 +1,9 @@
 -- A step and a level, case by case: what a struct's step is, what a level is in the table's words, and whether the one takes the other.
 -- Assumes nothing.
-use Prim.Native.Nat.{ℕ, _+_, _-_, _≤_, _<_}
+use Prim.Native.Nat.{ℕ, _+_, _≤_}
 use mathlib.Core.Path.{_≡_, refl, sym, _∙_}
 use mathlib.Core.List.{List, _∷_}
 use mathlib.Core.Bool.{Bool, true, false}
-use native.Mathlib.Omega.{arith}
 use lib.ListN.{length}
 use lib.Dec.{eqb}
 use borrow.Author.Tests.{ne-eqb}
@@ -14,11 +13,10 @@ use Rattle.form.specs.Table.{word}
 use Rattle.form.specs.Paths.{Hop, named, item, name, index, any, deep, takes}
 use Rattle.form.specs.Records.{hopOf}
 use Rattle.form.proofs.Spans.{same-head, same-differ, same-lengths, part-length}
 use Rattle.steps.specs.Steps.{stepOf}
-use Rattle.steps.specs.Levels.{recordNo, indexNo, nameOf, hopTo, hopNo, RecordIn, LevelIn, Ready}
-use Rattle.steps.specs.Three.{isDeep}
 use Rattle.steps.specs.declared.Step.{Step as StepWords}
-use Rattle.steps.specs.declared.Query.{Query}
+use Rattle.reach.specs.Levels.{nameOf, hopTo, RecordIn}
+use Rattle.reach.specs.Reached.{isDeep}
 
 -- Two lists that begin alike, and two that do not.
 pub same-more : (p q : List ℕ) (a b : ℕ) (s t : List ℕ) → p ≡ a ∷ s → q ≡ b ∷ t → a ≡ b → same p q ≡ same s t
@@ -63,7 +61,7 @@ module _ (q : List ℕ) (t : StepWords) where
       go false false = refl
 
   -- 03 and 04 take any level.
-  takes-rest : (t .kind ≡ 1 → ⊥) → (t .kind ≡ 2 → ⊥) → (h : Hop) → takes (stepOf q t) h ≡ true
+  pub takes-rest : (t .kind ≡ 1 → ⊥) → (t .kind ≡ 2 → ⊥) → (h : Hop) → takes (stepOf q t) h ≡ true
   unfolding stepOf
   takes-rest a b h = rw (ne-eqb (t .kind) 1 a, ne-eqb (t .kind) 2 b) (go (eqb (t .kind) 4) h)
     where
@@ -101,14 +99,3 @@ module _ (doc w q : List ℕ) (t : StepWords) (parent c i : ℕ) where
 
   pub takes-any : (t .kind ≡ 1 → ⊥) → (t .kind ≡ 2 → ⊥) → true ≡ takes (stepOf q t) (hopTo doc w parent c i)
   takes-any a b = sym (takes-rest q t a b (hopTo doc w parent c i))
-
--- The level that a step was held against is level p of the path.
-pub level-is : (doc w q trail : List ℕ) (t : StepWords) (p : ℕ) {parent c i : ℕ} (r : Bool) → parent ≡ recordNo trail (p - 1) → c ≡ recordNo trail p → i ≡ indexNo trail p
-    → r ≡ takes (stepOf q t) (hopTo doc w parent c i) → r ≡ takes (stepOf q t) (hopNo doc w trail p)
-level-is doc w q trail t p r x y z e = rw (← x, ← y, ← z) e
-
--- Each level of a path but the root's has a parent.
-pub level-in : (doc t q : List ℕ) (query : Query) (trail : List ℕ) (d p : ℕ) → Ready doc t q query trail d → 1 ≤ p → p < d → LevelIn doc t trail p
-level-in doc t q query trail d p r some lt =
-    let long = r .long in
-    record { below = some; long = omega arith; parent = r .records (p - 1) (omega arith); own = r .records p lt }

@@ -1,4 +1,2 @@
 pub mod Steps
 pub mod Spelling
-pub mod Levels
-pub mod Three

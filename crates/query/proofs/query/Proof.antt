@@ -7,21 +7,31 @@ use Rattle.query.proofs.query.Tie as tie
 
 ask-requires : tie.Need-ask-requires
 ask-requires c κs =
-    let v = rw (c .before .enum-told3 .given .1) at (c .before .before .before .is-table .ensures .0) in
+    let at-told = c .before in
+    let at-check = at-told .before .before in
+    let v = rw (at-told .enum-told3 .given .1) at (at-check .is-table .ensures .0) in
     (v .1, v .0 .words)
 
 returns : tie.Need-returns
-returns c = query-large _ _ _ _ (rw (c .before .enum-told .given .1) at (c .before .before .before .is-table .ensures .0)) _ (c .refused .ensures)
+returns c =
+    let at-told = c .before in
+    let at-check = at-told .before .before in
+    query-large _ _ _ _ (rw (at-told .enum-told .given .1) at (at-check .is-table .ensures .0)) _ (c .refused .ensures)
 
 returns-2 : tie.Need-returns-2
 returns-2 c =
-    let v = rw (c .before .enum-told2 .given .1) at (c .before .before .before .is-table .ensures .0) in
+    let at-told = c .before in
+    let at-check = at-told .before .before in
+    let v = rw (at-told .enum-told2 .given .1) at (at-check .is-table .ensures .0) in
     query-unfit _ _ _ _ (v .0) (v .1) _ (c .refused2 .ensures)
 
 returns-3 : tie.Need-returns-3
 returns-3 c =
-    let v = rw (c .before .before .before .before .enum-told3 .given .1) at (c .before .before .before .before .before .before .is-table .ensures .0) in
-    query-fit _ _ _ _ (v .0) (v .1) _ _ (c .before .before .ask .ensures)
+    let at-ask = c .before .before in
+    let at-told = at-ask .before .before in
+    let at-check = at-told .before .before in
+    let v = rw (at-told .enum-told3 .given .1) at (at-check .is-table .ensures .0) in
+    query-fit _ _ _ _ (v .0) (v .1) _ _ (at-ask .ask .ensures)
 
 pub query-spec : {M : Type 1} → statement M
 query-spec =

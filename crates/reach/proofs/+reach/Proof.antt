@@ -1,0 +1,205 @@
+-- `reach::reach` meets its contract: each way through the code is one of the laws of Gathering, and a call is asked with fewer steps and hops
+-- left. Assumes nothing.
+use Prim.Native.Nat.{ℕ, zero, suc, _+_, _<_}
+use mathlib.Core.Path.{_≡_, refl, sym, _∙_}
+use native.Mathlib.Omega.{arith}
+use borrow.Author.Tests.{not-true, not-false}
+use borrow.Fn.Kinds.{In, Out}
+use borrow.Fn.PlainCycle.{Measures, is, falls, and}
+use Rattle.reach.proofs.Gathering.{deep-some, take-some, here-had, here-one, past-ready, here-deep, over-ready, stay-ready, hop-deep, hop-on, hop-off}
+use Rattle.reach.proofs.reach.Reads as reach
+use Rattle.reach.proofs.reach.Kinds as kinds
+use Rattle.reach.proofs.+reach.Lts-reach as lts
+use Rattle.reach.proofs.has.Reads as has-reads
+use Rattle.reach.proofs.only.Reads as only-reads
+use Rattle.reach.proofs.+reach.{statement}
+use Rattle.reach.proofs.+reach.Tie.{close}
+
+-- What falls: the steps left and the hops left together.
+abbrev μ : Measures 0 kinds.ps ℕ
+μ κs a = a .1 .1 .0 + a .1 .1 .1 .0
+
+abbrev at : ℕ → In 0 kinds.ps
+at t = and 0 kinds.ps (is 0 kinds.ps μ t) reach.Pre
+
+abbrev below : ℕ → In 0 kinds.ps
+below t = and 0 kinds.ps (falls 0 kinds.ps _<_ μ t) reach.Pre
+
+abbrev On : ℕ → (lts.Claims → In 0 kinds.ps → Out 0 kinds.ps kinds.r → Type 0) → Type 0
+On t F = F (has-reads.Asked, has-reads.Learnt, only-reads.Asked, only-reads.Learnt, below t, reach.Post) (at t) reach.Post
+
+positive : (n : ℕ) → (n ≡ 0 → ⊥) → 0 < n
+positive zero e = absurd (e refl)
+positive (suc n) e = omega arith
+
+module _ (t : ℕ) where
+  -- The places: where the function begins, where no hop is left, and where one is.
+  abbrev put-start : On t lts.After-only → On t lts.Start
+  put-start c = let at-has = c .before .before in at-has .before .before
+
+  abbrev else-start : On t lts.Else4 → On t lts.Start
+  else-start c = c .before .before .before
+
+  has-requires : On t lts.Need-has-requires
+  has-requires c κs = c .before .pre .1 .0
+
+  returns : On t lts.Need-returns
+  returns c =
+      let at-has = c .before in
+      let at-then1 = at-has .before in
+      λ f h v. here-had v (at-then1 .if1 .taken) (sym (at-has .has .ensures) ∙ c .if2 .taken)
+
+  only-requires : On t lts.Need-only-requires
+  only-requires c κs = c .before .before .before .pre .1 .0
+
+  has-requires-2 : On t lts.Need-has-requires-2
+  has-requires-2 c κs = put-start c .pre .1 .0
+
+  returns-2 : On t lts.Need-returns-2
+  returns-2 c =
+      let at-has2 = c .before in
+      let at-only = at-has2 .before in
+      let at-then1 = at-only .before .before .before in
+      λ f h v. here-one v (at-then1 .if1 .taken) (sym (at-has2 .has2 .ensures) ∙ not-true _ (c .if3 .taken)) (at-only .only .ensures)
+
+  -- The step is 04.
+  deep-here : (c : On t lts.Else3) → 0 < put-start (c .before .before) .args .s
+  deep-here c =
+      let at-has2 = c .before in
+      deep-some (put-start (at-has2 .before) .pre .1 .1 .2) (sym (at-has2 .has2 .ensures) ∙ not-false _ (c .if3 .left))
+
+  sub-reach : On t lts.Need-sub-reach
+  sub-reach c = let some = deep-here c in omega arith
+
+  reach-requires : On t lts.Need-reach-requires
+  reach-requires c κs =
+      let at-only = c .before .before in
+      let at-then1 = at-only .before .before .before in
+      let at-start = put-start at-only in
+      let some = deep-here c in
+      let e = at-start .pre .0 in
+      let z = at-then1 .if1 .taken in
+      let few = at-start .pre .1 .0 in
+      let w = at-start .pre .1 .1 in
+      (omega arith, (omega arith, (w .0, w .1, past-ready (w .2) some)))
+
+  returns-3 : On t lts.Need-returns-3
+  returns-3 c =
+      let at-else3 = c .before in
+      let at-has2 = at-else3 .before in
+      let at-only = at-has2 .before in
+      let at-then1 = at-only .before .before .before in
+      let some = deep-here at-else3 in
+      λ f h v. here-deep v some (at-then1 .if1 .taken) (sym (at-has2 .has2 .ensures) ∙ not-false _ (at-else3 .if3 .left)) (c .reach .ensures f h (past-ready v some)) (at-only .only .ensures)
+
+  has-requires-3 : On t lts.Need-has-requires-3
+  has-requires-3 c κs = c .before .pre .1 .0
+
+  -- The step is 04, and a hop is left.
+  deep-hop : (c : On t lts.Then4) → 0 < c .before .before .before .args .s
+  deep-hop c =
+      let at-has3 = c .before in
+      let at-start = at-has3 .before .before in
+      deep-some (at-start .pre .1 .1 .2) (sym (at-has3 .has3 .ensures) ∙ c .if4 .taken)
+
+  sub-reach-2 : On t lts.Need-sub-reach-2
+  sub-reach-2 c = let some = deep-hop c in omega arith
+
+  reach-requires-2 : On t lts.Need-reach-requires-2
+  reach-requires-2 c κs =
+      let at-has3 = c .before in
+      let at-else1 = at-has3 .before in
+      let at-start = at-else1 .before in
+      let some = deep-hop c in
+      let e = at-start .pre .0 in
+      let few = at-start .pre .1 .0 in
+      let w = at-start .pre .1 .1 in
+      (omega arith, (omega arith, (w .0, w .1, over-ready (w .2) some (at-else1 .if1 .left) (sym (at-has3 .has3 .ensures) ∙ c .if4 .taken))))
+
+  reach-requires-3 : On t lts.Need-reach-requires-3
+  reach-requires-3 c κs =
+      let at-then4 = c .before in
+      let at-has3 = at-then4 .before in
+      let at-else1 = at-has3 .before in
+      let at-start = at-else1 .before in
+      let some = deep-hop at-then4 in
+      let e = at-start .pre .0 in
+      let left = positive _ (at-else1 .if1 .left) in
+      let w = at-start .pre .1 .1 in
+      let d = sym (at-has3 .has3 .ensures) ∙ at-then4 .if4 .taken in
+      let further = c .reach2 .ensures (w .0) (w .1) (over-ready (w .2) some (at-else1 .if1 .left) d) in
+      (omega arith, (at-start .pre .1 .0, (w .0, w .1, stay-ready (w .2) some (at-else1 .if1 .left) d further)))
+
+  returns-4 : On t lts.Need-returns-4
+  returns-4 c =
+      let at-reach2 = c .before in
+      let at-then4 = at-reach2 .before in
+      let at-has3 = at-then4 .before in
+      let n = at-has3 .before .if1 .left in
+      let some = deep-hop at-then4 in
+      let d = sym (at-has3 .has3 .ensures) ∙ at-then4 .if4 .taken in
+      λ f h v. let further = at-reach2 .reach2 .ensures f h (over-ready v some n d) in
+      hop-deep v some n d further (c .reach3 .ensures f h (stay-ready v some n d further))
+
+  has-requires-4 : On t lts.Need-has-requires-4
+  has-requires-4 c κs = else-start c .pre .1 .0
+
+  -- The step takes the hop.
+  take-hop : (c : On t lts.Then5) → 0 < else-start (c .before .before) .args .s
+  take-hop c =
+      let at-has4 = c .before in
+      let at-else4 = at-has4 .before in
+      let at-else1 = at-else4 .before .before in
+      take-some (else-start at-else4 .pre .1 .1 .2) (at-else1 .if1 .left) (sym (at-has4 .has4 .ensures) ∙ c .if5 .taken)
+
+  sub-reach-3 : On t lts.Need-sub-reach-3
+  sub-reach-3 c = let some = take-hop c in omega arith
+
+  reach-requires-4 : On t lts.Need-reach-requires-4
+  reach-requires-4 c κs =
+      let at-start = else-start (c .before .before) in
+      let some = take-hop c in
+      let e = at-start .pre .0 in
+      let few = at-start .pre .1 .0 in
+      let w = at-start .pre .1 .1 in
+      (omega arith, (omega arith, (w .0, w .1, past-ready (w .2) some)))
+
+  returns-5 : On t lts.Need-returns-5
+  returns-5 c =
+      let at-then5 = c .before in
+      let at-has4 = at-then5 .before in
+      let at-else4 = at-has4 .before in
+      let at-has3 = at-else4 .before in
+      let n = at-has3 .before .if1 .left in
+      let some = take-hop at-then5 in
+      λ f h v. hop-on v some n (sym (at-has3 .has3 .ensures) ∙ at-else4 .if4 .left) (sym (at-has4 .has4 .ensures) ∙ at-then5 .if5 .taken) (c .reach4 .ensures f h (past-ready v some))
+
+  returns-6 : On t lts.Need-returns-6
+  returns-6 c =
+      let at-has4 = c .before in
+      let at-else4 = at-has4 .before in
+      let at-has3 = at-else4 .before in
+      λ f h v. hop-off v (at-has3 .before .if1 .left) (sym (at-has3 .has3 .ensures) ∙ at-else4 .if4 .left) (sym (at-has4 .has4 .ensures) ∙ c .if5 .left)
+
+pub +reach-spec : {M : Type 1} → statement M
++reach-spec =
+    close μ
+    (λ t. lts.spec (has-reads.Asked, has-reads.Learnt, only-reads.Asked, only-reads.Learnt, below t, reach.Post) (at t) reach.Post
+    (has-requires t)
+    (returns t)
+    (only-requires t)
+    (has-requires-2 t)
+    (returns-2 t)
+    (sub-reach t)
+    (reach-requires t)
+    (returns-3 t)
+    (has-requires-3 t)
+    (sub-reach-2 t)
+    (reach-requires-2 t)
+    (reach-requires-3 t)
+    (returns-4 t)
+    (has-requires-4 t)
+    (sub-reach-3 t)
+    (reach-requires-4 t)
+    (returns-5 t)
+    (returns-6 t))

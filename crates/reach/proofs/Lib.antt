@@ -1,0 +1,9 @@
+pub mod Runs
+pub mod Levels
+pub mod Bools
+pub mod Sets
+pub mod Reached
+pub mod Gathering
+pub mod Marks
+pub mod Hopping
+pub mod Plans

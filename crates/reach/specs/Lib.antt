@@ -1,0 +1,4 @@
+pub mod Levels
+pub mod Reached
+pub mod Sets
+pub mod Plans
