@@ -34,6 +34,10 @@ pub same-head : (x : ℕ) (xs ys : List ℕ) → same (x ∷ xs) (x ∷ ys) ≡ 
 unfolding same
 same-head x xs ys = rw (eq-eqb x x refl) refl
 
+pub same-self : (xs : List ℕ) → same xs xs ≡ true
+same-self [] = same-nil
+same-self (x ∷ xs) = same-head x xs xs ∙ same-self xs
+
 pub same-differ : (x y : ℕ) (xs ys : List ℕ) → (x ≡ y → ⊥) → same (x ∷ xs) (y ∷ ys) ≡ false
 unfolding same
 same-differ x y xs ys h = rw (ne-eqb x y h) refl

@@ -1,7 +1,7 @@
 -- What `reached` says of rule 9's `fits`, and of a path that goes on: a path fits exactly where the end may come next after it; what may come
 -- next after a longer path comes from what may after its beginning. And the set of a path in these terms.
 -- Assumes nothing.
-use Prim.Native.Nat.{ℕ, zero, suc, _-_, _≤_}
+use Prim.Native.Nat.{ℕ, zero, suc, _-_, _/_, _≤_}
 use mathlib.Core.Path.{_≡_, refl, sym, ap, ap₂, subst, _∙_}
 use mathlib.Core.Logic.{_⊎_, inl, inr}
 use mathlib.Core.List.{List, [], _∷_, _++_}
@@ -9,15 +9,16 @@ use mathlib.Core.Bool.{Bool, true, false, _||_, _&&_}
 use native.Mathlib.Omega.{arith}
 use lib.ListN.{length}
 use lib.Dec.{eqb, eqb·zero-suc}
-use borrow.Author.Tests.{eqb-true, eq-eqb}
+use borrow.Author.Tests.{eqb-true, eq-eqb, leb-true}
 use Rattle.form.specs.Answer.{pick}
 use Rattle.form.specs.Spans.{among}
-use Rattle.form.specs.Paths.{Hop, Step, name, index, any, deep, takes, oneThen, someTail, fits}
+use Rattle.form.specs.Paths.{Hop, named, item, Step, name, index, any, deep, takes, oneThen, someTail, fits}
+use Rattle.form.proofs.Spans.{same-self}
 use Rattle.reach.specs.Reached.{hopThen, deepThen, reached, lastOf, isDeep, deepAt}
 use Rattle.reach.specs.Sets.{has, goesOn}
 use Rattle.reach.specs.Plans.{planned, Reaches}
 use Rattle.reach.proofs.Bools.{no-way, or-left, or-right, or-cases, or-assoc, or-false, or-implied}
-use Rattle.reach.proofs.Sets.{off-steps}
+use Rattle.reach.proofs.Sets.{has-suc, some-bit, off-steps}
 
 -- ---- what is among some numbers
 
@@ -325,6 +326,45 @@ module _ (f : ℕ → Step) where
       go ih true d [] e = last ih d (deep-last k s d e)
       go ih true d (h ∷ p) e = either ih d h p (go ih true d p) (deep-in k s d h p e)
 
+-- ---- a path that fits
+
+-- A hop that a step takes.
+abbrev hopFor : Step → Hop
+hopFor (name n) = named n
+hopFor (index i) = item i
+hopFor any = item 0
+hopFor deep = item 0
+
+takes-own : (x : Step) → takes x (hopFor x) ≡ true
+takes-own (name n) = same-self n
+takes-own (index i) = eq-eqb i i refl
+takes-own any = refl
+takes-own deep = refl
+
+tail-here : (g : List Hop → Bool) (hs : List Hop) → g hs ≡ true → someTail g hs ≡ true
+unfolding someTail
+tail-here g [] e = e
+tail-here g (h ∷ hs) e = or-left (g (h ∷ hs)) (someTail g hs) e
+
+-- One such hop for each step is a path that fits.
+abbrev way : (ℕ → Step) → ℕ → List Hop
+way f zero = []
+way f (suc s) = hopFor (f (suc s)) ∷ way f s
+
+way-fits : (f : ℕ → Step) (s : ℕ) → fits (lastOf f s) (way f s) ≡ true
+unfolding lastOf oneThen someTail
+way-fits f zero = unfold fits in refl
+way-fits f (suc s) = go (way-fits f s) (isDeep (f (suc s))) refl
+  where
+    x : Step
+    x = f (suc s)
+
+    go : fits (lastOf f s) (way f s) ≡ true → (b : Bool) → isDeep x ≡ b → fits (x ∷ lastOf f s) (hopFor x ∷ way f s) ≡ true
+    go ih false d = fits-one x (lastOf f s) (hopFor x ∷ way f s) d ∙ rw (takes-own x) ih
+    go ih true d =
+        fits-deep x (lastOf f s) (hopFor x ∷ way f s) d
+        ∙ or-right (fits (lastOf f s) (hopFor x ∷ way f s)) (someTail (fits (lastOf f s)) (way f s)) (tail-here (fits (lastOf f s)) (way f s) ih)
+
 -- ---- the set of a path
 
 module _ {q plan : List ℕ} {n : ℕ} {p : List Hop} {set : ℕ} (v : Reaches q plan n p set) where
@@ -341,3 +381,27 @@ module _ {q plan : List ℕ} {n : ℕ} {p : List Hop} {set : ℕ} (v : Reaches q
       none : (j : ℕ) → has set j ≡ true → among (from (planned q plan) j (h ∷ hs)) 0 ≡ false
       none zero e = unfold among in (rw (end-hop (planned q plan) h hs))
       none (suc j) e = no-way (has set (suc j)) e (off-steps set o j)
+
+  -- Where one is, some path that goes on does.
+  pub record GoesOn : Type 0 where
+    pub hop : Hop
+    pub hops : List Hop
+    pub fit : fits (lastOf (planned q plan) n) (p ++ (hop ∷ hops)) ≡ true
+
+  pub reaches-on : goesOn set ≡ true → GoesOn
+  reaches-on e =
+      let le = leb-true 2 set e in
+      let one = some-bit (set / 2) (λ z. omega arith) in
+      goes (one .number) (has-suc set (one .number) ∙ one .is-in)
+    where
+      f : ℕ → Step
+      f = planned q plan
+
+      goes : (k : ℕ) → has set (suc k) ≡ true → GoesOn
+      goes k i = record {
+        hop = hopFor (f (suc k));
+        hops = way f k;
+        fit = reached-fits f n (p ++ way f (suc k)) ∙ reached-then f 0 n p (way f (suc k))
+            ∙ some-in (λ j. among (from f j (way f (suc k))) 0) (from f n p) (suc k) (sym (v .is .is (suc k)) ∙ i)
+            (sym (reached-fits f (suc k) (way f (suc k))) ∙ way-fits f (suc k));
+      }

@@ -72,6 +72,21 @@ same-bits = bin-ind (λ (a : ℕ). (b : ℕ) → ((k : ℕ) → has a k ≡ has 
 pub one-set : {g : ℕ → Bool} {a b : ℕ} → Bits g a → Bits g b → a ≡ b
 one-set {g} {a} {b} x y = same-bits a b (λ k. x .is k ∙ sym (y .is k))
 
+-- A word that is not 0 has a number in it.
+pub record Member (a : ℕ) : Type 0 where
+  pub number : ℕ
+  pub is-in : has a number ≡ true
+
+pub some-bit : (a : ℕ) → (a ≡ 0 → ⊥) → Member a
+some-bit = bin-ind (λ (a : ℕ). (a ≡ 0 → ⊥) → Member a) (λ n. absurd (n refl)) (λ a ih n. step a ih n (has a 0) refl)
+  where
+    step : (a : ℕ) → ((a / 2 ≡ 0 → ⊥) → Member (a / 2)) → (a ≡ 0 → ⊥) → (b : Bool) → has a 0 ≡ b → Member a
+    step a ih n true e = record { number = 0; is-in = e }
+    step a ih n false e =
+        let z = out-even a e in
+        let m = ih (λ x. n (omega arith)) in
+        record { number = suc (m .number); is-in = has-suc a (m .number) ∙ m .is-in }
+
 -- ---- what is in the sets that the code makes
 
 module _ (x y : ℕ) where

@@ -33,7 +33,7 @@ const DEEPS: usize = 0;
 const ASKS: usize = 1;
 
 // The words of sixteen steps, and of those two sets.
-pub const PLAN: usize = 51;
+pub const PLAN: usize = WORDS * (form::STEPS + 1);
 
 // A kind as a word.
 fn code(kind: u8) -> u32

@@ -7,13 +7,14 @@ use mathlib.Core.Path.{_≡_, refl, sym, ap, _∙_}
 use native.Mathlib.Omega.{arith}
 use native.Mathlib.Numerals.{sub-one, add-one}
 use native.Mathlib.Nat.{pow-suc, pow-succ', pow-le-pow-right, mul-le-mul-right, add-mul, mul-assoc}
-use borrow.Author.Tests.{eq-eqb, ne-eqb, eqb-true, ltb-true, ltb-false}
+use borrow.Author.Tests.{ne-eqb, eqb-true, ltb-true, ltb-false}
 use lib.ListN.{length, getD, take, drop, length-take, length-drop}
 use lib.Seq.{drop-cons}
 use lib.Dec.{eqb, ltb}
 use Rattle.form.specs.Spans.{same, part}
 use Rattle.form.specs.Numbers.{value}
 use Rattle.form.proofs.Numbers.{big-endian-first}
+use Rattle.form.proofs.Spans.{same-self}
 use Rattle.siblings.specs.Links.{fourOf, eightOf, num}
 
 pub part-length : (doc : List ℕ) (a n : ℕ) → a + n ≤ length doc → length (part doc a n) ≡ n
@@ -163,11 +164,6 @@ unfolding num
 num-is doc a n l = rw (part-length doc a n l) refl
 
 -- ---- names that are the same
-
-pub same-self : (xs : List ℕ) → same xs xs ≡ true
-unfolding same
-same-self [] = refl
-same-self (x ∷ xs) = rw (eq-eqb x x refl, same-self xs) refl
 
 and-true : (b c : Bool) → (b && c) ≡ true → (b ≡ true) × (c ≡ true)
 and-true true c h = (refl, h)
