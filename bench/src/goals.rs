@@ -44,11 +44,15 @@ pub enum Goal {
     RescueGrowth,
     TextTiles,
     TextGrowth,
-    QueryLevels,
+    QueryAnywhere,
+    QueryPath,
+    QueryWorst,
+    QueryDepth,
+    QueryStack,
 }
 
-/// The last two bounds, and the tenth over a copy, are what "linear", "proportional" and "at the speed of" are taken for here.
-const GOALS: [(Goal, &str, Wanted); 12] = [
+/// The bound of the texts' growth, and the tenth over a copy, are what "linear" and "at the speed of" are taken for here.
+const GOALS: [(Goal, &str, Wanted); 16] = [
     (Goal::Strings, "string checks, throughput over from_utf8's", Wanted::AtLeast(0.8)),
     (Goal::ReadTiles, "reading tiles, the crate's time over ours", Wanted::AtLeast(10.0)),
     (Goal::ReadNeverSlower, "reading anything, the crate's time over ours", Wanted::AtLeast(1.0)),
@@ -60,7 +64,11 @@ const GOALS: [(Goal, &str, Wanted); 12] = [
     (Goal::RescueGrowth, "rescuing tiles and one compound in sorted order, time a record at 10^6 over 10^3", Wanted::AtMost(3.0)),
     (Goal::TextTiles, "texts of tiles, the crate's time over ours", Wanted::AtLeast(3.0)),
     (Goal::TextGrowth, "texts, time a byte at 10^6 bytes over 10^4", Wanted::AtMost(3.0)),
-    (Goal::QueryLevels, "queries, time by levels and steps on a path of 512 over one of 32", Wanted::AtMost(3.0)),
+    (Goal::QueryAnywhere, "asking tiles for `root/**/name`, room for every record, ns a record", Wanted::AtMost(35.0)),
+    (Goal::QueryPath, "the same without `**`, for `root/Tiles/*/name`", Wanted::AtMost(25.0)),
+    (Goal::QueryWorst, "each of the five queries that cost most, at any depth, ns a record", Wanted::AtMost(100.0)),
+    (Goal::QueryDepth, "queries that cost most, time a record on a path of 512 over one of 32", Wanted::AtMost(2.0)),
+    (Goal::QueryStack, "asking a document 512 deep, KiB of stack", Wanted::AtMost(128.0)),
 ];
 
 struct Found {

@@ -1,6 +1,6 @@
 //! Our own times as the input grows: the sizes take turns as sides do.
 use crate::goals::Goal;
-use crate::harness::each;
+use crate::harness::{figure, Spread};
 use crate::{markdown, Bench};
 
 /// A call on one input, and the records or bytes that its time is divided by.
@@ -22,8 +22,8 @@ pub fn head(what: &str, sizes: &[usize]) {
     markdown::head(&columns.iter().map(String::as_str).collect::<Vec<_>>());
 }
 
-/// One row, whose factor is noted for the goal.
-pub fn row(bench: &mut Bench, what: &str, mut calls: Vec<Call>, goal: Option<Goal>) {
+/// One row, whose factor is noted for the goal. Answers the nanoseconds a piece, size by size.
+pub fn row(bench: &mut Bench, what: &str, mut calls: Vec<Call>, goal: Option<Goal>) -> Vec<Spread> {
     let pieces: Vec<usize> = calls.iter().map(|c| c.pieces).collect();
     let mut sides: Vec<&mut dyn FnMut()> = Vec::new();
     for c in &mut calls {
@@ -32,11 +32,13 @@ pub fn row(bench: &mut Bench, what: &str, mut calls: Vec<Call>, goal: Option<Goa
     let times = bench.plan.measure(&mut sides);
     let last = pieces.len() - 1;
     let factor = times.ratio(last, 0).times(pieces[0] as f64 / pieces[last] as f64);
+    let by_size: Vec<Spread> = (0..=last).map(|i| times.each(i, pieces[i])).collect();
     let mut cells = vec![what.to_string()];
-    cells.extend((0..=last).map(|i| each(times.of(i), pieces[i])));
+    cells.extend(by_size.iter().map(|time| figure(time.median)));
     cells.push(factor.to_string());
     markdown::row(&cells);
     if let Some(goal) = goal {
         bench.goals.note(goal, factor, what);
     }
+    by_size
 }

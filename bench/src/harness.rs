@@ -47,11 +47,6 @@ impl Plan {
         }
     }
 
-    /// As many rounds as this, where a call takes seconds.
-    pub fn with_rounds(self, rounds: usize) -> Plan {
-        Plan { rounds, ..self }
-    }
-
     pub fn new(quick: bool) -> Plan {
         if quick {
             Plan { quick, rounds: 3, share: 0.004 }
@@ -101,6 +96,11 @@ impl Times {
         Spread::over(self.0[side].clone()).median
     }
 
+    /// Nanoseconds a piece of so many, with their spread.
+    pub fn each(&self, side: usize, pieces: usize) -> Spread {
+        Spread::over(self.0[side].clone()).times(1e9 / pieces as f64)
+    }
+
     /// How many times as long as the other a side takes, round by round.
     pub fn ratio(&self, side: usize, other: usize) -> Spread {
         Spread::over(self.0[side].iter().zip(&self.0[other]).map(|(a, b)| a / b).collect())
@@ -116,6 +116,11 @@ pub struct Spread {
 }
 
 impl Spread {
+    /// What is the same in each round.
+    pub fn once(value: f64) -> Spread {
+        Spread { median: value, least: value, greatest: value }
+    }
+
     fn over(mut values: Vec<f64>) -> Spread {
         values.sort_by(f64::total_cmp);
         let n = values.len();

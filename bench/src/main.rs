@@ -1,4 +1,5 @@
 //! Prints the tables of docs/BENCHMARKS.md, section by section: see bench/run.
+mod by_hand;
 mod goals;
 mod growth;
 mod harness;
@@ -13,6 +14,7 @@ mod stack;
 mod strings;
 mod text;
 mod tokens;
+mod worst;
 mod write;
 
 use goals::Goals;

@@ -1,5 +1,7 @@
 //! How much stack each entry point takes: it is called on a thread whose stack was filled with a pattern, and what no longer has the pattern
 //! was touched. A frame that is set aside but never written to does not count.
+use crate::goals::Goal;
+use crate::harness::Spread;
 use crate::inputs::{around, list_text, nested, tile_text, wide, Doc, Order};
 use crate::library::{self, Answer, MOST_TEXT, WORDS};
 use crate::markdown::{self, grouped};
@@ -65,8 +67,8 @@ fn on_thread(stack: &mut [u64], job: &mut Job) {
     }
 }
 
-/// One call that is to end with this refusal, 0 for none.
-fn row(call: &str, input: &str, refusal: u64, mut f: impl FnMut() -> Answer) {
+/// One call that is to end with this refusal, 0 for none. Answers the bytes of stack.
+fn row(call: &str, input: &str, refusal: u64, mut f: impl FnMut() -> Answer) -> usize {
     let (bytes, answer) = taken(&mut f);
     assert_eq!(answer[0], refusal, "{call}, {input}");
     markdown::row(&[
@@ -75,17 +77,18 @@ fn row(call: &str, input: &str, refusal: u64, mut f: impl FnMut() -> Answer) {
         if refusal == 0 { "accepted".into() } else { format!("refused, {refusal}") },
         grouped(bytes),
     ]);
+    bytes
 }
 
-pub fn section(_: &mut Bench) {
+pub fn section(bench: &mut Bench) {
     markdown::section("Stack", "stack");
     markdown::head(&["call", "input", "answer", "bytes of stack"]);
-    documents();
+    documents(bench);
     texts();
     strings();
 }
 
-fn documents() {
+fn documents(bench: &mut Bench) {
     let deep = nested(1, 512);
     read("a document 512 deep", &deep, 0);
     read("a document 513 deep", &nested(1, 513), 7);
@@ -98,7 +101,9 @@ fn documents() {
     row("tikfazrul_rescue", "one 512 deep, cut in the innermost", 0, || cut.rescue());
     let mut list = vec![0; deep.tags];
     for (what, query) in [("04 03, eight times", [4, 3].repeat(8)), ("04 01 x, eight times", [4, 1, 0, 1, b'x'].repeat(8))] {
-        row("tikfazrul_query", &format!("{what}, on one 512 deep"), 0, || library::query(&deep.bytes, &table, &query, &mut list));
+        let bytes =
+            row("tikfazrul_query", &format!("{what}, on one 512 deep"), 0, || library::query(&deep.bytes, &table, &query, &mut list));
+        bench.goals.note(Goal::QueryStack, Spread::once(bytes as f64 / 1024.0), what);
     }
 }
 
