@@ -236,18 +236,12 @@ fn bound(words: &[u32]) -> usize {
 /// # Ok::<(), tikfazrul::Refusal>(())
 /// ```
 pub fn query(doc: &[u8], table: &Table, query: &[u8]) -> Result<Vec<u32>, Refusal> {
-    let mut list = vec![0; 64];
-    loop {
-        match query_into(doc, table, query, &mut list) {
-            Ok(count) => {
-                list.truncate(count);
-                return Ok(list);
-            }
-            // the true number is at most the table's records
-            Err(Refusal::MoreMatches(matches)) if matches > list.len() => list.resize(matches, 0),
-            Err(refusal) => return Err(refusal),
-        }
-    }
+    // with room for every record the library walks once, and no more can match
+    let mut list = vec![0; table.len()];
+    let count = query_into(doc, table, query, &mut list)?;
+    list.truncate(count);
+    list.shrink_to_fit();
+    Ok(list)
 }
 
 /// Asks into a list that the caller lends, and says how many match. Refused: the list is as it was, and 24 says how many there are.

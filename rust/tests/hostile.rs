@@ -191,13 +191,13 @@ fn deep(open: &[u8], innermost: &[u8], close: &[u8]) -> Vec<u8> {
     [b"\x0A\0\0", &*open.repeat(510), innermost, &*close.repeat(511)].concat()
 }
 
-/// The queries of sixteen steps are those that recurse most: a step and a level at each call.
+/// On the smallest stack that the crate asks for.
 #[test]
-fn the_deepest_documents_on_a_stack_of_1_mib() {
+fn the_deepest_documents_on_a_stack_of_256_kib() {
     let compounds = deep(b"\x0A\0\0", b"\x0A\0\0\0", b"\0");
     let lists = [b"\x0A\0\0\x09\0\0", &*b"\x09\0\0\0\x01".repeat(510), &[0; 6]].concat();
     for doc in [compounds, lists] {
-        let small = std::thread::Builder::new().stack_size(1 << 20);
+        let small = std::thread::Builder::new().stack_size(256 << 10);
         let thread = small.spawn(move || {
             let mut table = read(&doc).unwrap();
             assert_eq!((table.len(), query(&doc, &table, &[4, 4, 4, 3, 4]).unwrap().len()), (512, 511));

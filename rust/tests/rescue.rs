@@ -67,11 +67,11 @@ fn more_records_than_first_thought() {
 
 /// The deepest that a document is, on the smallest stack that the crate asks for.
 #[test]
-fn the_deepest_on_a_stack_of_1_mib() {
+fn the_deepest_on_a_stack_of_256_kib() {
     let compounds = b"\x0A\0\0".repeat(MAX_DEPTH);
     let lists = [&b"\x0A\0\0\x09\0\0"[..], &b"\x09\0\0\0\x02".repeat(MAX_DEPTH - 2), b"\x01\0\0\0\x02\x07"].concat();
     for doc in [compounds, lists] {
-        let small = std::thread::Builder::new().stack_size(1 << 20);
+        let small = std::thread::Builder::new().stack_size(256 << 10);
         let thread = small.spawn(move || {
             let rescued = rescue(&doc).unwrap();
             assert_eq!(rescued.changes().len(), MAX_DEPTH);
