@@ -67,7 +67,7 @@ module _ (doc t : List ℕ) (i : IsTable (length doc) t) where
           side = root-side;
           own = root-own;
           few = few;
-          shallow = root-low fine;
+          bounded = root-low fine;
           total = m;
           path = [];
           reaches = reaches;

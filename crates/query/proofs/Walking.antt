@@ -258,14 +258,14 @@ module _ {doc t q plan : List ℕ} {n set : ℕ} {l₀ : List ℕ} {count₀ : �
         pub going-ready : Walkable doc t q plan i own r
         going-ready =
             let less = going-less in
-            let shallow = w .shallow in
+            let bounded = w .bounded in
             let counted = s .counted in
             let one = one-more (has own 0) i v in
             record {
               side = next .inner;
               own = going-own;
               few = w .few;
-              shallow = omega arith;
+              bounded = omega arith;
               total = w .total;
               path = _;
               reaches = hop (w .total) (w .path) (w .reaches);

@@ -42,7 +42,7 @@ pub record Walkable (doc t q plan : List ℕ) (n set count : ℕ) : Type 0 where
   pub side : Held (length doc) t n
   pub own : RecordIn doc t n
   pub few : length t ≤ 8 * recordLimit
-  pub shallow : levelsBelow t n ≤ depthLimit
+  pub bounded : levelsBelow t n ≤ depthLimit
   pub total : ℕ
   pub path : List Hop
   pub reaches : Reaches q plan total path set

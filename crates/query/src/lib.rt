@@ -3,11 +3,10 @@
 use steps::Query;
 use table::Verdict;
 ghost use mathlib.Core.Path.{_≡_};
-ghost use mathlib.Core.Bool.{true};
-ghost use Prim.Native.Nat.{ℕ, _+_, _-_, _*_, _≤_, _<_};
+ghost use Prim.Native.Nat.{ℕ, _*_, _≤_};
 ghost use lib.ListN.{length};
 ghost use Rattle.form.specs.Answer.{got, recordLimit, depthLimit};
-ghost use Rattle.form.specs.Table.{word as wordOf, node, none, holds, valueOf};
+ghost use Rattle.form.specs.Table.{node, none, valueOf};
 ghost use Rattle.form.specs.Tables.{IsTable};
 ghost use Rattle.form.specs.Paths.{matches};
 ghost use Rattle.form.specs.Query.{shallow, asked, within, failed, Finds, QueryIs};

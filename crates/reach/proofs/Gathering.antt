@@ -1,5 +1,5 @@
--- Gathering the steps that may come next, way by way: the recursion over the steps and the path left, and the loop that makes a child's set
--- from its parent's. Assumes nothing.
+-- Gathering the steps that may come next, way by way: the recursion over the steps and the path left.
+-- Assumes nothing.
 use Prim.Native.Nat.{ℕ, zero, suc, _-_, _^_, _<_}
 use mathlib.Core.Path.{_≡_, refl, sym, ap, subst, _∙_}
 use mathlib.Core.Logic.{_⊎_, inl, inr}
