@@ -1,5 +1,6 @@
 //! What comes from hostile hands is refused, and nothing crashes: empty slices, tables of odd lengths, words that form no table, wrong
 //! queries.
+use std::time::Instant;
 use tikfazrul::{mutf8, query, query_into, read, read_into, write, write_into, Place, Query, Refusal, Table};
 
 const TILE: &[u8] = b"\x0A\0\x01a\x01\0\x01b\xFF\0";
@@ -208,4 +209,32 @@ fn the_deepest_documents_on_a_stack_of_256_kib() {
         });
         thread.unwrap().join().unwrap();
     }
+}
+
+/// A list of so many paths of 510 compounds: records up to 512 deep.
+fn paths(n: u32) -> Vec<u8> {
+    let path = [&*b"\x0A\0\0".repeat(509), &[0; 510]].concat();
+    [b"\x0A\0\0\x09\0\0\x0A", &n.to_be_bytes()[..], &path.repeat(n as usize), b"\0"].concat()
+}
+
+/// A query costs its steps, not its depth: sixteen take a few times as long on records 512 deep as on as many side by side. A walk that tries
+/// the steps again at each level takes hundreds of times as long.
+#[test]
+fn a_query_costs_its_steps_and_not_its_depth() {
+    let deep = paths(40);
+    let records = read(&deep).unwrap().len() as u32;
+    assert_eq!(records, 2 + 40 * 510);
+    let wide = [b"\x0A\0\0\x09\0\0\x01", &(records - 2).to_be_bytes()[..], &vec![7; records as usize - 2], b"\0"].concat();
+    let hostile = [&[4], &[3; 14][..], b"\x01\0\x01y"].concat();
+    let [deep, wide] = [deep, wide].map(|doc| {
+        let table = read(&doc).unwrap();
+        assert_eq!(table.len(), records as usize);
+        let asked = || {
+            let start = Instant::now();
+            assert_eq!(query(&doc, &table, &hostile).unwrap(), []);
+            start.elapsed()
+        };
+        (0..5).map(|_| asked()).min().unwrap()
+    });
+    assert!(deep < 40 * wide, "{deep:?} deep, {wide:?} wide");
 }
