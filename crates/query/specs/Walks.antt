@@ -1,4 +1,4 @@
--- What the walk promises: the matches are counted on, and written into the list as far as there is room.
+-- What the walk promises (rule 9, demand 3): the matches are counted on, and written into the list as far as there is room.
 -- Assumes nothing.
 use Prim.Native.Nat.{ℕ, suc, _+_, _≤_}
 use mathlib.Core.Path.{_≡_}

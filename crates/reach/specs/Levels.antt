@@ -1,4 +1,4 @@
--- A record in the table, and the hop down to it.
+-- A record in the table (rule 6), and the hop down to it: by name in a compound, by number in a list (rule 9).
 -- Assumes nothing.
 use Prim.Native.Nat.{ℕ, _+_, _*_, _≤_}
 use mathlib.Core.List.{List}

@@ -1,4 +1,4 @@
--- A query's steps as words, three for each, and what it is for a set to be that of a path.
+-- Rule 9's steps, sixteen at the most, as words, three for each; and what it is for a set to be that of a path.
 -- Assumes nothing.
 use Prim.Native.Nat.{ℕ, zero, suc, _+_, _-_, _*_, _≤_, _<_}
 use mathlib.Core.Path.{_≡_}

@@ -1,4 +1,4 @@
--- Sets of step numbers as words, a bit for each number.
+-- Sets of the step numbers of rule 9's queries as words, a bit for each number.
 -- Assumes nothing.
 use Prim.Native.Nat.{ℕ, _/_, _%_, _^_, _≤_, _<_, _-_}
 use mathlib.Core.Path.{_≡_}
