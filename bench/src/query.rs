@@ -15,6 +15,7 @@ pub fn section(bench: &mut Bench) {
     growing(bench);
     beside(bench);
     worst::queries(bench);
+    worst::longest_names(bench);
 }
 
 /// The step to an entry.

@@ -1,7 +1,7 @@
 //! The queries that cost most, on the tables where they do.
 use crate::goals::Goal;
 use crate::harness::{figure, Plan};
-use crate::library;
+use crate::library::{self, WORDS};
 use crate::markdown::{self, grouped};
 use crate::Bench;
 
@@ -135,6 +135,25 @@ fn shapes(plan: Plan) -> [Shape; 4] {
         shape("nested", Words::nested, plan.size(5_200, 1_100), plan.size(500_000, 4_100)),
         shape("deepest", Words::deepest, plan.size(2_000, 1_000), plan.size(100_000, 2_000)),
     ]
+}
+
+/// The longest name, as the document and in each step: a table that no reader made may give it to every record.
+pub fn longest_names(bench: &mut Bench) {
+    const LONGEST: usize = u16::MAX as usize;
+    let (doc, mut deep) = (vec![b'x'; LONGEST], Words::deepest(1_000));
+    deep.words.chunks_exact_mut(WORDS).for_each(|record| record[2] = LONGEST as u32);
+    let step = [&[1, 0xFF, 0xFF], &doc[..]].concat();
+    let (query, mut list) = ([vec![4], step.repeat(15)].concat(), vec![0; deep.records]);
+    let mut ask = || {
+        let answer = library::query(&doc, &deep.words, &query, &mut list);
+        // all but those nearer to the root than fifteen levels
+        assert_eq!((answer[0], answer[2]), (0, deep.records as u64 - 15));
+    };
+    let times = bench.plan.measure(&mut [&mut ask]);
+    markdown::caption("The longest name in every record of a table that no reader made, and fifteen times in the query:");
+    markdown::head(&["table", "query", "records", "ns a record"]);
+    let time = figure(times.each(0, deep.records).median);
+    markdown::row(&["deepest", "04, 01 and 65,535 bytes fifteen times", &deep.records.to_string(), &time].map(String::from));
 }
 
 pub fn queries(bench: &mut Bench) {
