@@ -6,8 +6,42 @@ ghost use Prim.Native.Nat.{_<_, _^_};
 ghost use lib.Ieee.{binary64, toBits, round, ofInt};
 ghost use lib.Ieee.Nearest.{closest};
 ghost use Rattle.text_form.specs.Values.{signed};
+ghost use Rattle.floats.specs.Ties.{CaseIs, EvenOf};
 
-// The whole number nearest to n / 2^d, a tie to the even one (rule 13): of the d bits that are dropped the highest is worth a half.
+// Where the dropped bits of a number lie by the half, which is half of what its lowest kept bit is worth (request [9]).
+enum Case {
+    BelowHalf,
+    AboveHalf,
+    OnHalf,
+}
+
+// Which of the three cases it is (request [9]).
+fn case_of(dropped: u64, half: u64) -> Case
+    ensures { λ r. ⌜ CaseIs dropped half r ⌝ }
+{
+    if dropped < half {
+        return Case::BelowHalf;
+    }
+    if half < dropped {
+        return Case::AboveHalf;
+    }
+    Case::OnHalf
+}
+
+// Of two neighbours, a number and the next, the even one (request [9]).
+fn even_of(kept: u64) -> u64
+    requires { ⌜ kept < 2 ^ 63 ⌝ }
+    ensures { λ r. ⌜ EvenOf kept r ⌝ }
+{
+    if kept % 2 == 0 {
+        return kept;
+    }
+    kept + 1
+}
+
+// The whole number nearest to n / 2^d, a tie to the even one (rule 13): the d bits that are dropped lie below the half, above it, or on it,
+// where the even neighbour is chosen (request [9]). It serves two roundings, a whole number's to double, with d = 11, and a double's to
+// single, with d from 29 to 53 (`single_magnitude`).
 pub fn rounded_shift(n: u64, d: u32) -> u64
     requires { ⌜ (0 < d) × (d < 64) ⌝ }
     ensures { λ r. ⌜ r ≡ closest n (2 ^ d) ⌝ }
@@ -15,13 +49,11 @@ pub fn rounded_shift(n: u64, d: u32) -> u64
     let kept = n >> d;
     let dropped = n % (1u64 << d);
     let half = 1u64 << (d - 1);
-    if dropped < half {
-        return kept;
+    match case_of(dropped, half) {
+        Case::BelowHalf => kept,
+        Case::AboveHalf => kept + 1,
+        Case::OnHalf => even_of(kept),
     }
-    if dropped == half {
-        return kept + kept % 2;
-    }
-    kept + 1
 }
 
 // The bits of the double nearest to m (rule 13). The leading zeros of m place its significand: moved up by them, the upper 53

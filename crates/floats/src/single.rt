@@ -7,7 +7,8 @@ ghost use lib.Dec.{T};
 ghost use lib.Ieee.{binary32, binary64, toBits, ofBits, isNan};
 ghost use Rattle.text_form.specs.Values.{toSingle};
 
-// The single's bits by the double's, both without their sign (rule 13); the contract holds for either sign.
+// The single's bits by the double's, both without their sign (rule 13). It rounds as whole numbers are rounded to doubles, by the three
+// cases of `rounded_shift` (request [9]). The contract holds for either sign.
 pub fn single_magnitude(b: u64) -> u32
     requires { ⌜ b ≤ 0x7ff0_0000_0000_0000 ⌝ }
     ensures { λ r. ⌜ ((s : Bool) → cond s (2 ^ 31) 0 + r ≡ toBits binary32 (toSingle (ofBits binary64 (cond s (2 ^ 63) 0 + b)))) ⌝ }

@@ -1,11 +1,13 @@
--- `nearest::rounded_shift` meets its contract: the three ways to round, with the machine's shifts as powers of two.
+-- `nearest::rounded_shift` meets its contract: the three cases of the tie rule (request [9]), with the machine's shifts as powers of two.
 -- Assumes nothing.
 use borrow.Author.Needs.{needs}
-use mathlib.Core.Path.{_≡_, sym, ap, subst₂, subst}
-use Prim.Native.Nat.{ℕ, _-_, _*_, _/_, _%_, _^_, _<_}
+use mathlib.Core.Path.{_≡_, refl, sym, subst, subst₂, _∙_}
+use Prim.Native.Nat.{ℕ, _+_, _-_, _*_, _/_, _%_, _^_, _<_}
 use native.Mathlib.Omega.{arith}
 use lib.Pow.{pow-pos}
-use lib.Arith.{lt-of-le-ne}
+use lib.Ieee.Nearest.{closest}
+use Rattle.floats.specs.Ties.{CaseIs, EvenOf}
+use Rattle.floats.specs.declared.nearest.Case.{Case}
 use Rattle.floats.proofs.Whole.{one-shl, halves, kept-small, rounds-down, rounds-even, rounds-up}
 use Rattle.floats.proofs.nearest.rounded_shift.Statement.{statement}
 use Rattle.floats.proofs.nearest.rounded_shift.Tie as tie
@@ -17,24 +19,35 @@ half d = 1 * 2 ^ (d - 1) % 2 ^ 64
 abbrev power : ℕ → ℕ
 power d = 1 * 2 ^ d % 2 ^ 64
 
-less : (d : ℕ) → 0 < d → d < 64 → d - 1 < 64
-less d P h = omega arith
+-- a case by the code's half is that case by the power, of which it is the half
+over-power : (n d : ℕ) → 0 < d → d < 64 → (k : Case) → CaseIs (n % power d) (half d) k → CaseIs (n % 2 ^ d * 2) (2 ^ d) k
+over-power n d P h k t =
+    doubled (n % 2 ^ d) (2 ^ (d - 1)) (2 ^ d) (halves d P) k (subst₂ (λ (x y : ℕ). CaseIs (n % x) y k) (one-shl d h) (one-shl (d - 1) (less d P h)) t)
+  where
+    less : (d : ℕ) → 0 < d → d < 64 → d - 1 < 64
+    less d P h = omega arith
 
-down : (n d : ℕ) → 0 < d → d < 64 → n % power d < half d → n % 2 ^ d * 2 < 2 ^ d
-down n d P h t =
-    let u : n % 2 ^ d < 2 ^ (d - 1) = subst₂ (λ (x y : ℕ). n % x < y) (one-shl d h) (one-shl (d - 1) (less d P h)) t in
-    omega (arith, halves d P)
+    doubled : (m h b : ℕ) → b ≡ 2 * h → (k : Case) → CaseIs m h k → CaseIs (m * 2) b k
+    doubled m h b e Case.BelowHalf t = omega arith
+    doubled m h b e Case.AboveHalf t = omega arith
+    doubled m h b e Case.OnHalf t = omega arith
 
-even : (n d : ℕ) → 0 < d → d < 64 → n % power d ≡ half d → n % 2 ^ d * 2 ≡ 2 ^ d
-even n d P h t =
-    let u : n % 2 ^ d ≡ 2 ^ (d - 1) = subst₂ (λ (x y : ℕ). n % x ≡ y) (one-shl d h) (one-shl (d - 1) (less d P h)) t in
-    omega (arith, halves d P)
+-- what each case makes of the kept digits
+abbrev Made : Case → ℕ → ℕ → Type 0
+Made Case.BelowHalf kept r = r ≡ kept
+Made Case.AboveHalf kept r = r ≡ kept + 1
+Made Case.OnHalf kept r = EvenOf kept r
 
-over : (n d : ℕ) → 0 < d → d < 64 → half d < n % power d → 2 ^ d < n % 2 ^ d * 2
-over n d P h t =
-    let u : 2 ^ (d - 1) < n % 2 ^ d = subst₂ (λ (x y : ℕ). y < n % x) (one-shl d h) (one-shl (d - 1) (less d P h)) t in
-    omega (arith, halves d P)
+-- the tie rule: each case makes the nearest whole number
+tie-rule : (n b r : ℕ) (k : Case) → CaseIs (n % b * 2) b k → Made k (n / b) r → r ≡ closest n b
+tie-rule n b r Case.BelowHalf t m = m ∙ sym (rounds-down n b t)
+tie-rule n b r Case.AboveHalf t m = m ∙ sym (rounds-up n b t)
+tie-rule n b r Case.OnHalf t m = even-is (n / b) r m ∙ sym (rounds-even n b t)
+  where
+    even-is : (kept r : ℕ) → EvenOf kept r → r ≡ kept + kept % 2
+    even-is kept r e = omega (arith, e .0, e .1, e .2)
 
+-- ---- the needs
 shr-kept : tie.Need-shr-kept
 shr-kept c = search needs
 
@@ -53,23 +66,49 @@ cast-half c = search needs
 shl-half : tie.Need-shl-half
 shl-half c = search needs
 
-returns : tie.Need-returns
-returns c = let a = c .before in sym (rounds-down (a .args .n) (2 ^ a .args .d) (down (a .args .n) (a .args .d) (a .pre .0) (a .pre .1) (c .if1 .taken)))
-
 add-result : tie.Need-add-result
-add-result c = let a = c .before .before in omega (arith, kept-small (a .args .n) (a .args .d) (a .fits .n .fits) (a .pre .0))
+add-result c =
+    let at-start = c .before .before .before in
+    omega (arith, kept-small (at-start .args .n) (at-start .args .d) (at-start .fits .n .fits) (at-start .pre .0))
+
+even-of-requires : tie.Need-even-of-requires
+even-of-requires c κs =
+    let at-start = c .before .before .before in
+    kept-small (at-start .args .n) (at-start .args .d) (at-start .fits .n .fits) (at-start .pre .0)
+
+-- a case that was told, at the place behind `case_of`
+told : (c : tie.After-case-of) (k : Case) → c .case-of .result ≡ k → CaseIs (c .before .args .n % 2 ^ c .before .args .d * 2) (2 ^ c .before .args .d) k
+told c k e =
+    let at-start = c .before in
+    over-power (at-start .args .n) (at-start .args .d) (at-start .pre .0) (at-start .pre .1) k (rw e at (c .case-of .ensures))
+
+returns : tie.Need-returns
+returns c = let at-case = c .before .before in tie-rule _ _ _ Case.BelowHalf (told at-case Case.BelowHalf (c .enum-told .given .1)) refl
 
 returns-2 : tie.Need-returns-2
-returns-2 c = let a = c .before .before in sym (rounds-even (a .args .n) (2 ^ a .args .d) (even (a .args .n) (a .args .d) (a .pre .0) (a .pre .1) (c .if2 .taken)))
-
-add-result-2 : tie.Need-add-result-2
-add-result-2 c = let a = c .before .before in omega (arith, kept-small (a .args .n) (a .args .d) (a .fits .n .fits) (a .pre .0))
+returns-2 c = let at-case = c .before .before in tie-rule _ _ _ Case.AboveHalf (told at-case Case.AboveHalf (c .enum-told2 .given .1)) refl
 
 returns-3 : tie.Need-returns-3
 returns-3 c =
-    let a = c .before .before in
-    sym (rounds-up (a .args .n) (2 ^ a .args .d) (over (a .args .n) (a .args .d) (a .pre .0) (a .pre .1) (lt-of-le-ne (c .before .if1 .left) (λ e. c .if2 .left (sym e)))))
+    let at-told = c .before in
+    tie-rule _ _ _ Case.OnHalf (told (at-told .before .before) Case.OnHalf (at-told .enum-told3 .given .1)) (c .even-of .ensures)
 
 pub rounded-shift-spec : {M : Type 1} → statement M
 rounded-shift-spec =
-    tie.close (tie.spec shr-kept shl-dropped rem-dropped sub-half cast-half shl-half returns add-result returns-2 add-result-2 returns-3)
+    tie.close
+    (tie.spec
+    shr-kept
+    shl-dropped
+    rem-dropped
+    sub-half
+    cast-half
+    shl-half
+    (λ c κs. search needs)
+    (λ c. search needs)
+    (λ c. search needs)
+    add-result
+    (λ c. search needs)
+    even-of-requires
+    returns
+    returns-2
+    returns-3)
