@@ -35,12 +35,20 @@ impl Order {
 }
 
 fn shuffle(numbers: &mut [usize]) {
-    let mut seed: u64 = 88172645463325252;
+    let mut random = random();
     for i in (1..numbers.len()).rev() {
+        numbers.swap(i, (random() % (i as u64 + 1)) as usize);
+    }
+}
+
+/// Random numbers of 64 bits, one at each call; the same in each run.
+fn random() -> impl FnMut() -> u64 {
+    let mut seed: u64 = 88172645463325252;
+    move || {
         seed ^= seed << 13;
         seed ^= seed >> 7;
         seed ^= seed << 17;
-        numbers.swap(i, (seed % (i as u64 + 1)) as usize);
+        seed
     }
 }
 
@@ -220,6 +228,13 @@ pub fn keys_text(n: usize, order: Order) -> String {
 /// A list of n times this element.
 pub fn list_text(n: usize, element: &str) -> String {
     format!("{{a:[{}]}}", vec![element; n].join(","))
+}
+
+/// A list of n random whole numbers with d, from the least up to the one behind the greatest.
+pub fn doubles_text(n: usize, range: std::ops::Range<u64>) -> String {
+    let mut random = random();
+    let numbers: Vec<String> = (0..n).map(|_| format!("{}d", range.start + random() % (range.end - range.start))).collect();
+    format!("{{a:[{}]}}", numbers.join(","))
 }
 
 /// An opening piece so many times, then a closing one as often.

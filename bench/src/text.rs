@@ -2,7 +2,7 @@
 use crate::goals::Goal;
 use crate::growth::{self, Call};
 use crate::harness::{each, Spread};
-use crate::inputs::{around, keys_text, list_text, tile_text, ORDERS};
+use crate::inputs::{around, doubles_text, keys_text, list_text, tile_text, ORDERS};
 use crate::library;
 use crate::markdown::{self, grouped};
 use crate::{quartz, Bench};
@@ -26,6 +26,10 @@ pub fn section(bench: &mut Bench) {
     for (what, text) in ordinary() {
         row(bench, what, &text);
     }
+    markdown::caption("Lists of 50,000 whole numbers with d, which become doubles:");
+    head();
+    row(bench, "longitudes, which a double holds", &doubles_text(50_000, 0..1_800_000_000));
+    row(bench, "from 2^53 up to 2^63, which are rounded", &doubles_text(50_000, 1 << 53..1 << 63));
     markdown::caption("Hostile texts:");
     head();
     hostile(bench);
