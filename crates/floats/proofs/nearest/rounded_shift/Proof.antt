@@ -66,15 +66,15 @@ cast-half c = search needs
 shl-half : tie.Need-shl-half
 shl-half c = search needs
 
+-- there is a next number
+small : (c : tie.After-case-of) → c .before .args .n / 2 ^ c .before .args .d < 2 ^ 63
+small c = let at-start = c .before in kept-small (at-start .args .n) (at-start .args .d) (at-start .fits .n .fits) (at-start .pre .0)
+
 add-result : tie.Need-add-result
-add-result c =
-    let at-start = c .before .before .before in
-    omega (arith, kept-small (at-start .args .n) (at-start .args .d) (at-start .fits .n .fits) (at-start .pre .0))
+add-result c = omega (arith, small (c .before .before))
 
 even-of-requires : tie.Need-even-of-requires
-even-of-requires c κs =
-    let at-start = c .before .before .before in
-    kept-small (at-start .args .n) (at-start .args .d) (at-start .fits .n .fits) (at-start .pre .0)
+even-of-requires c κs = small (c .before .before)
 
 -- a case that was told, at the place behind `case_of`
 told : (c : tie.After-case-of) (k : Case) → c .case-of .result ≡ k → CaseIs (c .before .args .n % 2 ^ c .before .args .d * 2) (2 ^ c .before .args .d) k
