@@ -32,7 +32,7 @@ over-power n d P h k t =
     doubled m h b e Case.AboveHalf t = omega arith
     doubled m h b e Case.OnHalf t = omega arith
 
--- what each case makes of the kept digits
+-- what each case makes of the kept bits
 abbrev Made : Case → ℕ → ℕ → Type 0
 Made Case.BelowHalf kept r = r ≡ kept
 Made Case.AboveHalf kept r = r ≡ kept + 1
@@ -76,22 +76,23 @@ add-result c = omega (arith, small (c .before .before))
 even-of-requires : tie.Need-even-of-requires
 even-of-requires c κs = small (c .before .before)
 
--- a case that was told, at the place behind `case_of`
-told : (c : tie.After-case-of) (k : Case) → c .case-of .result ≡ k → CaseIs (c .before .args .n % 2 ^ c .before .args .d * 2) (2 ^ c .before .args .d) k
-told c k e =
+-- what a case makes where it was told, behind `case_of`, is the nearest
+rounded : (c : tie.After-case-of) (k : Case) (r : ℕ) → c .case-of .result ≡ k → Made k (c .before .args .n / 2 ^ c .before .args .d) r
+    → r ≡ closest (c .before .args .n) (2 ^ c .before .args .d)
+rounded c k r e m =
     let at-start = c .before in
-    over-power (at-start .args .n) (at-start .args .d) (at-start .pre .0) (at-start .pre .1) k (rw e at (c .case-of .ensures))
+    let n = at-start .args .n in
+    let d = at-start .args .d in
+    tie-rule n (2 ^ d) r k (over-power n d (at-start .pre .0) (at-start .pre .1) k (rw e at (c .case-of .ensures))) m
 
 returns : tie.Need-returns
-returns c = let at-case = c .before .before in tie-rule _ _ _ Case.BelowHalf (told at-case Case.BelowHalf (c .enum-told .given .1)) refl
+returns c = rounded (c .before .before) Case.BelowHalf _ (c .enum-told .given .1) refl
 
 returns-2 : tie.Need-returns-2
-returns-2 c = let at-case = c .before .before in tie-rule _ _ _ Case.AboveHalf (told at-case Case.AboveHalf (c .enum-told2 .given .1)) refl
+returns-2 c = rounded (c .before .before) Case.AboveHalf _ (c .enum-told2 .given .1) refl
 
 returns-3 : tie.Need-returns-3
-returns-3 c =
-    let at-told = c .before in
-    tie-rule _ _ _ Case.OnHalf (told (at-told .before .before) Case.OnHalf (at-told .enum-told3 .given .1)) (c .even-of .ensures)
+returns-3 c = let at-told = c .before in rounded (at-told .before .before) Case.OnHalf _ (at-told .enum-told3 .given .1) (c .even-of .ensures)
 
 pub rounded-shift-spec : {M : Type 1} → statement M
 rounded-shift-spec =
