@@ -230,7 +230,7 @@ pub fn list_text(n: usize, element: &str) -> String {
     format!("{{a:[{}]}}", vec![element; n].join(","))
 }
 
-/// A list of n random whole numbers with d, from the least up to the one behind the greatest.
+/// A list of n random whole numbers of a range, each with d.
 pub fn doubles_text(n: usize, range: std::ops::Range<u64>) -> String {
     let mut random = random();
     let numbers: Vec<String> = (0..n).map(|_| format!("{}d", range.start + random() % (range.end - range.start))).collect();

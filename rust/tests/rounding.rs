@@ -52,6 +52,7 @@ fn the_three_cases() {
         rounded_as_told(case);
     }
     assert_eq!((below[3], above[3], on[3]), (on[1] * 8, on[1] * 8 + 8, on[1] * 8));
+    assert!(PAGE.contains("256 times as large") && on[0].leading_zeros() == 8, "moved up by 8 bits");
 }
 
 #[test]
