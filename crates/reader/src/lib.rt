@@ -2,7 +2,7 @@
 // form/specs/Reading.antt that it meets; io.rs of the crate reads in the same order.
 ghost use mathlib.Core.Path.{_≡_};
 ghost use Prim.Native.Nat.{ℕ, suc, _+_, _≤_, _<_};
-ghost use lib.ListN.{length, replicate};
+ghost use lib.ListN.{length};
 ghost use Rattle.form.specs.Table.{none};
 ghost use Rattle.form.specs.Spans.{part};
 ghost use Rattle.form.specs.Reading.{ReadIs, leafOne, payloadBy, insideAt, listAt, documentAt, roomOf, elements as elementsOf, entries as entriesOf};
@@ -423,24 +423,13 @@ fn document(doc: &[u8], table: &mut [u32]) -> Step
     }
 }
 
-// All words to 0.
-pub fn clear(table: &mut [u32])
-    ensures { λ _. ⌜ now (table .exit) ≡ replicate (length (now (table .entry))) 0 ⌝ }
-{
-    let mut i: usize = 0;
-    while i < table.len() {
-        table[i] = 0;
-        i += 1;
-    }
-}
-
 // Reads a document into the table. A refused read leaves the table all zero; an accepted one changes the records' words only.
 pub fn read(doc: &[u8], table: &mut [u32]) -> Answer
     ensures { λ r. ⌜ ReadIs (now (doc .entry)) (now (table .entry)) (readOut r) (now (table .exit)) ⌝ }
 {
     match document(doc, table) {
         Step::No { number, place } => {
-            clear(table);
+            table::clear(table);
             Answer::Refused { number, place }
         }
         Step::Next { at, ix } => Answer::Accepted {

@@ -124,7 +124,7 @@ pub fn rescue(doc: &[u8], table: &mut [u32], out: &mut [u8], changes: &mut [u32]
         reader::Answer::Refused { number, place } => {
             if number == form::DATA_ENDS {
                 let r = cut(doc, place, table, out, changes);
-                reader::clear(table);
+                table::clear(table);
                 return r;
             }
             Answer::Refused {

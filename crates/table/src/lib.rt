@@ -3,7 +3,7 @@
 ghost use mathlib.Core.Path.{_≡_};
 ghost use mathlib.Core.Bool.{true};
 ghost use Prim.Native.Nat.{ℕ, _+_, _*_, _≤_, _<_, _^_};
-ghost use lib.ListN.{length};
+ghost use lib.ListN.{length, replicate};
 ghost use Rattle.form.specs.Spans.{over};
 ghost use Rattle.form.specs.Table.{word as wordOf, widthOf, holds, isArray};
 ghost use Rattle.form.specs.Tables.{leafFits};
@@ -72,6 +72,17 @@ pub fn put(table: &mut [u32], n: usize, r: Record)
     table[at + 5] = r.count;
     table[at + 6] = r.list_kind;
     table[at + 7] = r.end;
+}
+
+// All words to 0: what a refused read leaves.
+pub fn clear(table: &mut [u32])
+    ensures { λ _. ⌜ now (table .exit) ≡ replicate (length (now (table .entry))) 0 ⌝ }
+{
+    let mut i: usize = 0;
+    while i < table.len() {
+        table[i] = 0;
+        i += 1;
+    }
 }
 
 // The record of a list or a compound: its payload words are 0.
