@@ -14,11 +14,12 @@ use Rattle.form.specs.Tables.{IsTable, Within}
 use Rattle.form.specs.Reading.{countsOf, reading, tableAfter}
 use Rattle.form.specs.Writing.{WriteIs, lengthOf, outputAfter}
 use Rattle.form.specs.Cut.{rescuing, sizesOf, bytesAfter, linesAfter}
+use Rattle.form.specs.Stored.{WriteLinesIs, readingLines, recordsOf, wordsAfter}
 use Rattle.form.specs.Query.{Count, QueryIs}
 use Rattle.text_form.specs.Lexing.{lexed, content}
 use Rattle.text_form.specs.Text as text
 use Rattle.text_form.specs.Text.{parsed, lengthsOf}
-use Rattle.calls.specs.Words.{accepted, refusal, verdictWords, readWords, writeWords, rescueWords, queryWords, tokenWords, stopsOf, parseWords}
+use Rattle.calls.specs.Words.{accepted, refusal, verdictWords, readWords, countWords, rescueWords, queryWords, tokenWords, stopsOf, parseWords}
 
 -- A check of a string of some coding, whose refusal has the number n: accepted exactly if the bytes are the encoding of some scalar
 -- values, else refused where the first sequence that can't be read begins.
@@ -50,7 +51,7 @@ pub record TableCalled (d : ℕ) (t answer : List ℕ) : Type 0 where
 pub record WriteCalled (doc t t′ o o′ answer : List ℕ) : Type 0 where
   pub result : Out ℕ
   pub is : WriteIs doc t o result o′
-  pub words-are : answer ≡ writeWords result
+  pub words-are : answer ≡ countWords result
   pub kept : t′ ≡ t
 
 -- A rescue ([11]): every word of the answer and of the changes, every byte of the output, and the table as the read leaves it. The form is
@@ -60,6 +61,17 @@ pub record RescueCalled (form : ℕ) (doc t t′ o o′ c c′ answer : List ℕ
   pub table-is : t′ ≡ tableAfter (reading doc t) t
   pub output-is : o′ ≡ bytesAfter (rescuing doc t o c) o
   pub changes-is : c′ ≡ linesAfter (rescuing doc t o c) c
+
+-- Writing the lines of a table over a document of d bytes ([6]): the answer in the words, and every byte of the output.
+pub record WriteLinesCalled (d : ℕ) (t o o′ answer : List ℕ) : Type 0 where
+  pub result : Out ℕ
+  pub is : WriteLinesIs d t o result o′
+  pub words-are : answer ≡ countWords result
+
+-- Reading lines back ([6]): every word of the answer and of the table.
+pub record ReadLinesCalled (s t t′ answer : List ℕ) : Type 0 where
+  pub answer-is : answer ≡ countWords (recordsOf (readingLines s t))
+  pub table-is : t′ ≡ wordsAfter (readingLines s t) t
 
 -- A query: rule 9's answer in the words, and every word of the list.
 pub record QueryCalled (doc t q l l′ answer : List ℕ) : Type 0 where
@@ -73,7 +85,7 @@ pub record TokenCalled (t : List ℕ) (start stops : ℕ) (answer : List ℕ) : 
 
 -- A content: rule 12's answer in the words, and every byte of the output. Any number but 0 is quoted.
 pub record ContentCalled (t : List ℕ) (start e quoted : ℕ) (o o′ answer : List ℕ) : Type 0 where
-  pub answer-is : answer ≡ writeWords (lengthOf (content t start e (not (eqb quoted 0)) (length o)))
+  pub answer-is : answer ≡ countWords (lengthOf (content t start e (not (eqb quoted 0)) (length o)))
   pub output-is : o′ ≡ outputAfter (content t start e (not (eqb quoted 0)) (length o)) o
 
 -- A parse (rules 14 and 15): every word of the answer and every byte of the output.

@@ -35,10 +35,10 @@ abbrev pub readWords : Out Counts → List ℕ
 readWords (got c) = 0 ∷ 0 ∷ c .consumed ∷ c .records ∷ 0 ∷ 0 ∷ 0 ∷ 0 ∷ []
 readWords (no n p) = refusal n p
 
--- A write, or a content: the number of bytes written.
-abbrev pub writeWords : Out ℕ → List ℕ
-writeWords (got n) = 0 ∷ 0 ∷ n ∷ 0 ∷ 0 ∷ 0 ∷ 0 ∷ 0 ∷ []
-writeWords (no n p) = refusal n p
+-- A write, a content or lines: the number of bytes written, or of records read.
+abbrev pub countWords : Out ℕ → List ℕ
+countWords (got n) = 0 ∷ 0 ∷ n ∷ 0 ∷ 0 ∷ 0 ∷ 0 ∷ 0 ∷ []
+countWords (no n p) = refusal n p
 
 -- A query: the number of matches, which refusal 24 gives too.
 abbrev pub queryWords : Count → List ℕ

@@ -19,6 +19,7 @@ use Rattle.form.specs.Layout.{layout}
 use Rattle.form.specs.Tables.{IsTable, Within}
 use Rattle.form.specs.Reading.{One, countsOf, tableAfter, reading, roomOf}
 use Rattle.form.specs.Writing.{Gives, outputAfter, lengthOf, WriteIs, judged, written}
+use Rattle.form.specs.Stored.{WriteLinesIs, storing, readingLines, recordsOf, wordsAfter}
 use Rattle.form.specs.Cut as cut
 use Rattle.form.specs.Cut.{Line, Rescue, saved, lineWords, rescuing, sizesOf, bytesAfter, linesAfter}
 use Rattle.form.specs.Query.{Count, counted, failed, Answered, matched, within, asked, countOf, listAfter, Finds, QueryIs}
@@ -30,17 +31,18 @@ use Rattle.form.proofs.Outcomes.{same-list, both, in-each-case}
 use Rattle.text_form.specs.Lexing.{among, Lexed, found, ended, judgedText, onCharacter, lexed, contentOf, content}
 use Rattle.text_form.specs.Text.{Block, parsed, documentOf, lengthsOf}
 use Rattle.text_form.specs.Text as text
-use Rattle.calls.specs.Words.{refusal, readWords, writeWords, rescueWords, queryWords, tokenWords, stopsOf, parseWords, verdictWords}
-use Rattle.calls.specs.Calls.{StringCalled, ReadCalled, TableCalled, WriteCalled, RescueCalled, QueryCalled, TokenCalled, ContentCalled, ParseCalled}
+use Rattle.calls.specs.Words.{refusal, readWords, countWords, rescueWords, queryWords, tokenWords, stopsOf, parseWords, verdictWords}
+use Rattle.calls.specs.Calls.{StringCalled, ReadCalled, TableCalled, WriteCalled, RescueCalled, WriteLinesCalled, ReadLinesCalled, QueryCalled, TokenCalled, ContentCalled, ParseCalled}
 use Rattle.demands.specs.Reading.{Bytes}
-use Rattle.demands.specs.Numbers.{readNumbers, writeNumbers, rescueNumbers, queryNumbers, tokenNumbers, contentNumbers, parseNumbers}
+use Rattle.demands.specs.Numbers.{readNumbers, writeNumbers, rescueNumbers, writeLinesNumbers, readLinesNumbers, queryNumbers, tokenNumbers, contentNumbers, parseNumbers}
 use Rattle.demands.specs.DemandOne.{Accepts, Refuses, Changed, Answers, Alone, DemandOne}
 use Rattle.demands.proofs.Judged.{then-got}
 use Rattle.demands.proofs.Reading.{sound}
 use Rattle.demands.proofs.Texts.{text-fills}
-use Rattle.demands.proofs.Numbers.{read-numbers, write-refusals, query-refusals, token-numbers, content-numbers, parse-numbers}
+use Rattle.demands.proofs.Numbers.{read-numbers, write-refusals, write-lines-refusals, read-lines-numbers, query-refusals, token-numbers, content-numbers, parse-numbers}
+use Rattle.demands.proofs.Stored.{storing-got, lines-are}
 use Rattle.demands.proofs.Rescue.{Way, rescue-way}
-use Rattle.demands.proofs.Outcomes.{one-table-called, one-write-called, one-query-called}
+use Rattle.demands.proofs.Outcomes.{one-table-called, one-write-called, one-write-lines-called, one-query-called}
 
 -- ---- answers
 
@@ -157,15 +159,22 @@ written-fits doc h inner room bs e =
     let q : layout (valueOf doc h inner) ≡ bs = cc (b .1) in
     omega (arith, leb-true (length (layout (valueOf doc h inner))) room (b .0), ap length q)
 
+-- In each case of a write's promise, if what it gives of a table fits.
+cases-left : {W T : Type 0} (o o′ : List ℕ) (x : T → Out (List ℕ)) (r : Out ℕ) → ((i : T) (bs : List ℕ) → x i ≡ got bs → length bs ≤ length o)
+    → ((W → ⊥) → Gives (refused overLimit 0) o r o′) → (W → (T → ⊥) → Gives (refused noTable 0) o r o′) → (W → (i : T) → Gives (x i) o r o′) → Left o o′ r
+cases-left o o′ x r fits large unfit fit =
+    in-each-case (same-left o o′ r)
+    (λ w. gives-left o o′ (refused overLimit 0) r (λ bs e. absurd (got-no (sym e))) (large w))
+    (λ w i. gives-left o o′ (refused noTable 0) r (λ bs e. absurd (got-no (sym e))) (unfit w i))
+    (λ w i. gives-left o o′ (x i) r (fits i) (fit w i))
+
 write-left : (doc t o : List ℕ) (r : Out ℕ) (o′ : List ℕ) → WriteIs doc t o r o′ → Left o o′ r
 write-left doc t o r o′ h =
-    in-each-case {W = Within (length doc) t} {T = IsTable (length doc) t} (same-left o o′ r)
-    (λ w. gives-left o o′ (refused overLimit 0) r (λ bs e. absurd (got-no (sym e))) (h .large w))
-    (λ w i. gives-left o o′ (refused noTable 0) r (λ bs e. absurd (got-no (sym e))) (h .unfit w i))
-    (λ w i. gives-left o o′ (written doc (i .head) (i .inner) (length o)) r (written-fits doc (i .head) (i .inner) (length o)) (h .fit w i))
+    cases-left o o′ (λ (i : IsTable (length doc) t). written doc (i .head) (i .inner) (length o)) r
+    (λ i. written-fits doc (i .head) (i .inner) (length o)) (h .large) (h .unfit) (h .fit)
 
 -- The eight words and the output, by the number of bytes or the refusal.
-left-each : (numbers o o′ a : List ℕ) (r : Out ℕ) → a ≡ writeWords r → Left o o′ r → ((n p : ℕ) → r ≡ refused n p → among numbers n ≡ true)
+left-each : (numbers o o′ a : List ℕ) (r : Out ℕ) → a ≡ countWords r → Left o o′ r → ((n p : ℕ) → r ≡ refused n p → among numbers n ≡ true)
     → (Accepts a × Changed (getD a 2 0) o o′) ⊎ (Refuses numbers a × (o′ ≡ o))
 left-each numbers o o′ a (got n) w l f = rw w (inl ((_, refl, refl), l))
 left-each numbers o o′ a (refused n p) w l f = rw w (inr (refuses numbers n p (f n p refl), l))
@@ -175,6 +184,37 @@ write-answers doc t t′ o = record {
   one = λ o₁ o₂ a₁ a₂ r s. let e = one-write-called doc t o a₁ a₂ o₁ o₂ t′ t′ r s in (e .1, e .0);
   each = λ o′ a r. left-each writeNumbers o o′ a (r .result) (r .words-are) (write-left doc t o (r .result) o′ (r .is))
       (λ n p. write-refusals doc t o (r .result) o′ n p (r .is));
+}
+
+-- ---- stored lines
+
+lines-left : (d : ℕ) (t o : List ℕ) (r : Out ℕ) (o′ : List ℕ) → WriteLinesIs d t o r o′ → Left o o′ r
+lines-left d t o r o′ h =
+    cases-left o o′ (λ (_ : IsTable d t). storing t (length o)) r (λ _ bs e. storing-got t (length o) bs e .1) (h .large) (h .unfit) (h .fit)
+
+write-lines-answers : (d : ℕ) (t o : List ℕ) → Answers (WriteLinesCalled d t o) writeLinesNumbers o o (λ a. getD a 2 0)
+write-lines-answers d t o = record {
+  one = λ o₁ o₂ a₁ a₂ r s. let e = one-write-lines-called d t o a₁ a₂ o₁ o₂ r s in (e .1, e .0);
+  each = λ o′ a r. left-each writeLinesNumbers o o′ a (r .result) (r .words-are) (lines-left d t o (r .result) o′ (r .is))
+      (λ n p e. write-lines-refusals d t o (r .result) o′ n p (r .is) e .0);
+}
+
+-- The records that were read are whole, and fit the table.
+read-lines-each : (s t t′ a : List ℕ) → ReadLinesCalled s t t′ a
+    → (Accepts a × Changed (8 * getD a 2 0) t t′) ⊎ (Refuses readLinesNumbers a × (t′ ≡ replicate (length t) 0))
+read-lines-each s t t′ a r = go (readingLines s t) refl (r .answer-is) (r .table-is)
+  where
+    go : (x : Out (List ℕ)) → readingLines s t ≡ x → a ≡ countWords (recordsOf x) → t′ ≡ wordsAfter x t
+        → (Accepts a × Changed (8 * getD a 2 0) t t′) ⊎ (Refuses readLinesNumbers a × (t′ ≡ replicate (length t) 0))
+    go (got ws) e w k =
+        let x = lines-are (length t / 8) s ws .0 e in
+        rw (w, k) (inl ((_, refl, refl), over-changed (8 * (length ws / 8)) t ws (omega (arith, x .long)) (omega (arith, x .long, x .roomy))))
+    go (refused n p) e w k = rw w (inr (refuses readLinesNumbers n p (read-lines-numbers 8 (length t / 8) s n p e), k))
+
+read-lines-answers : (s t : List ℕ) → Answers (ReadLinesCalled s t) readLinesNumbers t (replicate (length t) 0) (λ a. 8 * getD a 2 0)
+read-lines-answers s t = record {
+  one = λ t₁ t₂ a₁ a₂ p q. (p .table-is ∙ sym (q .table-is), p .answer-is ∙ sym (q .answer-is));
+  each = read-lines-each s t;
 }
 
 -- ---- a content
@@ -335,6 +375,8 @@ demand-one = record {
   rescue = rescue-answers;
   rescue-changes = changes-answers;
   rescue-table = λ form doc t t′ o o′ c c′ a r t″ b s. r .table-is ∙ sym (s .table-is);
+  write-lines = write-lines-answers;
+  read-lines = read-lines-answers;
   query = query-answers;
   token = λ t start stops. record { one = alone-one (TokenCalled t start stops) (λ a₁ a₂ r s. r .answer-is ∙ sym (s .answer-is)); each = token-each t start stops };
   content = content-answers;

@@ -19,7 +19,7 @@ use Rattle.form.proofs.Payloads.{room-le}
 use Rattle.text_form.specs.Text.{Block, parsed, documentOf, lengthsOf}
 use Rattle.text_form.specs.Text as text
 use Rattle.text_form.specs.Lexing.{among}
-use Rattle.calls.specs.Words.{readWords, writeWords, rescueWords, parseWords}
+use Rattle.calls.specs.Words.{readWords, countWords, rescueWords, parseWords}
 use Rattle.calls.specs.Calls.{ReadCalled, WriteCalled, RescueCalled, ParseCalled}
 use Rattle.demands.specs.Reading.{Bytes}
 use Rattle.demands.specs.Numbers.{writtenNumbers, rescueNumbers}
@@ -110,11 +110,11 @@ module _ (doc w : List ℕ) (d : Document) (bytes : Bytes doc) (h : Holds doc w 
     enough = λ le.
         let e = lawful-written doc w bytes (h .small) (h .table) (length o) (table-lawful l) (omega (arith, table-long)) ∙ ap (λ (f : Document). got (layout f)) (h .value) in
         let g = subst (λ (x : Out (List ℕ)). Gives x o (k .result) o′) e gives in
-        (k .words-are ∙ ap writeWords (g .answer-is), g .output-is);
+        (k .words-are ∙ ap countWords (g .answer-is), g .output-is);
     short = λ lt.
         let e = lawful-full doc w bytes (h .small) (h .table) (length o) (table-lawful l) (omega (arith, table-long)) in
         let g = subst (λ (x : Out (List ℕ)). Gives x o (k .result) o′) e gives in
-        (k .words-are ∙ ap writeWords (g .answer-is), g .output-is);
+        (k .words-are ∙ ap countWords (g .answer-is), g .output-is);
   }
 
   is-read-back : (c : ℕ) → b ≡ 0 ∷ 0 ∷ c ∷ 0 ∷ 0 ∷ 0 ∷ 0 ∷ 0 ∷ [] → Lawful d × ReadAs o′ c d
@@ -125,13 +125,13 @@ module _ (doc w : List ℕ) (d : Document) (bytes : Bytes doc) (h : Holds doc w 
       go (got bs) is g =
           let l = written-lawful doc w bytes (h .small) (h .table) (length o) bs is in
           let laid : bs ≡ layout d = l .laid ∙ ap layout (h .value) in
-          let words : 0 ∷ 0 ∷ length bs ∷ 0 ∷ 0 ∷ 0 ∷ 0 ∷ 0 ∷ [] ≡ 0 ∷ 0 ∷ c ∷ 0 ∷ 0 ∷ 0 ∷ 0 ∷ 0 ∷ [] = ap writeWords (sym (g .answer-is)) ∙ sym (k .words-are) ∙ e in
+          let words : 0 ∷ 0 ∷ length bs ∷ 0 ∷ 0 ∷ 0 ∷ 0 ∷ 0 ∷ [] ≡ 0 ∷ 0 ∷ c ∷ 0 ∷ 0 ∷ 0 ∷ 0 ∷ 0 ∷ [] = ap countWords (sym (g .answer-is)) ∙ sym (k .words-are) ∙ e in
           let long : length (layout d) ≡ c = sym (ap length laid) ∙ cc in
           let out : over o 0 (layout d) ≡ o′ = ap (over o 0) (sym laid) ∙ sym (g .output-is) in
           let lawful = subst Lawful (h .value) (l .lawful) in
           (lawful, subst (λ (m : ℕ). ReadAs o′ m d) long (subst (λ (x : List ℕ). ReadAs x (length (layout d)) d) out (output-read d o lawful)))
       go (no n p) is g =
-          let words : n ∷ p ∷ 0 ∷ 0 ∷ 0 ∷ 0 ∷ 0 ∷ 0 ∷ [] ≡ 0 ∷ 0 ∷ c ∷ 0 ∷ 0 ∷ 0 ∷ 0 ∷ 0 ∷ [] = ap writeWords (sym (g .answer-is)) ∙ sym (k .words-are) ∙ e in
+          let words : n ∷ p ∷ 0 ∷ 0 ∷ 0 ∷ 0 ∷ 0 ∷ 0 ∷ [] ≡ 0 ∷ 0 ∷ c ∷ 0 ∷ 0 ∷ 0 ∷ 0 ∷ 0 ∷ [] = ap countWords (sym (g .answer-is)) ∙ sym (k .words-are) ∙ e in
           let z : n ≡ 0 = cc in
           let f = write-numbers doc (h .table .head) (h .table .inner) (length o) n p is in
           absurd (zero-not-among (rw z at f))

@@ -15,6 +15,7 @@ pub mod Tabled
 pub mod Near
 pub mod Meant
 pub mod Numbers
+pub mod Stored
 pub mod Reading
 pub mod Tables
 pub mod Writing

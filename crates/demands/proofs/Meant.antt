@@ -27,7 +27,7 @@ use Rattle.text_form.proofs.Contents.{content-formed}
 use Rattle.text_form.proofs.Carried.{double-bits, single-bits}
 use Rattle.text_form.proofs.Tokens.{TokenHeld, whole-any, LexedFine, NextFine, token-fine, or-fine, due-fine}
 use Rattle.demands.specs.Numbers.{parseNumbers}
-use Rattle.demands.proofs.Tests.{and-right}
+use Rattle.form.proofs.Picks.{and-right}
 use Rattle.demands.proofs.Tags.{kind-range}
 use Rattle.demands.proofs.Names.{same-self, same-true}
 

@@ -2,13 +2,13 @@
 -- Assumes nothing.
 use Prim.Native.Nat.{ℕ, zero, suc, _+_, _-_}
 use mathlib.Core.Bool.{Bool, true, false, not, _&&_, _||_, Bool-discrete}
-use mathlib.Core.List.{List}
+use mathlib.Core.List.{List, [], _∷_}
 use mathlib.Core.Path.{_≡_, refl, sym, subst, _∙_}
 use native.Mathlib.Omega.{arith}
 use native.Mathlib.Decide.{ℕ-discrete}
 use lib.Dec.{ltb, leb, eqb}
 use lib.ListN.{length}
-use Rattle.form.specs.Answer.{Out, got, no, _>>=_, pick, depthLimit, stringLimit, stepLimit}
+use Rattle.form.specs.Answer.{Out, got, no, guard, _>>=_, _>>_, pick, depthLimit, recordLimit, stringLimit, stepLimit}
 use Rattle.form.specs.Spans.{part}
 use Rattle.form.specs.Decoding.{wellFormed}
 use Rattle.form.specs.Layout.{layout}
@@ -16,14 +16,17 @@ use Rattle.form.specs.Table.{Head, Forest, none, node, size, _⊕_, holds, valu
 use Rattle.form.specs.Tables.{IsTable, Within}
 use Rattle.form.specs.Reading.{hasName, byteAt}
 use Rattle.form.specs.Writing.{stringFine, payloadFine, judged, written, lengthOf}
+use Rattle.form.specs.Stored.{TextLine, tableLines, storing, linesIn, isLine, eachLine, linesRead}
 use Rattle.form.specs.Query.{blamed, stepBy, stepAt, stepsAt, spelt, shallow, asked, Answered, matched, refused, within, failed, countOf}
-use Rattle.form.proofs.Outcomes.{in-each-case}
+use Rattle.form.proofs.Outcomes.{both, in-each-case}
 use Rattle.form.proofs.Strings.{wellFormed-iff}
 use Rattle.text_form.specs.Lexing.{among, onCharacter, judgedText, lexed, tokenAt, contentOf, content}
 use Rattle.text_form.proofs.Gives.{among-all, Gives, Any, gives-got, gives-no, gives-bind, gives-guard, gives-test, gives-then, gives-elim, gives-also, gives-number, gives-all}
 use Rattle.text_form.proofs.Contents.{content-formed}
 use Rattle.text_form.proofs.Tokens.{whole-any, token-held}
-use Rattle.demands.specs.Numbers.{writtenNumbers, writeNumbers, askedNumbers, withinNumbers, queryNumbers, tokenNumbers, contentNumbers, IsReadNumbers, IsWriteNumbers, IsWriteRefusals, IsQueryNumbers, IsWithinNumbers, IsQueryRefusals, IsTokenNumbers, IsContentNumbers, IsParseNumbers}
+use Rattle.demands.specs.Numbers.{writtenNumbers, writeNumbers, writeLinesNumbers, readLinesNumbers, askedNumbers, withinNumbers, queryNumbers, tokenNumbers, contentNumbers}
+use Rattle.demands.specs.Numbers.{IsReadNumbers, IsWriteNumbers, IsWriteRefusals, IsWriteLinesRefusals, IsReadLinesNumbers, IsQueryNumbers, IsWithinNumbers, IsQueryRefusals}
+use Rattle.demands.specs.Numbers.{IsTokenNumbers, IsContentNumbers, IsParseNumbers}
 use Rattle.demands.proofs.Answers.{of-no}
 use Rattle.demands.proofs.Documents.{document-sound}
 use Rattle.demands.proofs.Meant.{parsed-fine}
@@ -82,6 +85,46 @@ write-refusals doc t o answer o′ n p w e =
   where
     from : (x : Out (List ℕ)) → Gives writeNumbers Any x → answer ≡ lengthOf x → among writeNumbers n ≡ true
     from x h a = gives-number (sym a ∙ e) (length-any x h)
+
+-- ---- stored lines
+
+-- A refusal has one of the numbers, and the place 0.
+abbrev AtZero : Out ℕ → Type 0
+AtZero (got k) = Unit {0}
+AtZero (no n p) = (among writeLinesNumbers n ≡ true) × (p ≡ 0)
+
+storing-zero : (t : List ℕ) (room : ℕ) → AtZero (lengthOf (storing t room))
+unfolding storing among
+storing-zero t room = go (leb (length (tableLines t)) room)
+  where
+    go : (b : Bool) → AtZero (lengthOf (guard b 13 0 >> got (tableLines t)))
+    go true = tt
+    go false = (refl, refl)
+
+-- In each of the promise's cases; both claims can be decided.
+pub write-lines-refusals : IsWriteLinesRefusals
+unfolding among
+write-lines-refusals d t o answer o′ n p w e =
+    in-each-case {W = Within d t} {T = IsTable d t} (both (Bool-discrete (among writeLinesNumbers n) true) (ℕ-discrete p 0))
+    (λ l. from (no 9 0) (refl, refl) (w .large l .answer-is))
+    (λ l u. from (no 10 0) (refl, refl) (w .unfit l u .answer-is))
+    (λ l i. from (storing t (length o)) (storing-zero t (length o)) (w .fit l i .answer-is))
+  where
+    from : (x : Out (List ℕ)) → AtZero (lengthOf x) → answer ≡ lengthOf x → (among writeLinesNumbers n ≡ true) × (p ≡ 0)
+    from x h a = subst AtZero (sym a ∙ e) h
+
+each-any : (w room n : ℕ) (ls : List TextLine) → Gives readLinesNumbers Any (eachLine w room n ls)
+unfolding eachLine among
+each-any w room n [] = gives-got tt
+each-any w room n (l ∷ ls) =
+    gives-guard (isLine w l) _ _ _ refl
+    (λ _. gives-guard (leb n room) _ _ _ refl
+    (λ _. gives-bind (eachLine w room (n + 1) ls) _ (each-any w room (n + 1) ls) (λ ws _. gives-got tt)))
+
+pub read-lines-numbers : IsReadLinesNumbers
+unfolding linesRead among
+read-lines-numbers w room s n p e =
+    gives-number e (gives-guard (leb (length (linesIn s)) recordLimit) _ _ _ refl (λ _. each-any w room 1 (linesIn s)))
 
 -- ---- queries
 

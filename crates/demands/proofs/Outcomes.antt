@@ -6,9 +6,10 @@ use mathlib.Core.List.{List}
 use Rattle.form.specs.Tables.{IsTable, Within}
 use Rattle.form.proofs.Outcomes as outcomes
 use Rattle.form.proofs.Outcomes.{same-list, in-each-case}
-use Rattle.calls.specs.Words.{writeWords, queryWords}
-use Rattle.calls.specs.Calls.{TableCalled, WriteCalled, QueryCalled}
+use Rattle.calls.specs.Words.{countWords, queryWords}
+use Rattle.calls.specs.Calls.{TableCalled, WriteCalled, WriteLinesCalled, QueryCalled}
 use Rattle.demands.specs.Outcomes.{IsOneWrite, IsOneQuery}
+use Rattle.demands.proofs.Stored.{one-write-lines}
 
 pub one-write : IsOneWrite
 one-write = outcomes.one-write
@@ -31,7 +32,13 @@ pub one-write-called : (doc t o a₁ a₂ o₁ o₂ t₁ t₂ : List ℕ) → Wr
     → (a₁ ≡ a₂) × (o₁ ≡ o₂) × (t₁ ≡ t₂)
 one-write-called doc t o a₁ a₂ o₁ o₂ t₁ t₂ g h =
     let e = one-write doc t o (g .result) (h .result) o₁ o₂ (g .is) (h .is) in
-    (g .words-are ∙ ap writeWords (e .0) ∙ sym (h .words-are), e .1, g .kept ∙ sym (h .kept))
+    (g .words-are ∙ ap countWords (e .0) ∙ sym (h .words-are), e .1, g .kept ∙ sym (h .kept))
+
+-- Two outcomes of writing lines are one: the answer and the output.
+pub one-write-lines-called : (d : ℕ) (t o a₁ a₂ o₁ o₂ : List ℕ) → WriteLinesCalled d t o o₁ a₁ → WriteLinesCalled d t o o₂ a₂ → (a₁ ≡ a₂) × (o₁ ≡ o₂)
+one-write-lines-called d t o a₁ a₂ o₁ o₂ g h =
+    let e = one-write-lines d t o (g .result) (h .result) o₁ o₂ (g .is) (h .is) in
+    (g .words-are ∙ ap countWords (e .0) ∙ sym (h .words-are), e .1)
 
 -- Two outcomes of a query are one: the answer and the list.
 pub one-query-called : (doc t q l a₁ a₂ l₁ l₂ : List ℕ) → QueryCalled doc t q l l₁ a₁ → QueryCalled doc t q l l₂ a₂ → (a₁ ≡ a₂) × (l₁ ≡ l₂)

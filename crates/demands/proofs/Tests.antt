@@ -11,7 +11,3 @@ and-left-false b e = rw e refl
 
 pub and-right-false : {a b : Bool} → a ≡ true → b ≡ false → (a && b) ≡ false
 and-right-false e f = rw (e, f) refl
-
-pub and-right : (a b : Bool) → (a && b) ≡ true → b ≡ true
-and-right true b e = e
-and-right false b e = cc

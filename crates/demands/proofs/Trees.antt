@@ -14,7 +14,8 @@ use Rattle.form.specs.Tree.{Tag, Tags, Entries, byte, short, int, long, float, 
 use Rattle.form.specs.Layout.{intsBytes, stringBytes, payload, elementBytes, entryBytes}
 use Rattle.form.proofs.Digits.{digits-length}
 use Rattle.demands.specs.Rescue.{counts, cutTag, cutTags, cutEntries, tagLines, elementLines, entryLines, BeginsTag, BeginsTags, BeginsEntries}
-use Rattle.demands.proofs.Tests.{and-both, and-right}
+use Rattle.form.proofs.Picks.{and-right}
+use Rattle.demands.proofs.Tests.{and-both}
 use Rattle.demands.proofs.Fields.{string-length}
 
 differ : {A : Type 0} → true ≡ false → A

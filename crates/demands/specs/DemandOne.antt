@@ -10,9 +10,9 @@ use mathlib.Core.Bool.{true}
 use lib.ListN.{length, drop, getD, replicate}
 use Rattle.form.specs.Answer.{badString, overLimit, badText, moreMatches}
 use Rattle.text_form.specs.Lexing.{among}
-use Rattle.calls.specs.Calls.{Mutf8Called, Utf8Called, ReadCalled, TableCalled, WriteCalled, RescueCalled, QueryCalled, TokenCalled, ContentCalled, ParseCalled}
+use Rattle.calls.specs.Calls.{Mutf8Called, Utf8Called, ReadCalled, TableCalled, WriteCalled, RescueCalled, WriteLinesCalled, ReadLinesCalled, QueryCalled, TokenCalled, ContentCalled, ParseCalled}
 use Rattle.demands.specs.Reading.{Bytes}
-use Rattle.demands.specs.Numbers.{readNumbers, writeNumbers, rescueNumbers, queryNumbers, tokenNumbers, contentNumbers, parseNumbers}
+use Rattle.demands.specs.Numbers.{readNumbers, writeNumbers, rescueNumbers, writeLinesNumbers, readLinesNumbers, queryNumbers, tokenNumbers, contentNumbers, parseNumbers}
 
 -- The eight words accept: the first two are 0.
 abbrev pub Accepts : List ℕ → Type 0
@@ -43,9 +43,9 @@ pub record Answers (P : List ℕ → List ℕ → Type 0) (numbers old left : Li
 abbrev pub Alone : (List ℕ → Type 0) → List ℕ → List ℕ → Type 0
 Alone P m a = (m ≡ []) × P a
 
--- Refusals and what they leave: a refused read zeroes the whole table, a refused parse the whole output, any other changes nothing. On
--- acceptance the words and bytes that the answer counts change, and no others. A rescue is lent three memories: its output and its list of
--- changes are as any call's, and its table ends as a read of the same document leaves it.
+-- Refusals and what they leave: a refused read, of a document or of lines, zeroes the whole table, a refused parse the whole output, any
+-- other changes nothing. On acceptance the words and bytes that the answer counts change, and no others. A rescue is lent three memories:
+-- its output and its list of changes are as any call's, and its table ends as a read of the same document leaves it.
 pub record DemandOne : Type 0 where
   pub read : (doc t : List ℕ) → Bytes doc → Answers (ReadCalled doc t) readNumbers t (replicate (length t) 0) (λ a. 8 * getD a 3 0)
   pub is-table : (d : ℕ) (t : List ℕ) → Answers (Alone (TableCalled d t)) (overLimit ∷ []) [] [] (λ a. 0)
@@ -54,6 +54,8 @@ pub record DemandOne : Type 0 where
   pub rescue : (form : ℕ) (doc t t′ o c c′ : List ℕ) → Bytes doc → Answers (λ o′ a. RescueCalled form doc t t′ o o′ c c′ a) rescueNumbers o o (λ a. getD a 2 0)
   pub rescue-changes : (form : ℕ) (doc t t′ o o′ c : List ℕ) → Bytes doc → Answers (RescueCalled form doc t t′ o o′ c) rescueNumbers c c (λ a. 3 * getD a 3 0)
   pub rescue-table : (form : ℕ) (doc t t′ o o′ c c′ a : List ℕ) → RescueCalled form doc t t′ o o′ c c′ a → (t″ b : List ℕ) → ReadCalled doc t t″ b → t′ ≡ t″
+  pub write-lines : (d : ℕ) (t o : List ℕ) → Answers (WriteLinesCalled d t o) writeLinesNumbers o o (λ a. getD a 2 0)
+  pub read-lines : (s t : List ℕ) → Answers (ReadLinesCalled s t) readLinesNumbers t (replicate (length t) 0) (λ a. 8 * getD a 2 0)
   pub query : (doc t q l : List ℕ) → Answers (QueryCalled doc t q l) queryNumbers l l (λ a. getD a 2 0)
   pub token : (t : List ℕ) (start stops : ℕ) → Answers (Alone (TokenCalled t start stops)) tokenNumbers [] [] (λ a. 0)
   pub content : (t : List ℕ) (start e quoted : ℕ) (o : List ℕ) → Answers (ContentCalled t start e quoted o) contentNumbers o o (λ a. getD a 2 0)

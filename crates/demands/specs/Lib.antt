@@ -14,3 +14,4 @@ pub mod Rounding
 pub mod Marked
 pub mod Examples
 pub mod Cuts
+pub mod Stored

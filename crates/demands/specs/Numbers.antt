@@ -11,6 +11,7 @@ use Rattle.form.specs.Reading.{documentAt}
 use Rattle.form.specs.Writing.{written, WriteIs}
 use Rattle.form.specs.Cut as cut
 use Rattle.form.specs.Cut.{rescued}
+use Rattle.form.specs.Stored.{WriteLinesIs, linesRead}
 use Rattle.form.specs.Query.{asked, refused, within, Count, failed, QueryIs}
 use Rattle.text_form.specs.Lexing.{among, Stops, lexed, content}
 use Rattle.text_form.specs.Text.{parsed}
@@ -57,6 +58,26 @@ abbrev pub IsRescueNumbers : Type 0
 IsRescueNumbers =
     (doc : List ℕ) → Bytes doc → (room lines out n p c : ℕ) → rescued doc room lines out ≡ cut.refused n p c
     → (among rescueNumbers n ≡ true) × ((n ≡ 24 → ⊥) → c ≡ 0)
+
+-- ---- stored lines
+
+-- Writing lines ([6]): over a limit, no table, output full.
+abbrev pub writeLinesNumbers : List ℕ
+writeLinesNumbers = 9 ∷ 10 ∷ 13 ∷ []
+
+-- `write-lines-refusals`: whoever keeps the promise of writing lines refuses with one of these, always at 0.
+abbrev pub IsWriteLinesRefusals : Type 0
+IsWriteLinesRefusals =
+    (d : ℕ) (t o : List ℕ) (answer : Out ℕ) (o′ : List ℕ) (n p : ℕ) → WriteLinesIs d t o answer o′ → answer ≡ no n p
+    → (among writeLinesNumbers n ≡ true) × (p ≡ 0)
+
+-- Reading lines back ([6]): table full, over a limit, bad line.
+abbrev pub readLinesNumbers : List ℕ
+readLinesNumbers = 8 ∷ 9 ∷ 29 ∷ []
+
+-- `read-lines-numbers`: lines are refused with one of these.
+abbrev pub IsReadLinesNumbers : Type 0
+IsReadLinesNumbers = (w room : ℕ) (s : List ℕ) (n p : ℕ) → linesRead w room s ≡ no n p → among readLinesNumbers n ≡ true
 
 -- ---- queries
 

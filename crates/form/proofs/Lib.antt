@@ -25,6 +25,7 @@ pub mod Rows
 pub mod EachKind
 pub mod Values
 pub mod Writing
+pub mod Stored
 pub mod Paths
 pub mod Depths
 pub mod Outcomes

@@ -11,7 +11,7 @@ use lib.Seq.{take-suc, getD-drop}
 use Rattle.form.specs.Numbers.{value, bigEndian}
 
 -- one more byte
-foldl-snoc : (f : ℕ → ℕ → ℕ) (a : ℕ) (xs : List ℕ) (b : ℕ) → foldl f a (xs ++ (b ∷ [])) ≡ f (foldl f a xs) b
+pub foldl-snoc : (f : ℕ → ℕ → ℕ) (a : ℕ) (xs : List ℕ) (b : ℕ) → foldl f a (xs ++ (b ∷ [])) ≡ f (foldl f a xs) b
 foldl-snoc f a [] b = refl
 foldl-snoc f a (x ∷ xs) b = foldl-snoc f (f a x) xs b
 

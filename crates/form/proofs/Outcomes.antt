@@ -1,4 +1,4 @@
--- A write and a query have one outcome each: two that the promise allows are the same. Whether words form a table is not decided for it:
+-- Writes and a query have one outcome each: two that the promise allows are the same. Whether words form a table is not decided for it:
 -- whether two outcomes are the same can be, and in none of the three cases can they differ.
 -- Assumes nothing.
 use Prim.Native.Nat.{ℕ}
@@ -10,6 +10,7 @@ use lib.ListN.{length}
 use Rattle.form.specs.Answer.{Out, got, no as refused}
 use Rattle.form.specs.Tables.{IsTable, Within}
 use Rattle.form.specs.Writing.{Gives, WriteIs}
+use Rattle.form.specs.Stored.{WriteLinesIs}
 use Rattle.form.specs.Query.{Answered, Count, counted, failed, Finds, QueryIs}
 use Rattle.form.proofs.Answer.{got-no}
 
@@ -55,6 +56,15 @@ gives-one w o a₁ a₂ o₁ o₂ g h = (g .answer-is ∙ sym (h .answer-is), g 
 pub one-write : (doc t o : List ℕ) (a₁ a₂ : Out ℕ) (o₁ o₂ : List ℕ) → WriteIs doc t o a₁ o₁ → WriteIs doc t o a₂ o₂ → (a₁ ≡ a₂) × (o₁ ≡ o₂)
 one-write doc t o a₁ a₂ o₁ o₂ g h =
     in-each-case {W = Within (length doc) t} {T = IsTable (length doc) t} (both (same-out a₁ a₂) (same-list o₁ o₂))
+    (λ n. gives-one _ o a₁ a₂ o₁ o₂ (g .large n) (h .large n))
+    (λ w n. gives-one _ o a₁ a₂ o₁ o₂ (g .unfit w n) (h .unfit w n))
+    (λ w i. gives-one _ o a₁ a₂ o₁ o₂ (g .fit w i) (h .fit w i))
+
+-- Two outcomes of writing a table's lines ([6]): the answer and the output.
+pub one-write-lines : (d : ℕ) (t o : List ℕ) (a₁ a₂ : Out ℕ) (o₁ o₂ : List ℕ) → WriteLinesIs d t o a₁ o₁ → WriteLinesIs d t o a₂ o₂
+    → (a₁ ≡ a₂) × (o₁ ≡ o₂)
+one-write-lines d t o a₁ a₂ o₁ o₂ g h =
+    in-each-case {W = Within d t} {T = IsTable d t} (both (same-out a₁ a₂) (same-list o₁ o₂))
     (λ n. gives-one _ o a₁ a₂ o₁ o₂ (g .large n) (h .large n))
     (λ w n. gives-one _ o a₁ a₂ o₁ o₂ (g .unfit w n) (h .unfit w n))
     (λ w i. gives-one _ o a₁ a₂ o₁ o₂ (g .fit w i) (h .fit w i))

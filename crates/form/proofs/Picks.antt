@@ -1,8 +1,8 @@
--- Laws of `pick`: what holds of it at a test holds by the two cases of the test.
+-- Laws of tests: what holds of `pick` at a test holds by the two cases of the test; and of two tests taken together each holds.
 -- Assumes nothing.
 use Prim.Native.Nat.{ℕ, _≤_, _<_}
 use mathlib.Core.Path.{_≡_, refl}
-use mathlib.Core.Bool.{Bool, true, false}
+use mathlib.Core.Bool.{Bool, true, false, _&&_}
 use lib.Dec.{ltb, leb, eqb}
 use borrow.Author.Tests.{ltb-true, ltb-false, leb-true, leb-false, eqb-true, eqb-false}
 use mathlib.Core.Logic.{_⊎_, inl, inr}
@@ -28,3 +28,11 @@ lt-or a b = go (ltb a b) refl
     go : (t : Bool) → ltb a b ≡ t → (a < b) ⊎ (b ≤ a)
     go true e = inl (ltb-true a b e)
     go false e = inr (ltb-false a b e)
+
+pub and-left : (a b : Bool) → (a && b) ≡ true → a ≡ true
+and-left true b e = refl
+and-left false b e = e
+
+pub and-right : (a b : Bool) → (a && b) ≡ true → b ≡ true
+and-right true b e = e
+and-right false b e = cc

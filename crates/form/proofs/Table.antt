@@ -5,7 +5,7 @@ use mathlib.Core.List.{List, [], _∷_, _++_, append-assoc, append-nil}
 use mathlib.Core.Path.{_≡_, refl, sym, ap, _∙_}
 use native.Mathlib.Omega.{arith}
 use native.Mathlib.Nat.{add-assoc, zero-add, add-zero}
-use lib.ListN.{length, take, drop, length-append, length-take, length-drop, take-append-drop}
+use lib.ListN.{length, set, take, drop, length-append, length-take, length-drop, take-append-drop}
 use lib.Seq.{sets, sets-eq, take-append-le, drop-append-le, take-at, drop-at, take-append-add, drop-append-add, drop-drop, take-take, length-take-le}
 use Rattle.form.specs.Table.{Head, Forest, none, node, size, width, _⊕_, words, flat, wrote}
 use Rattle.form.specs.Spans.{over}
@@ -106,6 +106,12 @@ module _ (t : List ℕ) (i : ℕ) (ws : List ℕ) (fits : i + length ws ≤ leng
         append-assoc ws vs (drop (i + length ws + length vs) t),
       )
       refl
+
+-- one element more
+pub over-next : (t : List ℕ) (i : ℕ) (ws : List ℕ) (x : ℕ) → i + length ws < length t → set (over t i ws) (i + length ws) x ≡ over t i (ws ++ (x ∷ []))
+over-next t i ws x h =
+    let fits : i + length ws ≤ length t = omega arith in
+    sets-over (x ∷ []) (over t i ws) (i + length ws) (rw (over-length t i ws fits) (omega arith)) ∙ over-over t i ws fits (x ∷ [])
 
 -- what is written right before
 pub over-before : (t : List ℕ) (i : ℕ) (vs ws : List ℕ) → i + length vs ≤ length t

@@ -11,6 +11,7 @@ pub mod Rows
 pub mod Reading
 pub mod Cut
 pub mod Writing
+pub mod Stored
 pub mod Paths
 pub mod Records
 pub mod Query

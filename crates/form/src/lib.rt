@@ -68,7 +68,9 @@ pub const DECIMAL_BEYOND: u8 = 23;
 
 pub const MORE_MATCHES: u8 = 24;
 
-// The refusals of document 02 ([11]).
+// The refusals of document 02 ([6], [11]).
+pub const BAD_LINE: u8 = 29;
+
 pub const NOT_CUT: u8 = 31;
 
 pub const ROOT_CUT: u8 = 32;

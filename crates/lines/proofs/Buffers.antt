@@ -7,29 +7,17 @@ use native.Mathlib.Omega.{arith}
 use native.Mathlib.Nat.{zero-add}
 use native.Mathlib.Numerals.{add-one}
 use lib.ListN.{length, set, replicate, length-append, length-replicate, replicate-append-replicate}
-use lib.Seq.{set-split}
 use Rattle.form.specs.Spans.{over}
-use Rattle.form.proofs.Table.{over-none, over-length, over-over}
+use Rattle.form.proofs.Table.{over-none, over-length, over-next}
 use Rattle.lines.specs.Buffers.{firsts, withByte}
 
 -- ---- one element more
 
-set-one : (l : List ℕ) (i x : ℕ) → i < length l → set l i x ≡ over l i (x ∷ [])
-unfolding over
-set-one l i x h = rw add-one (set-split l i x h)
-
--- What is put right behind some elements belongs to them.
-pub put-next : (l : List ℕ) (at : ℕ) (ws : List ℕ) (x : ℕ) → at + length ws < length l
-    → set (over l at ws) (at + length ws) x ≡ over l at (ws ++ (x ∷ []))
-put-next l at ws x h =
-    let fits : at + length ws ≤ length l = omega arith in
-    set-one (over l at ws) (at + length ws) x (rw (over-length l at ws fits) h) ∙ over-over l at ws fits (x ∷ [])
-
--- The same at the front, by the elements' number.
+-- What is put right behind the first elements belongs to them.
 pub front-next : (l ws : List ℕ) (n x : ℕ) → length ws ≡ n → n < length l → set (over l 0 ws) n x ≡ over l 0 (ws ++ (x ∷ []))
 front-next l ws n x e h =
     let p : 0 + length ws ≡ n = zero-add (length ws) ∙ e in
-    subst (λ k. set (over l 0 ws) k x ≡ over l 0 (ws ++ (x ∷ []))) p (put-next l 0 ws x (rw p h))
+    subst (λ k. set (over l 0 ws) k x ≡ over l 0 (ws ++ (x ∷ []))) p (over-next l 0 ws x (rw p h))
 
 -- ---- what a function gives for each place
 
@@ -70,7 +58,7 @@ module _ (l : List ℕ) (start b : ℕ) where
       let one : i - start + 1 ≡ i + 1 - start = omega arith in
       let more : ws ++ (b ∷ []) ≡ replicate (i + 1 - start) b =
       replicate-append-replicate (i - start) 1 b ∙ ap (λ k. replicate k b) one in
-      subst (λ k. set (over l start ws) k b ≡ over l start (ws ++ (b ∷ []))) p (put-next l start ws b (rw p h)) ∙ ap (over l start) more
+      subst (λ k. set (over l start ws) k b ≡ over l start (ws ++ (b ∷ []))) p (over-next l start ws b (rw p h)) ∙ ap (over l start) more
 
   pub fill-end : (end i : ℕ) → i - start ≡ min end (length l) - start → over l start (replicate (i - start) b) ≡ withByte l start end b
   unfolding withByte

@@ -12,18 +12,11 @@ use lib.Seq.{length-take-le, getD-take}
 use lib.Dec.{ltb}
 use Rattle.form.specs.Spans.{over}
 use Rattle.form.proofs.Drops.{drop1}
+use Rattle.form.proofs.Picks.{and-left, and-right}
 use Rattle.lines.specs.Buffers.{firsts}
 use Rattle.lines.specs.Digits.{digitOf, allDigits, byteOf, byteAt, inPairs, hexBytes, hexAnswer, hexCount, hexPut, Unhexed}
 use Rattle.lines.specs.declared.Hex.{Hex}
 use Rattle.lines.proofs.Buffers.{firsts-length}
-
-and-left : (a b : Bool) → (a && b) ≡ true → a ≡ true
-and-left true b e = refl
-and-left false b e = e
-
-and-right : (a b : Bool) → (a && b) ≡ true → b ≡ true
-and-right true b e = e
-and-right false b e = absurd (let z : _≡_ {A = ℕ} 0 1 = cc in omega arith)
 
 -- ---- the value of a byte as a digit
 

@@ -42,14 +42,6 @@ or-implied true b h = refl
 or-implied false true h = sym (h refl)
 or-implied false false h = refl
 
-pub and-left : (a b : Bool) → (a && b) ≡ true → a ≡ true
-and-left true b e = refl
-and-left false b e = no-way false e refl
-
-pub and-right : (a b : Bool) → (a && b) ≡ true → b ≡ true
-and-right true b e = e
-and-right false b e = no-way false e refl
-
 pub and-true : (a : Bool) → (a && true) ≡ a
 and-true true = refl
 and-true false = refl

@@ -1,0 +1,94 @@
+-- What is claimed of stored lines ([6]): which bytes are lines, and that words and lines come back. The proofs are in proofs/Stored.antt, under
+-- the names given here; that examples hold is shown there by computing.
+-- Assumes nothing.
+use Prim.Native.Nat.{ℕ, _*_, _/_, _^_, _≤_, _<_}
+use mathlib.Core.Path.{_≡_}
+use mathlib.Core.Logic.{_↔_}
+use mathlib.Core.List.{List, [], _∷_, _++_, map}
+use lib.ListN.{length, getD, take}
+use Rattle.form.specs.Answer.{Out, got, no, documentLimit, recordLimit}
+use Rattle.form.specs.Spans.{over}
+use Rattle.form.specs.Tables.{IsTable}
+use Rattle.form.specs.Stored.{linesOf, linesRead, WriteLinesIs}
+use Rattle.calls.specs.Calls.{WriteLinesCalled, ReadLinesCalled}
+use Rattle.demands.specs.Marked.{ascii}
+
+-- Words of 32 bits, as every table has.
+abbrev pub Words : List ℕ → Type 0
+Words t = (i : ℕ) → getD t i 0 < 2 ^ 32
+
+-- The bytes s are the lines of the words ws, which are whole records, within the limit and a room.
+pub record AreLines (room : ℕ) (s ws : List ℕ) : Type 0 where
+  pub records : ℕ
+  pub long : length ws ≡ 8 * records
+  pub small : Words ws
+  pub few : records ≤ recordLimit
+  pub roomy : records ≤ room
+  pub these : s ≡ linesOf 8 records ws
+
+-- `lines-are`: bytes are accepted with some words exactly if they are the lines of those words; no two texts have the same words, and no
+-- text two lists of words.
+abbrev pub IsLinesAre : Type 0
+IsLinesAre = (room : ℕ) (s ws : List ℕ) → linesRead 8 room s ≡ got ws ↔ AreLines room s ws
+
+-- `lines-back`: whoever writes the lines of a table, and reads the bytes written into as many words or more, gets the same words.
+abbrev pub IsLinesBack : Type 0
+IsLinesBack =
+    (d : ℕ) (t o o′ a : List ℕ) → Words t → WriteLinesCalled d t o o′ a → (c : ℕ) → a ≡ 0 ∷ 0 ∷ c ∷ 0 ∷ 0 ∷ 0 ∷ 0 ∷ 0 ∷ []
+    → (u u′ b : List ℕ) → length t ≤ length u → ReadLinesCalled (take c o′) u u′ b
+    → (b ≡ 0 ∷ 0 ∷ length t / 8 ∷ 0 ∷ 0 ∷ 0 ∷ 0 ∷ 0 ∷ []) × (u′ ≡ over u 0 t)
+
+-- `words-back`: whoever reads lines, and writes the words read, gets the same lines where there is room, on one condition: that the words
+-- form a table over the document whose length the writer is told. Other words are refused with 10.
+abbrev pub IsWordsBack : Type 0
+IsWordsBack =
+    (s t t′ a : List ℕ) → ReadLinesCalled s t t′ a → (n : ℕ) → a ≡ 0 ∷ 0 ∷ n ∷ 0 ∷ 0 ∷ 0 ∷ 0 ∷ 0 ∷ []
+    → (d : ℕ) → d ≤ documentLimit → IsTable d (take (8 * n) t′)
+    → (o o′ b : List ℕ) → length s ≤ length o → WriteLinesCalled d (take (8 * n) t′) o o′ b
+    → (b ≡ 0 ∷ 0 ∷ length s ∷ 0 ∷ 0 ∷ 0 ∷ 0 ∷ 0 ∷ []) × (o′ ≡ over o 0 s)
+
+-- `one-write-lines`: two outcomes that the promise of writing lines allows are one. That of reading them is one equation for each word.
+abbrev pub IsOneWriteLines : Type 0
+IsOneWriteLines =
+    (d : ℕ) (t o : List ℕ) (a₁ a₂ : Out ℕ) (o₁ o₂ : List ℕ) → WriteLinesIs d t o a₁ o₁ → WriteLinesIs d t o a₂ o₂ → (a₁ ≡ a₂) × (o₁ ≡ o₂)
+
+-- ---- by example
+
+-- A text and a room in records.
+pub data Stored : Type 0 where
+  stored : List ℕ → ℕ → Stored
+
+abbrev pub answerTo : Stored → Out (List ℕ)
+answerTo (stored s room) = linesRead 8 room s
+
+-- The line of the record 10 3 0 0 0 0 0 1, without its line feed; a capital in the place of its a; and a line feed.
+abbrev pub smallest : List ℕ
+smallest = ascii "0000000a00000003000000000000000000000000000000000000000000000001"
+
+abbrev pub capital : List ℕ
+capital = ascii "0000000A00000003000000000000000000000000000000000000000000000001"
+
+abbrev pub feed : List ℕ
+feed = 10 ∷ []
+
+unfoldable pub examples : List (Stored × Out (List ℕ))
+examples =
+    -- no line, with no room; one line
+    (stored [] 0, got [])
+    ∷ (stored (smallest ++ feed) 1, got (10 ∷ 3 ∷ 0 ∷ 0 ∷ 0 ∷ 0 ∷ 0 ∷ 1 ∷ []))
+    -- not ended; ended by a carriage return as well; a capital; a digit short, and one over; an empty line
+    ∷ (stored smallest 1, no 29 1)
+    ∷ (stored (smallest ++ (13 ∷ feed)) 1, no 29 1)
+    ∷ (stored (capital ++ feed) 1, no 29 1)
+    ∷ (stored (take 63 smallest ++ feed) 1, no 29 1)
+    ∷ (stored (smallest ++ (48 ∷ feed)) 1, no 29 1)
+    ∷ (stored (smallest ++ feed ++ feed) 2, no 29 2)
+    -- no room; in one line 29 comes before 8, and a line's 8 before the next line's 29
+    ∷ (stored (smallest ++ feed) 0, no 8 1)
+    ∷ (stored (capital ++ feed) 0, no 29 1)
+    ∷ (stored (smallest ++ feed ++ capital ++ feed) 0, no 8 1)
+    ∷ []
+
+-- `stored-examples`: the definition answers each as it says.
+abbrev pub AreStoredExamples : Type 0
+AreStoredExamples = map (λ r. answerTo (r .0)) examples ≡ map (λ r. r .1) examples
