@@ -1,6 +1,6 @@
 // The library to link: every entry point under its C name, each one line over a call that keeps the same promise. include/tikfazrul.h says
 // what each word of an answer is, crates/calls/specs defines it.
-ghost use Rattle.calls.specs.Calls.{Mutf8Called, Utf8Called, ReadCalled, TableCalled, WriteCalled, RescueCalled, QueryCalled, TokenCalled, ContentCalled, ParseCalled};
+ghost use Rattle.calls.specs.Calls.{Mutf8Called, Utf8Called, ReadCalled, TableCalled, WriteCalled, RescueCalled, WriteLinesCalled, ReadLinesCalled, QueryCalled, TokenCalled, ContentCalled, ParseCalled};
 
 // Whether bytes are modified UTF-8 (rule 2): 4 at the first sequence that can't be read.
 #[no_mangle]
@@ -61,6 +61,27 @@ pub extern "C" fn tikfazrul_rescue(
     ensures { λ _. ⌜ RescueCalled form (now (doc .entry)) (now (table .entry)) (now (table .exit)) (now (out .entry)) (now (out .exit)) (now (changes .entry)) (now (changes .exit)) (now (answer .exit)) ⌝ }
 {
     call_rescue::rescue(form, doc, table, out, changes, answer);
+}
+
+// Writes the lines of a table over a document of doc_len bytes, one record a line ([6]).
+#[no_mangle]
+pub extern "C" fn tikfazrul_write_lines(
+    doc_len: usize,
+    table: &[u32],
+    out: &mut [u8],
+    answer: &mut [u64; 8],
+)
+    ensures { λ _. ⌜ WriteLinesCalled «doc_len» (now (table .entry)) (now (out .entry)) (now (out .exit)) (now (answer .exit)) ⌝ }
+{
+    call_store::write_lines(doc_len, table, out, answer);
+}
+
+// Reads lines back into a table ([6]). Whether the words form one is not asked.
+#[no_mangle]
+pub extern "C" fn tikfazrul_read_lines(lines: &[u8], table: &mut [u32], answer: &mut [u64; 8])
+    ensures { λ _. ⌜ ReadLinesCalled (now (lines .entry)) (now (table .entry)) (now (table .exit)) (now (answer .exit)) ⌝ }
+{
+    call_store::read_lines(lines, table, answer);
 }
 
 // Asks a table which of its tags match a query (rule 9). Refusal 24 comes with the true count.

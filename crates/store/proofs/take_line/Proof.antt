@@ -1,0 +1,88 @@
+-- `store::take_line` meets its contract: k words of the line stand in the record, and the rest of the table is as it was.
+-- Assumes nothing.
+use Prim.Native.Nat.{_+_, _-_, _*_, _≤_}
+use native.Mathlib.Omega.{arith}
+use native.Mathlib.Nat.{le-antisymm}
+use mathlib.Core.Bool.{true}
+use mathlib.Core.Path.{_≡_, refl, sym, ap, _∙_, subst}
+use lib.ListN.{length, set, length-set}
+use Rattle.form.specs.Spans.{part, over}
+use Rattle.form.specs.Stored.{allDigits, hexValue, wordsOf}
+use Rattle.form.proofs.Stored.{span-digits}
+use Rattle.store.proofs.Reading.{no-words, word-put, part-part}
+use Rattle.store.proofs.take_line.Statement.{statement}
+use Rattle.store.proofs.take_line.Tie as tie
+
+abbrev Inv-loop : tie.InvT-loop
+Inv-loop lines n table₀ k₀ table k =
+    (length table ≡ length table₀) × (table ≡ over table₀ (8 * n) (wordsOf k (part lines (65 * n) 64))) × (k ≤ 8)
+
+abbrev μ-loop : tie.MeasureT-loop
+μ-loop lines n table₀ k₀ table k = 8 - k
+
+-- Where the function starts, from its loop.
+abbrev start-of : tie.At-loop Inv-loop μ-loop → tie.Start Inv-loop μ-loop
+start-of c = c .before .before .before
+
+loop-holds : tie.Need-loop-holds Inv-loop μ-loop
+loop-holds c =
+    let start = c .before .before in
+    (refl, no-words (start .args .table .now) (8 * start .args .n) (part (start .args .lines .now) (65 * start .args .n) 64), omega arith)
+
+word-at-requires : tie.Need-word-at-requires Inv-loop μ-loop
+word-at-requires c κs =
+    let start = start-of (c .before) in
+    let s = start .args .lines .now in
+    let at = 65 * start .args .n in
+    let k = c .before .loop .k in
+    let h = c .loop-test .taken in (
+      omega (arith, start .pre .0, h),
+      subst (λ x. allDigits x ≡ true) (part-part s at 64 (8 * k) 8 (start .pre .0) (omega (arith, h))) (span-digits (part s at 64) (start .pre .2) (8 * k) 8),
+    )
+
+loop-again : tie.Need-loop-again Inv-loop μ-loop
+loop-again c =
+    let at-test = c .before in
+    let h = at-test .loop-test .taken in
+    let l = at-test .before .loop in
+    let start = start-of (at-test .before) in
+    let s = start .args .lines .now in
+    let t = start .args .table .now in
+    let n = start .args .n in
+    let line = part s (65 * n) 64 in
+    let word : c .word-at .result ≡ hexValue (part line (8 * l .k) 8) =
+    c .word-at .ensures ∙ ap hexValue (sym (part-part s (65 * n) 64 (8 * l .k) 8 (start .pre .0) (omega (arith, h)))) in (
+      simp length-set (l .inv .0),
+      ap (λ x. set x (8 * n + l .k) (c .word-at .result)) (l .inv .1)
+          ∙ ap (set (over t (8 * n) (wordsOf (l .k) line)) (8 * n + l .k)) word
+          ∙ word-put t line (8 * n) (l .k) (omega (arith, start .pre .1, h)),
+      omega (arith, h),
+    )
+
+returns : tie.Need-returns Inv-loop μ-loop
+returns c =
+    let l = c .before .loop in
+    let start = start-of (c .before) in
+    let line = part (start .args .lines .now) (65 * start .args .n) 64 in
+    l .inv .1 ∙ ap (λ k. over (start .args .table .now) (8 * start .args .n) (wordsOf k line)) (le-antisymm (l .inv .2) (c .loop-test .left))
+
+pub take-line-spec : {M : Type 1} → statement M
+take-line-spec =
+    tie.close
+    (tie.spec
+    Inv-loop
+    μ-loop
+    loop-holds
+    (λ c. let start = start-of (c .before) in omega (arith, start .pre .0, start .good .0 .1))
+    (λ c. omega (arith, c .loop-test .taken))
+    (λ c. let start = start-of (c .before) in omega (arith, start .pre .0, start .good .0 .1, c .loop-test .taken))
+    word-at-requires
+    (λ c. let start = start-of (c .before .before) in omega (arith, start .pre .1, start .good .1 .1 .0 .1))
+    (λ c. let start = start-of (c .before .before) in omega (arith, start .pre .1, start .good .1 .1 .0 .1, c .before .loop-test .taken))
+    (λ c. let start = start-of (c .before .before) in omega (arith, start .pre .1, start .good .1 .1 .0 .1, c .before .loop-test .taken))
+    (λ c. let start = start-of (c .before .before) in omega (arith, start .pre .1, c .before .before .loop .inv .0, c .before .loop-test .taken))
+    (λ c. omega (arith, c .before .loop-test .taken))
+    (λ c. omega (arith, c .before .loop-test .taken))
+    loop-again
+    (λ c. c .before .loop .inv .0)
+    returns)
