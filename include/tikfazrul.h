@@ -20,10 +20,10 @@
  *    5  a count below 0         its first byte
  *    6  a name twice            the id byte of the later entry (tikfazrul_write: the later record; tikfazrul_parse: the later key)
  *    7  over 512 deep           the first payload byte (tikfazrul_write, tikfazrul_query: the record; tikfazrul_parse: the opening brace)
- *    8  the table is full       the first payload byte
- *    9  over a limit            0: a document over 16,777,216 bytes, a table to check, to write or to ask over 8,388,608 words, or a text over
- *                               1,048,576 bytes
- *   10  no table                0: the words form no table (tikfazrul_write, tikfazrul_query)
+ *    8  the table is full       the first payload byte (tikfazrul_read_lines: the line's number)
+ *    9  over a limit            0: a document over 16,777,216 bytes, a table to check, to write, to store or to ask over 8,388,608 words, more
+ *                               than 1,048,576 lines, or a text over 1,048,576 bytes
+ *   10  no table                0: the words form no table (tikfazrul_write, tikfazrul_write_lines, tikfazrul_query)
  *   11  a mixed list            the record of another kind than its list's first (tikfazrul_parse: the element's token)
  *   12  over 65,535 bytes       the record whose name or string it is (tikfazrul_parse: the token)
  *   13  the output is full      0 (tikfazrul_parse: the token whose bytes do not fit)
@@ -39,6 +39,7 @@
  *   22  an unmatched brace      the opening brace
  *   23  a decimal beyond reach  the token: more digits or a larger power of ten than one rounding can do
  *   24  a list too short        0, with the true number of matches in [2] (tikfazrul_rescue: of lines of changes)
+ *   29  a bad line              the line's number, from 1
  *   31  the document is whole   0: there is nothing to rescue
  *   32  the root is cut         the first byte of the field not whole: the root's id, or its name's length or content
  */
@@ -90,6 +91,17 @@ void tikfazrul_write(const uint8_t *doc, size_t doc_len, uint32_t *table, size_t
  * come: any number means the one form there is. */
 void tikfazrul_rescue(uint32_t form, const uint8_t *doc, size_t doc_len, uint32_t *table, size_t table_len, uint8_t *out, size_t out_len,
                       uint32_t *changes, size_t changes_len, uint64_t answer[8]);
+
+/* Writes a table as lines, to be kept and read back: for each record its eight words, each as eight digits 0 to 9 and a to f with the highest
+ * first, and a line feed; 65 bytes a record. The document is given by its length alone. Accepted: [2] is the number of bytes written, from
+ * out[0] on; no other byte changes. Refused (9, 10, 13): the output is as it was. */
+void tikfazrul_write_lines(size_t doc_len, const uint32_t *table, size_t table_len, uint8_t *out, size_t out_len, uint64_t answer[8]);
+
+/* Reads such lines back into a table. Accepted: [2] is the number of records, whose words stand from table[0] on; no other word changes. No
+ * line is accepted too. Refused: every word of the table is 0. 9 comes first, above 1,048,576 lines, an unended one counted; then by line, whose
+ * number from 1 is the place, 29 where it is anything but 64 such digits and a line feed, and 8 where there is no room: the table has it for
+ * table_len / 8 records. Whether the words form a table is not asked: tikfazrul_is_table does, and so does each function that takes one. */
+void tikfazrul_read_lines(const uint8_t *lines, size_t lines_len, uint32_t *table, size_t table_len, uint64_t answer[8]);
 
 /* Asks which tags of a table match a query, whose names lie in `doc`. The query is steps, sixteen at the most, one after the other, and says
  * how to come from the root to a tag:
