@@ -31,6 +31,8 @@ mod c {
             changes_len: usize,
             answer: *mut u64,
         );
+        pub fn tikfazrul_write_lines(doc_len: usize, table: *const u32, table_len: usize, out: *mut u8, out_len: usize, answer: *mut u64);
+        pub fn tikfazrul_read_lines(lines: *const u8, lines_len: usize, table: *mut u32, table_len: usize, answer: *mut u64);
         pub fn tikfazrul_query(
             doc: *const u8,
             doc_len: usize,
@@ -100,6 +102,21 @@ pub fn rescue(doc: &[u8], table: &mut [u32], out: &mut [u8], changes: &mut [u32]
             answer.as_mut_ptr(),
         )
     };
+    answer
+}
+
+pub fn write_lines(doc_len: usize, table: &[u32], out: &mut [u8]) -> Answer {
+    let mut answer = [0; 8];
+    // SAFETY: the pointers stand for slices of the lengths given; the output and the answer are lent to be written to and overlap nothing;
+    // the document is given by its length alone.
+    unsafe { c::tikfazrul_write_lines(doc_len, table.as_ptr(), table.len(), out.as_mut_ptr(), out.len(), answer.as_mut_ptr()) };
+    answer
+}
+
+pub fn read_lines(lines: &[u8], table: &mut [u32]) -> Answer {
+    let mut answer = [0; 8];
+    // SAFETY: the pointers stand for slices of the lengths given; the table and the answer are lent to be written to and overlap nothing.
+    unsafe { c::tikfazrul_read_lines(lines.as_ptr(), lines.len(), table.as_mut_ptr(), table.len(), answer.as_mut_ptr()) };
     answer
 }
 

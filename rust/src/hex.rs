@@ -21,8 +21,12 @@ pub fn line(bytes: &[u8], offset: usize) -> String {
             None => shown.push_str("   "),
         }
     }
-    let text: String = bytes.iter().map(|&b| if (0x20..0x7F).contains(&b) { b as char } else { '.' }).collect();
-    format!("{shown}  |{text}|")
+    format!("{shown}  |{}|", ascii(bytes))
+}
+
+/// Bytes in ASCII, with a dot for what can't be shown.
+pub(crate) fn ascii(bytes: &[u8]) -> String {
+    bytes.iter().map(|&b| if (0x20..0x7F).contains(&b) { b as char } else { '.' }).collect()
 }
 
 /// All the bytes, a line for each sixteen; no line for none.

@@ -41,6 +41,18 @@
 //! # Ok::<(), tikfazrul::Refusal>(())
 //! ```
 //!
+//! A table can be kept as lines of hexadecimal ([`Table::to_lines`]), so that a document that is asked every night is read once:
+//!
+//! ```
+//! use tikfazrul::{read, Table};
+//!
+//! let doc = b"\x0A\0\x01a\x01\0\x01b\xFF\0";
+//! let lines = read(doc)?.to_lines(doc.len())?;
+//! let table = Table::from_lines(&lines, doc.len())?;
+//! assert_eq!(table.root(doc)?.get("b").unwrap().as_i8(), Some(-1));
+//! # Ok::<(), tikfazrul::Refusal>(())
+//! ```
+//!
 //! # Coming from quartz_nbt
 //!
 //! | there | here |
@@ -57,6 +69,7 @@
 
 mod ffi;
 pub mod hex;
+mod lines;
 pub mod mutf8;
 mod node;
 mod path;
@@ -65,6 +78,7 @@ mod rescue;
 mod table;
 mod text;
 
+pub use lines::{lines_into, read_lines_into, LINE};
 pub use node::{Children, Kind, Link, Node, Trail, Walk};
 pub use path::{quoted, Fault, PathError, Query, MAX_NAME, MAX_STEPS};
 pub use refusal::{Place, Refusal};

@@ -1,6 +1,6 @@
 //! Why something is refused, and where.
 use crate::ffi::Answer;
-use crate::hex;
+use crate::{hex, lines};
 use std::fmt;
 
 /// What a place counts.
@@ -14,6 +14,8 @@ pub enum Place {
     Query(usize),
     /// A byte of the text, from 0.
     Text(usize),
+    /// A line of a table's lines, from 1.
+    Line(usize),
     /// The whole input: no one place is at fault.
     Whole,
 }
@@ -22,7 +24,7 @@ impl Place {
     /// The place as a bare number, 0 for the whole.
     pub fn number(self) -> usize {
         match self {
-            Place::Byte(n) | Place::Record(n) | Place::Query(n) | Place::Text(n) => n,
+            Place::Byte(n) | Place::Record(n) | Place::Query(n) | Place::Text(n) | Place::Line(n) => n,
             Place::Whole => 0,
         }
     }
@@ -35,6 +37,7 @@ impl fmt::Display for Place {
             Place::Record(n) => write!(f, "at record {n}"),
             Place::Query(n) => write!(f, "at byte {n} of the query"),
             Place::Text(n) => write!(f, "at byte {n} of the text"),
+            Place::Line(n) => write!(f, "at line {n}"),
             Place::Whole => write!(f, "as a whole"),
         }
     }
@@ -112,11 +115,11 @@ refusals! {
     6 RepeatedName "a name stands twice in one compound", "the later entry";
     7 TooDeep "lists and compounds are more than 512 deep", "where the payload of the innermost begins";
     8 TableFull "the table has no room for another record", "where that record's payload begins";
-    9 OverLimit "the input is over a limit: a document has at most 16,777,216 bytes, a text 1,048,576, a table 1,048,576 records", "";
+    9 OverLimit "the input is over a limit: a document has at most 16,777,216 bytes, a text 1,048,576, a table 1,048,576 records or lines", "";
     10 NoTable "the words form no table over this document", "";
     11 NonHomogenousList "a list holds tags of more than one kind", "";
     12 StringTooLong "a name or string has more than 65,535 bytes", "";
-    13 OutputFull "the output has no room for the document", "";
+    13 OutputFull "the output has no room for all that is to be written", "";
     14 MalformedQuery "the query has a step that can't be read, or more than sixteen", "";
     15 NotUtf8 "the text is not UTF-8, or the start is within a character or past its end", "";
     16 UnmatchedQuote "a quote is opened and not closed", "";
@@ -127,6 +130,7 @@ refusals! {
     21 TrailingComma "nothing follows a comma", "";
     22 UnmatchedBrace "a brace or bracket is opened and not closed", "";
     23 UnheldDecimal "a decimal has more digits, or a larger exponent, than is read exactly", "";
+    29 BadLine "a line is not 64 digits (0 to 9, a to f) and a line feed", "";
     31 NotCut "the document is whole: there is nothing to rescue", "";
     32 RootCut "the data ends in the root's id or name, and nothing can be rescued", "where the field that is not whole begins";
 }
@@ -143,7 +147,8 @@ impl Refusal {
     }
 
     /// The bytes around the place, in hexadecimal with a mark below the place, where the place is a byte of `bytes`: of the document, the
-    /// query or the text that was refused. `None` where the place is a record or the whole.
+    /// query or the text that was refused. Where it is a line of `bytes`, that line, with a mark below what is wrong with it and words that
+    /// say what. `None` where the place is a record or the whole, and where nothing is wrong with the line.
     ///
     /// ```
     /// let refusal = tikfazrul::read(b"\x0A\0\0\x0D\0\0").unwrap_err();
@@ -154,6 +159,7 @@ impl Refusal {
     pub fn window(&self, bytes: &[u8]) -> Option<String> {
         match self.place() {
             Place::Byte(at) | Place::Query(at) | Place::Text(at) => Some(hex::window(bytes, at)),
+            Place::Line(number) => lines::window(bytes, number),
             Place::Record(_) | Place::Whole => None,
         }
     }
@@ -183,7 +189,7 @@ mod tests {
 
     #[test]
     fn each_number_has_its_case() {
-        for number in (1..=23).chain(31..=32) {
+        for number in (1..=23).chain([29, 31, 32]) {
             let refusal = Refusal::of(number, Place::Byte(7));
             assert_eq!((refusal.number(), refusal.place()), (number, Place::Byte(7)));
             assert!(!matches!(refusal, Refusal::Unknown(..)), "{number}");
@@ -197,6 +203,10 @@ mod tests {
         assert_eq!(twice.to_string(), "a name stands twice in one compound, at byte 23, the later entry (refusal 6)");
         let record = Refusal::RepeatedName(Place::Record(2));
         assert_eq!(record.to_string(), "a name stands twice in one compound, at record 2 (refusal 6)");
+        let line = Refusal::BadLine(Place::Line(3));
+        assert_eq!(line.to_string(), "a line is not 64 digits (0 to 9, a to f) and a line feed, at line 3 (refusal 29)");
+        let full = Refusal::TableFull(Place::Line(3));
+        assert_eq!(full.to_string(), "the table has no room for another record, at line 3 (refusal 8)");
         assert_eq!(Refusal::NoTable(Place::Whole).to_string(), "the words form no table over this document (refusal 10)");
         assert!(Refusal::MoreMatches(3).to_string().contains("3 in all"));
         assert!(Refusal::MoreChanges(3).to_string().contains("3 in all"));

@@ -40,9 +40,25 @@ impl Table {
         Table::default()
     }
 
-    /// A table of words from elsewhere. They may form none: then [`write()`], [`query`] and [`Table::root`] refuse them with 10.
+    /// A table of words from elsewhere. They may form none: then [`write()`], [`query`], [`Table::root`] and [`Table::to_lines`] refuse them
+    /// with 10.
     pub fn from_words(words: Vec<u32>) -> Table {
         Table { words, consumed: 0, over: None }
+    }
+
+    /// A table of words from elsewhere that are judged here: refused with 10 where they form none over a document of so many bytes.
+    pub(crate) fn judged(words: Vec<u32>, doc_len: usize) -> Result<Table, Refusal> {
+        let mut table = Table::from_words(words);
+        table.judge(doc_len)?;
+        table.over = Some(doc_len);
+        Ok(table)
+    }
+
+    fn judge(&self, doc_len: usize) -> Result<(), Refusal> {
+        match self.is_table(doc_len)? {
+            true => Ok(()),
+            false => Err(Refusal::NoTable(Place::Whole)),
+        }
     }
 
     /// Reads a document, and uses the memory of what was read before. After a refusal the table is empty. The table grows by itself: a read
@@ -114,8 +130,8 @@ impl Table {
     /// # Ok::<(), tikfazrul::Refusal>(())
     /// ```
     pub fn root<'a>(&'a self, doc: &'a [u8]) -> Result<Node<'a>, Refusal> {
-        if self.over != Some(doc.len()) && !self.is_table(doc.len())? {
-            return Err(Refusal::NoTable(Place::Whole));
+        if self.over != Some(doc.len()) {
+            self.judge(doc.len())?;
         }
         Ok(Node::root(doc, &self.words))
     }

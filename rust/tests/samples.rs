@@ -1,6 +1,6 @@
 //! The answers that samples/README.md tells are the library's.
 use std::path::PathBuf;
-use tikfazrul::{read, Refusal};
+use tikfazrul::{read, Refusal, Table};
 
 fn samples() -> PathBuf {
     PathBuf::from(env!("CARGO_MANIFEST_DIR")).join("../samples")
@@ -27,7 +27,7 @@ fn answer(file: &str, document: impl Fn(Vec<u8>) -> Result<Vec<u8>, Refusal>) ->
 
 /// Whether every file whose name has this ending is answered as told, and there are so many.
 fn as_told(ending: &str, count: usize, document: impl Fn(Vec<u8>) -> Result<Vec<u8>, Refusal>) {
-    let rows: Vec<_> = rows().into_iter().filter(|(file, _)| file.contains(ending)).collect();
+    let rows: Vec<_> = rows().into_iter().filter(|(file, _)| file.contains(ending) && !file.ends_with(".lines")).collect();
     assert_eq!(rows.len(), count);
     for (file, told) in rows {
         let told = told.replace("1 record", "1 records").replace(',', "");
@@ -44,6 +44,16 @@ fn every_document_is_answered_as_told() {
 #[test]
 fn every_text_is_answered_as_told() {
     as_told(".snbt", 5, |text| tikfazrul::parse(&text).map(|parsed| parsed.document));
+}
+
+#[test]
+fn the_lines_hold_the_table() {
+    let sample = |name: &str| std::fs::read(samples().join(name)).expect(name);
+    let (doc, lines) = (sample("reef.nbt"), sample("reef.nbt.lines"));
+    let table = read(&doc).unwrap();
+    assert_eq!(table.to_lines(doc.len()).unwrap(), lines);
+    assert_eq!(Table::from_lines(&lines, doc.len()).unwrap().words(), table.words());
+    assert!(rows().contains(&("reef.nbt.lines".to_owned(), format!("{} records over `reef.nbt`", table.len()))));
 }
 
 #[test]

@@ -193,6 +193,25 @@ fn wrong_command_lines_say_so() {
         &["rescue", "cut.nbt", "cut.nbt", "-o", "."],
         &["rescue", "-", "-o", "."],
         &["rescue", "--json", "cut.nbt", "-o", "-"],
+        &["rescue", "cut.nbt", "-o", "nowhere/"],
+        &["lines"],
+        &["lines", "reef.nbt", "kinds.nbt"],
+        &["lines", "reef.nbt", "kinds.nbt", "-o", "-"],
+        &["lines", "reef.nbt", "kinds.nbt", "-o", "nowhere"],
+        &["lines", "reef.nbt", "-o", "nowhere/"],
+        &["lines", "reef.nbt", "reef.nbt.gz", "-o", "."],
+        &["lines", "-", "-o", "."],
+        &["lines", "--json", "reef.nbt"],
+        &["lines", "--full", "reef.nbt"],
+        &["list", "--lines"],
+        &["list", "--lines", "reef.nbt.lines"],
+        &["list", "--lines", "reef.nbt.lines", "reef.nbt", "kinds.nbt"],
+        &["list", "--lines", "nowhere/", "reef.nbt"],
+        &["list", "--lines", ".", "-"],
+        &["list", "--lines", "-", "-"],
+        &["text", "--lines", "reef.nbt.lines", "reef.snbt", "-o", "-"],
+        &["rescue", "--lines", "reef.nbt.lines", "cut.nbt", "-o", "-"],
+        &["hex", "--lines", "reef.nbt"],
     ] {
         let (out, err, status) = tile(args);
         assert_eq!((out.as_str(), status), ("", 2), "{args:?}");
@@ -201,10 +220,27 @@ fn wrong_command_lines_say_so() {
 }
 
 #[test]
+fn a_wrong_use_of_lines_says_what_is_right() {
+    for (args, words) in [
+        (&["hex", "--lines", "reef.nbt"][..], "--lines goes with list, check, query, write and lines"),
+        (&["list", "--lines"], "--lines wants a file or a folder"),
+        (&["list", "--lines", "reef.nbt.lines", "reef.nbt", "kinds.nbt"], "several files want a folder that is there: --lines FOLDER"),
+        (&["list", "--lines", "nowhere/", "reef.nbt"], "there is no folder nowhere/"),
+        (&["list", "--lines", ".", "-"], "standard input has no name to find lines by in a folder"),
+        (&["list", "--lines", "-", "-"], "standard input is the document or its lines, not both"),
+        (&["lines", "reef.nbt", "kinds.nbt"], "several files want a folder that is there: -o FOLDER"),
+        (&["lines", "reef.nbt", "reef.nbt.gz", "-o", "."], "two files would be saved as reef.nbt.lines"),
+    ] {
+        let wanted = format!("tile: {words}\ntile --help tells what there is\n");
+        assert_eq!(tile(args), (String::new(), wanted, 2), "{args:?}");
+    }
+}
+
+#[test]
 fn help_teaches() {
     let (help, err, status) = tile(&["--help"]);
     assert_eq!((err.as_str(), status), ("", 0));
-    for command in ["list", "check", "query", "text", "write", "rescue", "hex"] {
+    for command in ["list", "check", "query", "text", "write", "rescue", "lines", "hex"] {
         assert!(help.contains(&format!("tile {command} ")), "{command}");
         let (about, _, status) = tile(&[command, "--help"]);
         assert_eq!(status, 0);
@@ -343,4 +379,194 @@ fn check_names_the_rescue_where_there_is_one() {
     let whole = std::fs::read(samples().join("reef.nbt.gz")).unwrap();
     let out = String::from_utf8(fed(&["check", "-"], &whole[..60]).stdout).unwrap();
     assert!(out.ends_with("; `tile rescue` takes what can be inflated\n"), "{out}");
+}
+
+/// The lines of reef.nbt, from the sample.
+fn reef_lines() -> String {
+    std::fs::read_to_string(samples().join("reef.nbt.lines")).unwrap()
+}
+
+#[test]
+fn lines_are_written() {
+    let whole = (reef_lines(), String::new(), 0);
+    for args in [&["lines", "reef.nbt"][..], &["lines", "reef.nbt.gz", "-o", "-"], &["lines", "--lines", "reef.nbt.lines", "reef.nbt"]] {
+        assert_eq!(tile(args), whole, "{args:?}");
+    }
+    assert_eq!(fed(&["lines", "-"], &std::fs::read(samples().join("reef.nbt")).unwrap()).stdout, whole.0.as_bytes());
+    let file = scratch("reef.lines");
+    assert_eq!(tile(&["lines", "reef.nbt", "-o", file.to_str().unwrap()]), (String::new(), String::new(), 0));
+    assert_eq!(std::fs::read_to_string(&file).unwrap(), whole.0);
+    // a refused document leaves what is there, and nothing on standard output
+    for args in [&["lines", "second-origin.nbt", "-o", file.to_str().unwrap()][..], &["lines", "second-origin.nbt"]] {
+        let (out, err, status) = tile(args);
+        assert!(err.starts_with("tile: second-origin.nbt: refused: a name stands twice"), "{err}");
+        assert_eq!((out.as_str(), status), ("", 1));
+    }
+    assert_eq!(std::fs::read_to_string(&file).unwrap(), whole.0);
+    std::fs::remove_file(&file).unwrap();
+}
+
+#[test]
+fn a_folder_of_lines_is_kept_and_asked() {
+    let folder = scratch("kept");
+    std::fs::create_dir_all(&folder).unwrap();
+    let kept = folder.to_str().unwrap();
+    let (out, err, status) = tile(&["lines", "mosaic.nbt", "reef.nbt.gz", "second-origin.nbt", "rare-name.snbt", "-o", kept]);
+    assert_eq!((out.as_str(), status), ("", 1));
+    assert!(err.starts_with("tile: second-origin.nbt: refused: "), "{err}");
+    assert_eq!(std::fs::read_to_string(folder.join("reef.nbt.lines")).unwrap(), reef_lines());
+    assert_eq!(std::fs::read_dir(&folder).unwrap().count(), 3);
+    let slash = format!("{kept}/");
+    let files = ["mosaic.nbt", "reef.nbt", "reef.nbt.gz", "rare-name.snbt"];
+    let query = |more: &[&str]| tile(&[&["query", "**/SceneId"], more, &files[..]].concat());
+    assert_eq!(query(&["--lines", &slash]), query(&[]));
+    let wanted = "\
+mosaic.nbt: accepted: 308 bytes, 28 records; the lines are its own
+reef.nbt: accepted: 110 bytes, 5 records; the lines are its own
+reef.nbt.gz: accepted: 110 bytes, 5 records, inflated from gzip; the lines are its own
+rare-name.snbt: accepted: 71 bytes, 6 records; the lines are its own
+";
+    let (out, err, status) = tile(&[&["check", "--lines", kept], &files[..]].concat());
+    assert_eq!((out.as_str(), err.as_str(), status), (wanted, "4 files, 0 refused\n", 0));
+    // lines that are missing are a file that can't be read, and the others are asked all the same
+    let (out, err, status) = tile(&["query", "**/SceneId", "--lines", kept, "kinds.nbt", "reef.nbt"]);
+    assert!(err.starts_with(&format!("tile: kinds.nbt: the lines in {kept}/kinds.nbt.lines can't be read: ")), "{err}");
+    assert_eq!((out.as_str(), status), ("reef.nbt: 1 found\nroot/SceneId  String  \"S2B_31UFU_20261103\"\n", 2));
+    std::fs::remove_dir_all(&folder).unwrap();
+}
+
+#[test]
+fn a_table_is_taken_from_lines() {
+    let (read, _, _) = tile(&["list", "reef.nbt"]);
+    let (kept, err, status) = tile(&["list", "--lines", "reef.nbt.lines", "reef.nbt"]);
+    assert_eq!((kept, err.as_str(), status), (read.replace("110 bytes, 5 records", "5 records, from lines"), "", 0));
+    assert!(tile(&["list", "--lines", ".", "reef.nbt.gz"]).0.starts_with("reef.nbt.gz: 5 records, from lines, inflated from gzip\n"));
+    // nothing is said of bytes after the root's end, which lines don't know
+    let longer = [std::fs::read(samples().join("reef.nbt")).unwrap(), b"rest".to_vec()].concat();
+    let text = String::from_utf8(fed(&["list", "--lines", "reef.nbt.lines", "-"], &longer).stdout).unwrap();
+    assert!(text.starts_with("standard input: 5 records, from lines\nrecord"), "{text}");
+    let written = fed(&["write", "--lines", "reef.nbt.lines", "-", "-o", "-"], &longer);
+    assert_eq!(written.stdout, longer[..110]);
+    // lines on standard input
+    let piped = fed(&["query", "OriginLon", "--lines", "-", "reef.nbt"], reef_lines().as_bytes());
+    assert_eq!(piped.stdout, b"root/OriginLon  Int  48952000\n");
+    // a text's document has a table of its own
+    let (lines, _, _) = tile(&["lines", "reef.snbt"]);
+    assert_ne!(lines, reef_lines());
+    let text = String::from_utf8(fed(&["list", "--lines", "-", "reef.snbt"], lines.as_bytes()).stdout).unwrap();
+    assert_eq!(text, tile(&["list", "reef.snbt"]).0.replace("106 bytes, 5 records", "5 records, from lines"));
+}
+
+#[test]
+fn json_says_that_lines_were_taken() {
+    let (read, _, _) = tile(&["list", "--json", "reef.nbt"]);
+    let (kept, _, _) = tile(&["list", "--json", "--lines", "reef.nbt.lines", "reef.nbt"]);
+    assert_eq!(kept, read.replace(r#""bytes":110"#, r#""lines":true"#));
+    let (out, _, _) = tile(&["query", "--json", "OriginLon", "--lines", "reef.nbt.lines", "reef.nbt"]);
+    assert!(out.starts_with(r#"{"file":"reef.nbt","ok":true,"lines":true,"matches":[{"record":2,"#), "{out}");
+    let (out, _, _) = tile(&["check", "--json", "--lines", "reef.nbt.lines", "reef.nbt"]);
+    assert_eq!(out, "{\"file\":\"reef.nbt\",\"ok\":true,\"lines\":true,\"bytes\":110,\"count\":5,\"inflated\":false}\n");
+    let answer = |lines: &str| {
+        let answer = fed(&["check", "--json", "--lines", "-", "reef.nbt"], lines.as_bytes());
+        assert_eq!(answer.status.code(), Some(1));
+        String::from_utf8(answer.stdout).unwrap()
+    };
+    for (lines, wanted) in [
+        (
+            reef_lines().to_uppercase(),
+            r#""lines":true,"refusal":29,"place":1,"of":"line","message":"the lines on standard input are bad: a line is not"#,
+        ),
+        (
+            String::new(),
+            r#""lines":true,"refusal":10,"place":0,"of":"whole","message":"the lines on standard input don't fit: the words form no"#,
+        ),
+        (
+            reef_lines().replace("00000031", "00000030"),
+            r#""lines":true,"place":3,"of":"line","message":"the lines on standard input are not this document's: the first that"#,
+        ),
+    ] {
+        assert!(answer(&lines).starts_with(&[r#"{"file":"reef.nbt","ok":false,"#, wanted].concat()), "{}", answer(&lines));
+    }
+    let (out, _, status) = tile(&["list", "--json", "--lines", "nowhere", "reef.nbt"]);
+    assert!(out.starts_with(r#"{"file":"reef.nbt","ok":false,"error":"the lines in nowhere can't be read: "#), "{out}");
+    assert_eq!(status, 2);
+}
+
+#[test]
+fn lines_that_do_not_fit_are_refused_with_words() {
+    let file = scratch("wrong.lines");
+    let wrong = file.to_str().unwrap();
+    let capital = "\
+reef.nbt: refused: the lines in WRONG are bad: a line is not 64 digits (0 to 9, a to f) and a line feed, at line 2 (refusal 29)
+  000000080000000A000000070000001300000012000000000000000000000002
+                 ^ a capital
+";
+    let none = "reef.nbt: refused: the lines in WRONG don't fit: the words form no table over this document (refusal 10)\n";
+    let shorter: String = reef_lines().lines().take(4).map(|line| format!("{line}\n")).collect();
+    let many = "0\n".repeat(1_048_577);
+    let over = "\
+reef.nbt: refused: the lines in WRONG don't fit: the input is over a limit: a document has at most 16,777,216 bytes, a text 1,048,576, a \
+table 1,048,576 records or lines (refusal 9)
+";
+    let second = reef_lines().replace("0000000a00000007", "0000000A00000007");
+    for (lines, words) in [(second, capital), (String::new(), none), (shorter, none), (many, over)] {
+        std::fs::write(&file, lines).unwrap();
+        let words = words.replace("WRONG", wrong);
+        assert_eq!(tile(&["check", "--lines", wrong, "reef.nbt"]), (words.clone(), String::new(), 1));
+        for args in [&["list"][..], &["query", "root"], &["lines"], &["write", "-o", "-"]] {
+            let answer = tile(&[args, &["--lines", wrong, "reef.nbt"]].concat());
+            assert_eq!(answer, (String::new(), format!("tile: {words}"), 1), "{args:?}");
+        }
+    }
+    std::fs::remove_file(&file).unwrap();
+    // no more is read than lines can have
+    assert!(tile(&["check", "--lines", "/dev/zero", "reef.nbt"]).0.contains("at line 1 (refusal 29)\n  ....."));
+    for args in [&["list"][..], &["query", "root"], &["lines"], &["write", "-o", "-"], &["check"]] {
+        let (out, err, status) = tile(&[args, &["--lines", wrong, "reef.nbt"]].concat());
+        assert!(err.starts_with(&format!("tile: reef.nbt: the lines in {wrong} can't be read: ")), "{err}");
+        assert_eq!((out.as_str(), status), ("", 2));
+    }
+}
+
+#[test]
+fn lines_of_another_document_are_found_by_a_check() {
+    let (out, _, status) = tile(&["check", "--lines", "reef.nbt.lines", "mosaic.nbt"]);
+    let words = "refused: the lines in reef.nbt.lines are not this document's: the first that differs is line";
+    assert_eq!((out, status), (format!("mosaic.nbt: {words} 1\n"), 1));
+    let moved = reef_lines().replace("00000031", "00000030");
+    let out = String::from_utf8(fed(&["check", "--lines", "-", "reef.nbt"], moved.as_bytes()).stdout).unwrap();
+    assert_eq!(out, "reef.nbt: refused: the lines on standard input are not this document's: the first that differs is line 3\n");
+    // what is wrong with the document itself comes first, and a rescue is named as ever
+    let (out, _, status) = tile(&["check", "--lines", "reef.nbt.lines", "cut.nbt"]);
+    assert!(out.starts_with("cut.nbt: refused: the data ends") && out.ends_with(" saves the tags that came whole\n"), "{out}");
+    assert_eq!(status, 1);
+    // elsewhere they are taken as they are; what can't be shown is not shown as something else, and what is refused is their fault
+    let (out, _, status) = tile(&["list", "--lines", "reef.nbt.lines", "mosaic.nbt"]);
+    assert!(out.contains("     1  String      (not modified UTF-8)  (not modified UTF-8)\n"), "{out}");
+    assert_eq!(status, 0);
+    let (out, _, _) = tile(&["list", "--json", "--lines", "reef.nbt.lines", "mosaic.nbt"]);
+    assert!(out.contains(r#""kind":"String","name":null,"value":null}"#), "{out}");
+    let (out, err, status) = tile(&["write", "--lines", "reef.nbt.lines", "mosaic.nbt", "-o", "-"]);
+    let words = "the lines in reef.nbt.lines don't fit: a string is not modified UTF-8, at record 1 (refusal 4)";
+    assert_eq!((out.as_str(), err, status), ("", format!("tile: mosaic.nbt: refused: {words}\n"), 1));
+}
+
+#[test]
+fn lines_take_the_place_of_nothing_that_they_are_made_from() {
+    let folder = scratch("places");
+    std::fs::create_dir_all(&folder).unwrap();
+    let (doc, lines) = (folder.join("reef.nbt"), folder.join("reef.nbt.lines"));
+    std::fs::copy(samples().join("reef.nbt"), &doc).unwrap();
+    std::fs::copy(samples().join("reef.nbt.lines"), &lines).unwrap();
+    let (doc, lines) = (doc.to_str().unwrap(), lines.to_str().unwrap());
+    for (args, words) in [
+        (&["lines", doc, "-o", doc][..], "is not written over itself"),
+        (&["lines", "--lines", lines, doc, "-o", doc], "is not written over itself"),
+        (&["write", "--lines", lines, doc, "-o", lines], "is not written over its lines"),
+    ] {
+        assert_eq!(tile(args), (String::new(), format!("tile: {doc}: {words}\n"), 2));
+    }
+    assert_eq!(std::fs::read(doc).unwrap(), std::fs::read(samples().join("reef.nbt")).unwrap());
+    assert_eq!(std::fs::read_to_string(lines).unwrap(), reef_lines());
+    std::fs::remove_dir_all(&folder).unwrap();
 }

@@ -12,6 +12,7 @@ pub enum Command {
     Text,
     Write,
     Rescue,
+    Lines,
     Hex,
 }
 
@@ -20,6 +21,7 @@ pub struct Args {
     pub query: Query,
     pub files: Vec<OsString>,
     pub out: Option<OsString>,
+    pub lines: Option<OsString>,
     pub json: bool,
     pub full: bool,
     pub line: bool,
@@ -40,13 +42,16 @@ tile: looks into NBT documents, with every answer from a proved library.
   tile text FILE -o FILE      a text (SNBT) made a document
   tile write FILE -o FILE     a document read and written again
   tile rescue FILE… -o FILE   a whole document of one that was cut in transfer
+  tile lines FILE… [-o FILE]  the table as lines of digits, to be kept
   tile hex FILE…              the bytes
 
-  -o FILE    where to write; - is standard output; a folder holds what is rescued under the names of the files
-  --json     one JSON object for each file, on a line of its own (list, check, query, rescue)
-  --full     strings and arrays whole, however long (list, query)
-  --line     the bytes as one line of digits (hex)
-  --help     this; tile COMMAND --help tells more
+  -o FILE       where to write; - is standard output; a folder holds what is rescued, and lines, under the names of the files
+  --lines FILE  lines that were kept, taken in place of reading the document (list, query, write, lines), or compared with it (check);
+                of a folder, its NAME.lines
+  --json        one JSON object for each file, on a line of its own (list, check, query, rescue)
+  --full        strings and arrays whole, however long (list, query)
+  --line        the bytes as one line of digits (hex)
+  --help        this; tile COMMAND --help tells more
 
 FILE is a document, a gzip'd document (the system's gzip inflates it), or a text if its name ends in .snbt; - is a document on standard
 input. Exit status: 0 all is well, 1 something was refused, 2 a file could not be read or the command line is wrong.
@@ -59,28 +64,29 @@ Try, on the samples:
 ";
 
 const ABOUT_LIST: &str = "\
-tile list [--json] [--full] FILE…
+tile list [--json] [--full] [--lines FILE] FILE…
 
 Lists every tag in file order: its record in the table, its kind, its name (indented by level; [n] for a list's elements) and its value.
 Names with blanks or other odd characters stand in quotes, as a path wants them. Long strings and arrays are cut unless --full is given.
+With --lines the table is not read but taken from lines, which must be the document's own: tile lines --help tells more.
 
   tile list samples/kinds.nbt
   tile list --json world/*.dat | jq '.records[] | select(.kind == \"Int\")'
 ";
 
 const ABOUT_CHECK: &str = "\
-tile check [--json] FILE…
+tile check [--json] [--lines FILE] FILE…
 
 Says of each file whether it is a lawful document. A refusal has a number, words, a place, and the bytes around the place with a mark below
-it. Places in gzip'd files count inflated bytes. Where the data ends too soon, tile rescue saves what came. Exit status 1 if any file is
-refused.
+it. Places in gzip'd files count inflated bytes. Where the data ends too soon, tile rescue saves what came. With --lines the document
+is read all the same, and refused too if the lines are not exactly those of its own table. Exit status 1 if any file is refused.
 
   tile check samples/second-origin.nbt
   find world -name '*.dat' -print0 | xargs -0 tile check >report.txt
 ";
 
 const ABOUT_QUERY: &str = "\
-tile query [--json] [--full] PATH FILE…
+tile query [--json] [--full] [--lines FILE] PATH FILE…
 
 Shows the tags that a path leads to, in file order. A path begins at the root; its steps are parted by /:
 
@@ -91,6 +97,7 @@ Shows the tags that a path leads to, in file order. A path begins at the root; i
   **            zero or more levels, whatever they are
 
 The first step may be root, the root tag itself, whatever its name. Sixteen steps at the most. Array elements are not tags.
+With --lines the table is not read but taken from lines, which must be the document's own: tile lines --help tells more.
 
   tile query 'Tiles[3]/Scene' samples/mosaic.nbt
   tile query 'root/**/SceneId' samples/*.nbt
@@ -106,10 +113,11 @@ Makes a document of a text (SNBT), with an empty root name. Nothing is written i
 ";
 
 const ABOUT_WRITE: &str = "\
-tile write FILE -o FILE
+tile write [--lines FILE] FILE -o FILE
 
 Reads a document and writes it again: inflated, without bytes that follow the root, with the id of empty lists 0. Nothing is written if the
-document is refused.
+document is refused. With --lines the table is not read but taken from lines, which must be the document's own: tile lines --help tells
+more.
 
   tile write samples/reef.nbt.gz -o reef.nbt
 ";
@@ -124,6 +132,22 @@ ends before the root's name does: exit status 1. Several files are saved in a fo
 
   tile rescue samples/cut-list.nbt -o saved.nbt
   tile rescue inbox/*.nbt.gz -o saved/
+";
+
+const ABOUT_LINES: &str = "\
+tile lines [--lines FILE] FILE… [-o FILE]
+
+Writes a document's table as lines, to be kept: for each tag the eight words of its record, each as eight digits 0 to 9 and a to f, and a
+line feed. They go to standard output unless -o says where. A folder holds them as NAME.lines, NAME being the file's own name without .gz;
+several files want one. Nothing is written of a document that is refused, and nothing over the document itself.
+
+With --lines, list, query, write and lines take the table from such lines and do not read the document; of a folder, from its NAME.lines.
+Lines that are bad, or that form no table over a document of this length, are refused: exit status 1. No more than that is asked of them
+(rule 7: every name and payload lies in the document, and the records form a tree). So they must be the document's own, as it is now; tile
+check --lines reads it, and tells whether they are.
+
+  tile lines tiles/*.nbt -o kept/
+  tile query --lines kept/ 'root/**/SceneId' tiles/*.nbt
 ";
 
 const ABOUT_HEX: &str = "\
@@ -144,6 +168,7 @@ impl Command {
             "text" => Some(Command::Text),
             "write" => Some(Command::Write),
             "rescue" => Some(Command::Rescue),
+            "lines" => Some(Command::Lines),
             "hex" => Some(Command::Hex),
             _ => None,
         }
@@ -157,13 +182,24 @@ impl Command {
             Command::Text => ABOUT_TEXT,
             Command::Write => ABOUT_WRITE,
             Command::Rescue => ABOUT_RESCUE,
+            Command::Lines => ABOUT_LINES,
             Command::Hex => ABOUT_HEX,
         }
     }
 
     /// Whether it writes files.
     pub fn writes(self) -> bool {
-        matches!(self, Command::Text | Command::Write | Command::Rescue)
+        matches!(self, Command::Text | Command::Write) || self.fills_folders()
+    }
+
+    /// Whether it makes something of several files, in a folder.
+    pub fn fills_folders(self) -> bool {
+        matches!(self, Command::Rescue | Command::Lines)
+    }
+
+    /// Whether it can do with a table from lines.
+    fn takes_lines(self) -> bool {
+        !matches!(self, Command::Text | Command::Rescue | Command::Hex)
     }
 }
 
@@ -184,7 +220,7 @@ pub fn parse(words: impl Iterator<Item = OsString>) -> Result<Args, Instead> {
     let Some(command) = command else {
         return fault(format!("there is no command {}", first.to_string_lossy()));
     };
-    let mut args = Args { command, query: Query::new(), files: Vec::new(), out: None, json: false, full: false, line: false };
+    let mut args = Args { command, query: Query::new(), files: Vec::new(), out: None, lines: None, json: false, full: false, line: false };
     options(&mut args, words)?;
     path(&mut args)?;
     complete(args)
@@ -199,15 +235,17 @@ fn options(args: &mut Args, mut words: impl Iterator<Item = OsString>) -> Result
             Some("--json") => args.json = true,
             Some("--full") => args.full = true,
             Some("--line") => args.line = true,
-            Some("-o" | "--output") => match words.next() {
-                Some(file) => args.out = Some(file),
-                None => return fault("-o wants a file".to_owned()),
-            },
+            Some("-o" | "--output") => args.out = Some(given(words.next(), "-o wants a file")?),
+            Some("--lines") => args.lines = Some(given(words.next(), "--lines wants a file or a folder")?),
             Some(option) if option.starts_with('-') && option != "-" => return fault(format!("there is no option {option}")),
             _ => args.files.push(word),
         }
     }
     Ok(())
+}
+
+fn given(word: Option<OsString>, wanted: &str) -> Result<OsString, Instead> {
+    word.map_or_else(|| fault(wanted.to_owned()), Ok)
 }
 
 /// Takes a query's path from the front of the files.
@@ -230,23 +268,41 @@ fn path(args: &mut Args) -> Result<(), Instead> {
 }
 
 impl Args {
-    /// The folder that files are rescued into, where -o names one.
+    /// The folder that -o names, where what is made of several files goes.
     fn folder(&self) -> Option<&Path> {
-        let out = Path::new(self.out.as_ref()?);
-        (self.command == Command::Rescue && out.is_dir()).then_some(out)
+        self.out.as_deref().filter(|_| self.command.fills_folders()).and_then(as_folder)
     }
 
     /// Where what is made of a file goes; `None` is standard output.
     pub fn target(&self, file: &OsStr) -> Option<PathBuf> {
         match (self.folder(), self.out.as_ref()?) {
-            (Some(folder), _) => Some(folder.join(saved_name(file))),
+            (Some(folder), _) => Some(folder.join(self.saved_name(file))),
             (None, out) => (out != "-").then(|| PathBuf::from(out)),
         }
     }
+
+    /// The name that what is made of a file has in a folder.
+    fn saved_name(&self, file: &OsStr) -> OsString {
+        match self.command {
+            Command::Lines => lines_name(file),
+            _ => own_name(file),
+        }
+    }
+
+    /// Where the lines of a file are, if lines are to be taken.
+    pub fn lines_of(&self, file: &OsStr) -> Option<OsString> {
+        let lines = self.lines.as_ref()?;
+        Some(as_folder(lines).map_or(lines.clone(), |folder| folder.join(lines_name(file)).into_os_string()))
+    }
+}
+
+/// A folder that is there.
+fn as_folder(name: &OsStr) -> Option<&Path> {
+    Some(Path::new(name)).filter(|path| path.is_dir())
 }
 
 /// A file's own name, without .gz.
-fn saved_name(file: &OsStr) -> OsString {
+fn own_name(file: &OsStr) -> OsString {
     let path = Path::new(file);
     match path.extension() {
         Some(end) if end.eq_ignore_ascii_case("gz") => path.file_stem(),
@@ -256,50 +312,86 @@ fn saved_name(file: &OsStr) -> OsString {
     .to_owned()
 }
 
-/// Whether the files that are rescued have places to go to, and each its own.
+/// The name of a file's lines.
+fn lines_name(file: &OsStr) -> OsString {
+    let mut name = own_name(file);
+    name.push(".lines");
+    name
+}
+
+/// Whether what is no folder is enough: not for several files, and not under a name that ends as a folder's.
+fn not_a_folder(option: &str, name: Option<&OsStr>, files: usize) -> Result<(), Instead> {
+    match name {
+        Some(name) if name.as_encoded_bytes().ends_with(b"/") => fault(format!("there is no folder {}", name.to_string_lossy())),
+        _ if files > 1 => fault(format!("several files want a folder that is there: {option} FOLDER")),
+        _ => Ok(()),
+    }
+}
+
+/// Whether what is made of the files has places to go to, and each its own.
 fn folder(args: &Args) -> Result<(), Instead> {
-    if args.command != Command::Rescue {
+    if !args.command.fills_folders() {
         return Ok(());
     }
     if args.folder().is_none() {
-        return match args.files.len() {
-            1 => Ok(()),
-            _ => fault("several files are rescued into a folder that is there: -o FOLDER".to_owned()),
-        };
+        return not_a_folder("-o", args.out.as_deref(), args.files.len());
     }
     let mut names = HashSet::new();
     for file in &args.files {
         if file == "-" {
             return fault("standard input has no name to be saved under in a folder".to_owned());
         }
-        if !names.insert(saved_name(file)) {
-            return fault(format!("two files would be saved as {}", saved_name(file).to_string_lossy()));
+        if !names.insert(args.saved_name(file)) {
+            return fault(format!("two files would be saved as {}", args.saved_name(file).to_string_lossy()));
         }
     }
     Ok(())
 }
 
-fn complete(args: Args) -> Result<Args, Instead> {
-    let writes = args.command.writes();
-    if args.files.is_empty() {
-        return fault("no file is given; - is standard input".to_owned());
+/// Whether the lines to be taken can be found.
+fn lines(args: &Args) -> Result<(), Instead> {
+    let Some(lines) = &args.lines else {
+        return Ok(());
+    };
+    let fed = args.files.iter().any(|file| file == "-");
+    match as_folder(lines) {
+        Some(_) if fed => fault("standard input has no name to find lines by in a folder".to_owned()),
+        Some(_) => Ok(()),
+        None if fed && lines == "-" => fault("standard input is the document or its lines, not both".to_owned()),
+        None => not_a_folder("--lines", Some(lines), args.files.len()),
     }
-    if writes && args.files.len() > 1 && args.command != Command::Rescue {
+}
+
+/// Whether -o is there where it must be, and only where it may.
+fn output(args: &Args) -> Result<(), Instead> {
+    let writes = args.command.writes();
+    if writes && args.files.len() > 1 && !args.command.fills_folders() {
         return fault("one file at a time is written".to_owned());
     }
-    if writes && args.out.is_none() {
+    if writes && args.out.is_none() && args.command != Command::Lines {
         return fault("-o FILE says where to write; -o - is standard output".to_owned());
     }
     if !writes && args.out.is_some() {
-        return fault("-o goes with text, write and rescue alone".to_owned());
+        return fault("-o goes with text, write, rescue and lines alone".to_owned());
     }
-    if args.json && matches!(args.command, Command::Text | Command::Write | Command::Hex) {
+    folder(args)
+}
+
+fn complete(args: Args) -> Result<Args, Instead> {
+    if args.lines.is_some() && !args.command.takes_lines() {
+        return fault("--lines goes with list, check, query, write and lines".to_owned());
+    }
+    if args.files.is_empty() {
+        return fault("no file is given; - is standard input".to_owned());
+    }
+    output(&args)?;
+    lines(&args)?;
+    if args.json && matches!(args.command, Command::Text | Command::Write | Command::Lines | Command::Hex) {
         return fault("--json goes with list, check, query and rescue".to_owned());
     }
     if args.json && args.out.as_deref() == Some(OsStr::new("-")) {
         return fault("--json speaks on standard output, so -o wants a file".to_owned());
     }
-    folder(&args)?;
     if args.full && !matches!(args.command, Command::List | Command::Query) {
         return fault("--full goes with list and query".to_owned());
     }

@@ -3,7 +3,7 @@ use std::ffi::OsStr;
 use std::fs::File;
 use std::io::{self, Read, Write};
 use std::process::{Child, Command, Stdio};
-use tikfazrul::{Refusal, MAX_DOCUMENT};
+use tikfazrul::{Refusal, LINE, MAX_DOCUMENT, MAX_RECORDS};
 
 /// Why there is no document to be had from a file.
 pub enum Trouble {
@@ -13,6 +13,10 @@ pub enum Trouble {
     Packed(String),
     /// The library refuses it; with the bytes that the place counts.
     Refused(Refusal, Vec<u8>),
+    /// The library refuses these lines, or what is done with their table; with the bytes that the place counts.
+    Lines(String, Refusal, Vec<u8>),
+    /// These lines are another document's: the first that differs, from 1.
+    Foreign(String, usize),
 }
 
 impl Trouble {
@@ -42,6 +46,9 @@ impl Input {
 /// A little over what any document has, so that a longer one is refused for its length without being held whole.
 const ENOUGH: u64 = MAX_DOCUMENT as u64 + 65_536;
 
+/// A byte more than any lines that are accepted have: longer ones are refused for what is in so many.
+const ENOUGH_LINES: u64 = (LINE * MAX_RECORDS) as u64 + 1;
+
 fn whole(file: &OsStr, most: u64) -> io::Result<Vec<u8>> {
     let mut bytes = Vec::new();
     if file == "-" {
@@ -55,6 +62,11 @@ fn whole(file: &OsStr, most: u64) -> io::Result<Vec<u8>> {
 /// The bytes as they stand in the file.
 pub fn raw(file: &OsStr) -> Result<Vec<u8>, Trouble> {
     whole(file, ENOUGH).map_err(Trouble::unread)
+}
+
+/// The lines that stand in a file.
+pub fn lines(file: &OsStr) -> io::Result<Vec<u8>> {
+    whole(file, ENOUGH_LINES)
 }
 
 /// All the bytes, inflated if that can be done.

@@ -1,7 +1,8 @@
 //! The same for machines: one JSON object for each file.
 use crate::input::Trouble;
+use crate::show;
 use std::fmt::Write;
-use tikfazrul::{Change, Kind, Node, Place, Rescued, Trail};
+use tikfazrul::{Change, Kind, Node, Place, Refusal, Rescued, Trail};
 
 pub fn string(text: &str) -> String {
     let mut json = String::from("\"");
@@ -16,6 +17,9 @@ pub fn string(text: &str) -> String {
     json
 }
 
+/// What a string or a name is that is not modified UTF-8, as only tables from lines have.
+const UNREADABLE: &str = "null";
+
 /// JSON has no NaN and no infinities: they are strings.
 fn float(finite: bool, shown: String) -> String {
     if finite {
@@ -28,7 +32,7 @@ fn float(finite: bool, shown: String) -> String {
 fn value(node: &Node) -> Option<String> {
     match node.kind() {
         Kind::Compound | Kind::List => None,
-        Kind::String => node.as_str().map(|text| string(&text)),
+        Kind::String => Some(node.as_str().map_or(UNREADABLE.to_owned(), |text| string(&text))),
         Kind::Float => node.as_f32().map(|n| float(n.is_finite(), format!("{n:?}"))),
         Kind::Double => node.as_f64().map(|n| float(n.is_finite(), format!("{n:?}"))),
         Kind::ByteArray | Kind::IntArray | Kind::LongArray => {
@@ -42,8 +46,8 @@ fn value(node: &Node) -> Option<String> {
 /// A tag: where it is, and its value, or how many tags a list or compound has.
 pub fn node(node: &Node, path: &str) -> String {
     let mut json = format!("{{\"record\":{},\"path\":{},\"kind\":{}", node.record(), string(path), string(node.kind().tag_name()));
-    if let Some(name) = node.name() {
-        json += &format!(",\"name\":{}", string(&name));
+    if node.name_bytes().is_some() {
+        json += &format!(",\"name\":{}", node.name().map_or(UNREADABLE.to_owned(), |name| string(&name)));
     }
     match value(node) {
         Some(value) => json += &format!(",\"value\":{value}"),
@@ -83,14 +87,18 @@ pub fn trouble(trouble: &Trouble) -> String {
     match trouble {
         Trouble::Io(words) => format!("\"error\":{}", string(words)),
         Trouble::Packed(words) => format!("\"message\":{}", string(words)),
-        Trouble::Refused(refusal, _) => format!(
-            "\"refusal\":{},\"place\":{},\"of\":{},\"message\":{}",
-            refusal.number(),
-            refusal.place().number(),
-            string(sort(refusal.place())),
-            string(&refusal.to_string())
-        ),
+        Trouble::Refused(refusal, _) => refused(refusal, &refusal.to_string()),
+        Trouble::Lines(lines, refusal, _) => format!("\"lines\":true,{}", refused(refusal, &show::unfit(lines, refusal))),
+        Trouble::Foreign(lines, first) => format!("\"lines\":true,{}", at(Place::Line(*first), &show::foreign(lines, *first))),
     }
+}
+
+fn refused(refusal: &Refusal, message: &str) -> String {
+    format!("\"refusal\":{},{}", refusal.number(), at(refusal.place(), message))
+}
+
+fn at(place: Place, message: &str) -> String {
+    format!("\"place\":{},\"of\":{},\"message\":{}", place.number(), string(sort(place)), string(message))
 }
 
 /// What a place counts.
@@ -100,6 +108,7 @@ fn sort(place: Place) -> &'static str {
         Place::Record(_) => "record",
         Place::Query(_) => "query",
         Place::Text(_) => "text",
+        Place::Line(_) => "line",
         Place::Whole => "whole",
     }
 }

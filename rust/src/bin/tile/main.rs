@@ -2,16 +2,19 @@
 mod args;
 mod input;
 mod json;
+mod load;
 mod progress;
 mod show;
 
 use args::{Args, Command, Instead};
 use input::{Input, Trouble};
+use load::{load, Loaded};
+use show::name;
 use std::ffi::OsStr;
 use std::io::{self, BufWriter, Write};
 use std::path::Path;
 use std::process::ExitCode;
-use tikfazrul::{hex, read, Node, Refusal, Rescued, Table, Trail};
+use tikfazrul::{hex, Node, Refusal, Rescued, Trail};
 
 fn main() -> ExitCode {
     let args = match args::parse(std::env::args_os().skip(1)) {
@@ -72,14 +75,6 @@ fn each(args: &Args, out: &mut dyn Write) -> io::Result<u8> {
     Ok(status)
 }
 
-fn name(file: &OsStr) -> String {
-    if file == "-" {
-        return "standard input".to_owned();
-    }
-    // a name with a line feed must not look like two files
-    file.to_string_lossy().chars().map(|c| if c.is_control() { '\u{FFFD}' } else { c }).collect()
-}
-
 /// Why a file is of no use: said where the answers go if that is the answer, else handed back for standard error.
 fn complaint(args: &Args, file: &OsStr, trouble: &Trouble, said: &mut Vec<u8>) -> io::Result<Option<String>> {
     if args.json {
@@ -104,80 +99,65 @@ fn can_be_rescued(trouble: &Trouble) -> bool {
 
 /// Does what is asked to one file.
 fn one(args: &Args, file: &OsStr, said: &mut Vec<u8>) -> Result<(), Trouble> {
+    over_itself(args, file)?;
     match args.command {
         Command::Hex => dump(args, &input::shown(file)?, said),
-        Command::Text => save(args, file, &parsed(input::raw(file)?)?)?,
-        Command::Write => {
-            let (input, table) = load(file)?;
-            save(args, file, &again(input, table)?)?;
-        }
+        Command::Text => save(args, file, &load::parsed(input::raw(file)?)?, said)?,
+        Command::Write => save(args, file, &again(load(args, file)?)?, said)?,
         Command::Rescue => salvage(args, file, input::arrived(file)?, said)?,
-        Command::List | Command::Check | Command::Query => {
-            let (input, table) = load(file)?;
-            answer(args, file, &input, &table, said)?;
-        }
+        Command::Lines => save(args, file, &lines(&load(args, file)?)?, said)?,
+        Command::List | Command::Check | Command::Query => answer(args, file, &load(args, file)?, said)?,
     }
     Ok(())
 }
 
-/// The document in a file, and its table. A name that ends in .snbt is a text's.
-fn load(file: &OsStr) -> Result<(Input, Table), Trouble> {
-    let text = file.to_string_lossy().to_lowercase().ends_with(".snbt");
-    let input = match text {
-        true => Input::plain(input::raw(file).and_then(parsed)?),
-        false => input::document(file)?,
-    };
-    match read(&input.bytes) {
-        Ok(table) => Ok((input, table)),
-        Err(refusal) => Err(Trouble::Refused(refusal, input.bytes)),
+fn again(mut loaded: Loaded) -> Result<Vec<u8>, Trouble> {
+    tikfazrul::write(&loaded.input.bytes, &mut loaded.table).map_err(|refusal| loaded.refused(refusal))
+}
+
+fn lines(loaded: &Loaded) -> Result<Vec<u8>, Trouble> {
+    loaded.table.to_lines(loaded.input.bytes.len()).map_err(|refusal| loaded.refused(refusal))
+}
+
+fn save(args: &Args, file: &OsStr, made: &[u8], said: &mut Vec<u8>) -> Result<(), Trouble> {
+    match args.target(file) {
+        Some(target) => std::fs::write(target, made).map_err(Trouble::unwritten)?,
+        None => said.extend_from_slice(made),
     }
-}
-
-fn parsed(text: Vec<u8>) -> Result<Vec<u8>, Trouble> {
-    match tikfazrul::parse(&text) {
-        Ok(parsed) => Ok(parsed.document),
-        Err(refusal) => Err(Trouble::Refused(refusal, text)),
-    }
-}
-
-fn again(input: Input, mut table: Table) -> Result<Vec<u8>, Trouble> {
-    tikfazrul::write(&input.bytes, &mut table).map_err(|refusal| Trouble::Refused(refusal, input.bytes))
-}
-
-fn save(args: &Args, file: &OsStr, document: &[u8]) -> Result<(), Trouble> {
-    let saved = match args.target(file) {
-        Some(target) => std::fs::write(target, document),
-        None => io::stdout().write_all(document),
-    };
-    saved.map_err(Trouble::unwritten)
+    Ok(())
 }
 
 /// Saves what came of a document that is cut, and says what was open. Of a whole one there is nothing to rescue, but where the gzip'd bytes
 /// around it are cut.
 fn salvage(args: &Args, file: &OsStr, input: Input, said: &mut Vec<u8>) -> Result<(), Trouble> {
-    over_itself(args, file)?;
     let inflated = input.inflated;
     match tikfazrul::rescue(&input.bytes) {
         Ok(rescued) => {
-            save(args, file, &rescued.document)?;
+            save(args, file, &rescued.document, said)?;
             report(args, file, inflated, rescued.document.len(), rescued.table.len(), Some(&rescued), said)
         }
         Err(Refusal::NotCut(_)) if input.cut.is_some() => {
-            let table = read(&input.bytes).map_err(|refusal| Trouble::Refused(refusal, input.bytes.clone()))?;
-            let records = table.len();
-            let document = again(input, table)?;
-            save(args, file, &document)?;
+            let loaded = Loaded::read(input)?;
+            let records = loaded.table.len();
+            let document = again(loaded)?;
+            save(args, file, &document, said)?;
             report(args, file, inflated, document.len(), records, None, said)
         }
         Err(refusal) => Err(Trouble::Refused(refusal, input.bytes)),
     }
 }
 
-/// What is rescued never takes the place of what it is rescued from.
+/// What is rescued, and lines, never take the place of what they are made from; nothing takes that of the lines it is made from.
 fn over_itself(args: &Args, file: &OsStr) -> Result<(), Trouble> {
     let real = |path: &Path| std::fs::canonicalize(path).ok();
-    match args.target(file).and_then(|target| real(&target)) {
-        Some(target) if Some(&target) == real(Path::new(file)).as_ref() => Err(Trouble::Io("is not written over itself".to_owned())),
+    let Some(target) = args.target(file).and_then(|target| real(&target)) else {
+        return Ok(());
+    };
+    if args.command.fills_folders() && real(Path::new(file)).as_ref() == Some(&target) {
+        return Err(Trouble::Io("is not written over itself".to_owned()));
+    }
+    match args.lines_of(file).and_then(|lines| real(Path::new(&lines))) {
+        Some(lines) if lines == target => Err(Trouble::Io("is not written over its lines".to_owned())),
         _ => Ok(()),
     }
 }
@@ -219,15 +199,14 @@ fn dump(args: &Args, input: &Input, said: &mut Vec<u8>) {
 
 /// A document that is accepted, and what was found in it.
 struct Accepted<'a> {
-    input: &'a Input,
-    table: &'a Table,
+    loaded: &'a Loaded,
     root: Node<'a>,
     found: Vec<(String, Node<'a>)>,
 }
 
 /// Says what is asked of a document that is accepted.
-fn answer(args: &Args, file: &OsStr, input: &Input, table: &Table, said: &mut Vec<u8>) -> Result<(), Trouble> {
-    let accepted = accepted(args, input, table).map_err(|refusal| Trouble::Refused(refusal, input.bytes.clone()))?;
+fn answer(args: &Args, file: &OsStr, loaded: &Loaded, said: &mut Vec<u8>) -> Result<(), Trouble> {
+    let accepted = accepted(args, loaded).map_err(|refusal| loaded.refused(refusal))?;
     let written = match args.json {
         true => writeln!(said, "{}", json::file(&file.to_string_lossy(), true, &object(args, &accepted))),
         false => words(args, file, &accepted, said),
@@ -236,11 +215,12 @@ fn answer(args: &Args, file: &OsStr, input: &Input, table: &Table, said: &mut Ve
 }
 
 /// The root, and for a query the tags that match, with their paths.
-fn accepted<'a>(args: &Args, input: &'a Input, table: &'a Table) -> Result<Accepted<'a>, Refusal> {
-    let root = table.root(&input.bytes)?;
+fn accepted<'a>(args: &Args, loaded: &'a Loaded) -> Result<Accepted<'a>, Refusal> {
+    let (bytes, table) = (&loaded.input.bytes, &loaded.table);
+    let root = table.root(bytes)?;
     let mut found = Vec::new();
     if args.command == Command::Query {
-        let records = tikfazrul::query(&input.bytes, table, args.query.as_bytes())?;
+        let records = tikfazrul::query(bytes, table, args.query.as_bytes())?;
         let mut wanted = records.into_iter().peekable();
         let mut trail = Trail::new();
         for (depth, node) in root.walk() {
@@ -250,30 +230,43 @@ fn accepted<'a>(args: &Args, input: &'a Input, table: &'a Table) -> Result<Accep
             }
         }
     }
-    Ok(Accepted { input, table, root, found })
+    Ok(Accepted { loaded, root, found })
 }
 
 fn object(args: &Args, a: &Accepted) -> String {
-    let size = format!("\"bytes\":{},\"count\":{},\"inflated\":{}", a.table.consumed(), a.table.len(), a.input.inflated);
+    let Loaded { input, table, lines } = a.loaded;
+    let from = if lines.is_some() { "\"lines\":true," } else { "" };
+    // a root takes four bytes or more where it is read; lines don't say how many
+    let bytes = if table.consumed() > 0 { format!("\"bytes\":{},", table.consumed()) } else { String::new() };
+    let size = format!("{from}{bytes}\"count\":{},\"inflated\":{}", table.len(), input.inflated);
     match args.command {
         Command::List => format!("{size},{}", json::records(a.root)),
         Command::Query => {
             let matches: Vec<String> = a.found.iter().map(|(path, node)| json::node(node, path)).collect();
-            format!("\"matches\":[{}]", matches.join(","))
+            format!("{from}\"matches\":[{}]", matches.join(","))
         }
         _ => size,
     }
 }
 
+/// How large a document is, and where its table comes from.
+fn size(loaded: &Loaded) -> String {
+    let Loaded { input, table, lines } = loaded;
+    let gzip = if input.inflated { ", inflated from gzip" } else { "" };
+    // only a table that was read knows where the root ends, four bytes from the start or more
+    if table.consumed() == 0 {
+        return format!("{}, from lines{gzip}", show::count(table.len()));
+    }
+    let more = match input.bytes.len() - table.consumed() {
+        0 => String::new(),
+        more => format!("; {more} more after the root's end"),
+    };
+    let compared = if lines.is_some() { "; the lines are its own" } else { "" };
+    format!("{}{gzip}{more}{compared}", show::size(table.consumed(), table.len()))
+}
+
 fn words(args: &Args, file: &OsStr, a: &Accepted, said: &mut Vec<u8>) -> io::Result<()> {
-    let mut size = show::size(a.table.consumed(), a.table.len());
-    if a.input.inflated {
-        size += ", inflated from gzip";
-    }
-    let more = a.input.bytes.len() - a.table.consumed();
-    if more > 0 {
-        size += &format!("; {more} more after the root's end");
-    }
+    let size = size(a.loaded);
     match args.command {
         Command::Check => writeln!(said, "{}: accepted: {size}", name(file)),
         Command::Query => {

@@ -1,7 +1,8 @@
 //! Tags and refusals in words for people.
 use crate::input::Trouble;
+use std::ffi::OsStr;
 use std::io::{self, Write};
-use tikfazrul::{quoted, Change, Kind, Link, Node, Place, Rescued};
+use tikfazrul::{quoted, Change, Kind, Link, Node, Place, Refusal, Rescued};
 
 /// How many characters of a string, and elements of an array, are shown unless all are asked for.
 const CHARACTERS: usize = 60;
@@ -10,13 +11,33 @@ const ELEMENTS: usize = 8;
 const WIDEST: usize = 48;
 /// The deepest that names are indented.
 const INDENTED: usize = 16;
+/// What is shown of a string or a name that can't be, as only tables from lines have.
+const UNREADABLE: &str = "(not modified UTF-8)";
+
+/// A file by its name.
+pub fn name(file: &OsStr) -> String {
+    if file == "-" {
+        return "standard input".to_owned();
+    }
+    // a name with a line feed must not look like two files
+    file.to_string_lossy().chars().map(|c| if c.is_control() { '\u{FFFD}' } else { c }).collect()
+}
+
+/// The lines in a file, by its name.
+pub fn lines(file: &OsStr) -> String {
+    format!("the lines {} {}", if file == "-" { "on" } else { "in" }, name(file))
+}
 
 fn plural(count: usize, one: &str, many: &str) -> String {
     format!("{count} {}", if count == 1 { one } else { many })
 }
 
 pub fn size(bytes: usize, records: usize) -> String {
-    format!("{}, {}", plural(bytes, "byte", "bytes"), plural(records, "record", "records"))
+    format!("{}, {}", plural(bytes, "byte", "bytes"), count(records))
+}
+
+pub fn count(records: usize) -> String {
+    plural(records, "record", "records")
 }
 
 /// A tag's value on one line.
@@ -27,7 +48,7 @@ pub fn value(node: &Node, full: bool) -> String {
             Some(kind) => format!("{} of {kind}", plural(node.len(), "element", "elements")),
             None => "0 elements".to_owned(),
         },
-        Kind::String => string(&node.as_str().unwrap_or_default(), full),
+        Kind::String => node.as_str().map_or(UNREADABLE.to_owned(), |text| string(&text, full)),
         Kind::Float => format!("{:?}", node.as_f32().unwrap_or_default()),
         Kind::Double => format!("{:?}", node.as_f64().unwrap_or_default()),
         Kind::ByteArray | Kind::IntArray | Kind::LongArray => array(node, full),
@@ -57,7 +78,7 @@ fn label(depth: usize, node: &Node) -> String {
     let deep = if depth > INDENTED { format!("({depth}) ") } else { String::new() };
     match node.link() {
         Link::Element(index) => format!("{indent}{deep}[{index}]"),
-        _ => format!("{indent}{deep}{}", quoted(&node.name().unwrap_or_default())),
+        _ => format!("{indent}{deep}{}", node.name().map_or(UNREADABLE.to_owned(), |name| quoted(&name).into_owned())),
     }
 }
 
@@ -105,15 +126,30 @@ pub fn trouble(trouble: &Trouble) -> String {
     match trouble {
         Trouble::Io(words) => words.clone(),
         Trouble::Packed(words) => format!("refused: {words}"),
+        Trouble::Lines(lines, refusal, bytes) => format!("refused: {}{}", unfit(lines, refusal), window(refusal, bytes)),
+        Trouble::Foreign(lines, first) => format!("refused: {}", foreign(lines, *first)),
         Trouble::Refused(refusal, bytes) => {
             let position = match refusal.place() {
                 Place::Text(at) => position(bytes, at),
                 _ => String::new(),
             };
-            let window = refusal.window(bytes).map_or(String::new(), |window| format!("\n{window}"));
-            format!("refused: {refusal}{position}{window}")
+            format!("refused: {refusal}{position}{}", window(refusal, bytes))
         }
     }
+}
+
+fn window(refusal: &Refusal, bytes: &[u8]) -> String {
+    refusal.window(bytes).map_or(String::new(), |window| format!("\n{window}"))
+}
+
+/// Why lines are of no use for a document.
+pub fn unfit(lines: &str, refusal: &Refusal) -> String {
+    let verdict = if matches!(refusal, Refusal::BadLine(_)) { "are bad" } else { "don't fit" };
+    format!("{lines} {verdict}: {refusal}")
+}
+
+pub fn foreign(lines: &str, first: usize) -> String {
+    format!("{lines} are not this document's: the first that differs is line {first}")
 }
 
 /// A place of a text as an editor counts: lines and characters from 1.

@@ -1,0 +1,111 @@
+//! Tables kept as lines of hexadecimal, one record a line.
+use crate::ffi;
+use crate::hex;
+use crate::refusal::{Place, Refusal};
+use crate::table::{Table, MAX_RECORDS, WORDS};
+
+/// The digits of a record's line: eight for each word.
+const DIGITS: usize = 8 * WORDS;
+/// The bytes of a record's line: its digits and a line feed.
+pub const LINE: usize = DIGITS + 1;
+/// How many bytes of a bad line are shown. What is wrong with it stands at the place of its line feed at the latest.
+const SHOWN: usize = LINE + 7;
+
+impl Table {
+    /// The table as lines, [`LINE`] bytes for each record: its eight words, of eight digits 0 to 9 and a to f each, and a line feed.
+    /// Refused with 10 where the words form no table over a document of so many bytes, and with 9 as [`Table::is_table`] is.
+    ///
+    /// ```
+    /// let table = tikfazrul::read(b"\x0A\0\0\0")?;
+    /// assert_eq!(table.to_lines(4)?, b"0000000a00000003000000000000000000000000000000000000000000000001\n");
+    /// # Ok::<(), tikfazrul::Refusal>(())
+    /// ```
+    pub fn to_lines(&self, doc_len: usize) -> Result<Vec<u8>, Refusal> {
+        let mut out = vec![0; self.len().min(MAX_RECORDS) * LINE];
+        let length = lines_into(doc_len, self, &mut out)?;
+        out.truncate(length);
+        Ok(out)
+    }
+
+    /// The table that lines hold, judged over a document of so many bytes: its spans lie in such a document, and its records form a tree.
+    /// Whether it is the table of the very document that it is meant for, only reading that document tells. [`Table::consumed`] is 0.
+    /// Refused with 9 where there are more than [`MAX_RECORDS`] lines, 29 at a bad line, 9 where the document is over
+    /// [`MAX_DOCUMENT`](crate::MAX_DOCUMENT), and 10 where the words form no table over it.
+    ///
+    /// ```
+    /// use tikfazrul::{Place, Refusal, Table};
+    /// let line = b"0000000a00000003000000000000000000000000000000000000000000000001\n";
+    /// assert_eq!(Table::from_lines(line, 4)?.words(), [10, 3, 0, 0, 0, 0, 0, 1]);
+    /// assert_eq!(Table::from_lines(line, 2), Err(Refusal::NoTable(Place::Whole)));
+    /// assert_eq!(Table::from_lines(&line.to_ascii_uppercase(), 4), Err(Refusal::BadLine(Place::Line(1))));
+    /// # Ok::<(), Refusal>(())
+    /// ```
+    pub fn from_lines(lines: &[u8], doc_len: usize) -> Result<Table, Refusal> {
+        // never full (8): a line that wants room has LINE bytes, as has each before it, and above MAX_RECORDS lines 9 comes first
+        let mut words = vec![0; (lines.len() / LINE).min(MAX_RECORDS) * WORDS];
+        let records = read_lines_into(lines, &mut words)?;
+        words.truncate(records * WORDS);
+        Table::judged(words, doc_len)
+    }
+}
+
+/// Writes a table's lines into bytes that the caller lends, and says how many. Refused with 9, with 10, and with 13 where there is no room:
+/// the bytes are as they were.
+///
+/// ```
+/// let table = tikfazrul::read(b"\x0A\0\0\0")?;
+/// let mut out = [0xAA; tikfazrul::LINE + 1];
+/// assert_eq!(tikfazrul::lines_into(4, &table, &mut out)?, tikfazrul::LINE);
+/// assert!(out.starts_with(b"0000000a00000003") && out.ends_with(b"00000001\n\xAA"));
+/// # Ok::<(), tikfazrul::Refusal>(())
+/// ```
+pub fn lines_into(doc_len: usize, table: &Table, out: &mut [u8]) -> Result<usize, Refusal> {
+    let answer = ffi::write_lines(doc_len, table.words(), out);
+    Refusal::check(&answer, |_| Place::Whole)?;
+    Ok(answer[2] as usize)
+}
+
+/// Reads lines into words that the caller lends, with room for one record for each eight, and says how many records. No line is accepted
+/// too. Whether the words form a table is not asked. Accepted: no other word changes. Refused with 9, or at the first line that is bad
+/// (29) or has no room (8): every word is 0.
+///
+/// ```
+/// use tikfazrul::{read_lines_into, Place, Refusal};
+/// let line = b"0000000a00000003000000000000000000000000000000000000000000000001\n";
+/// let mut words = [9; 10];
+/// assert_eq!(read_lines_into(line, &mut words)?, 1);
+/// assert_eq!(words, [10, 3, 0, 0, 0, 0, 0, 1, 9, 9]);
+/// assert_eq!(read_lines_into(&line.repeat(2), &mut words), Err(Refusal::TableFull(Place::Line(2))));
+/// # Ok::<(), Refusal>(())
+/// ```
+pub fn read_lines_into(lines: &[u8], words: &mut [u32]) -> Result<usize, Refusal> {
+    let answer = ffi::read_lines(lines, words);
+    Refusal::check(&answer, Place::Line)?;
+    Ok(answer[2] as usize)
+}
+
+/// The line of this number, from 1, cut where it is long; a mark below what is wrong with it, and what that is. `None` for a good line.
+pub(crate) fn window(lines: &[u8], number: usize) -> Option<String> {
+    let line = lines.split_inclusive(|&byte| byte == b'\n').nth(number.checked_sub(1)?)?;
+    let (at, what) = flaw(line)?;
+    let line = line.strip_suffix(b"\n").unwrap_or(line);
+    let more = if line.len() > SHOWN { "…" } else { "" };
+    Some(format!("{}{more}\n{}^ {what}", hex::ascii(&line[..line.len().min(SHOWN)]), " ".repeat(at)))
+}
+
+/// Where a line, given with its line feed, parts from the form, and how.
+fn flaw(line: &[u8]) -> Option<(usize, String)> {
+    let at = line.iter().take(DIGITS).take_while(|byte| matches!(byte, b'0'..=b'9' | b'a'..=b'f')).count();
+    let what = match line.get(at) {
+        Some(b'\n') if at == DIGITS => return None,
+        Some(b'\n') => format!("the line ends after {at} of {DIGITS} digits"),
+        Some(b'\r') => "a carriage return".to_owned(),
+        Some(b' ') => "a blank".to_owned(),
+        Some(_) if at == DIGITS => format!("the line goes on after {DIGITS} digits"),
+        Some(b'A'..=b'F') => "a capital".to_owned(),
+        Some(byte) => format!("no digit (byte {byte:02X})"),
+        None if at == DIGITS => "no line feed".to_owned(),
+        None => format!("the lines end after {at} of {DIGITS} digits"),
+    };
+    Some((at, what))
+}
