@@ -52,6 +52,12 @@ fn random() -> impl FnMut() -> u64 {
     }
 }
 
+/// So many random words.
+pub fn random_words(n: usize) -> Vec<u32> {
+    let mut random = random();
+    (0..n).map(|_| random() as u32).collect()
+}
+
 /// A document and the number of its tags, which is that of its records.
 pub struct Doc {
     pub bytes: Vec<u8>,

@@ -2,10 +2,12 @@
 #[path = "../../rust/src/ffi.rs"]
 mod ffi;
 
-pub use ffi::{check_mutf8, check_utf8, query, read, rescue, write, Answer};
+pub use ffi::{check_mutf8, check_utf8, query, read, read_lines, rescue, write, write_lines, Answer};
 
 /// The words of a record.
 pub const WORDS: usize = 8;
+/// The bytes of a record's line.
+pub const LINE: usize = 65;
 /// The records that a table may have.
 pub const MOST_RECORDS: usize = 1_048_576;
 /// The bytes that a text may have.

@@ -5,6 +5,7 @@ mod growth;
 mod harness;
 mod inputs;
 mod library;
+mod lines;
 mod markdown;
 mod quartz;
 mod query;
@@ -28,11 +29,12 @@ pub struct Bench {
 
 type Section = (&'static str, fn(&mut Bench));
 
-const SECTIONS: [Section; 8] = [
+const SECTIONS: [Section; 9] = [
     ("strings", strings::section),
     ("read", read::section),
     ("write", write::section),
     ("rescue", rescue::section),
+    ("lines", lines::section),
     ("text", text::section),
     ("tokens", tokens::section),
     ("query", query::section),

@@ -3,7 +3,7 @@
 use crate::goals::Goal;
 use crate::harness::Spread;
 use crate::inputs::{around, list_text, nested, tile_text, wide, Doc, Order};
-use crate::library::{self, Answer, MOST_TEXT, WORDS};
+use crate::library::{self, Answer, LINE, MOST_TEXT, WORDS};
 use crate::markdown::{self, grouped};
 use crate::rescue::Cut;
 use crate::Bench;
@@ -99,6 +99,7 @@ fn documents(bench: &mut Bench) {
     write("one compound of 100,000 in random order", &wide(100_000, 0, 0, Order::Random));
     let mut cut = Cut::innermost(512);
     row("tikfazrul_rescue", "one 512 deep, cut in the innermost", 0, || cut.rescue());
+    lines("the table of one 512 deep", &deep);
     let mut list = vec![0; deep.tags];
     for (what, query) in [("04 03, eight times", [4, 3].repeat(8)), ("04 01 x, eight times", [4, 1, 0, 1, b'x'].repeat(8))] {
         let bytes =
@@ -115,6 +116,12 @@ fn read(what: &str, doc: &Doc, refusal: u64) {
 fn write(what: &str, doc: &Doc) {
     let (mut table, mut out) = (doc.table(), vec![0; doc.bytes.len()]);
     row("tikfazrul_write", what, 0, || library::write(&doc.bytes, &mut table, &mut out));
+}
+
+fn lines(what: &str, doc: &Doc) {
+    let (mut table, mut out) = (doc.table(), vec![0; LINE * doc.tags]);
+    row("tikfazrul_write_lines", what, 0, || library::write_lines(doc.bytes.len(), &table, &mut out));
+    row("tikfazrul_read_lines", &format!("the lines of {what}"), 0, || library::read_lines(&out, &mut table));
 }
 
 fn texts() {
