@@ -97,10 +97,10 @@ void tikfazrul_rescue(uint32_t form, const uint8_t *doc, size_t doc_len, uint32_
  * out[0] on; no other byte changes. Refused (9, 10, 13): the output is as it was. */
 void tikfazrul_write_lines(size_t doc_len, const uint32_t *table, size_t table_len, uint8_t *out, size_t out_len, uint64_t answer[8]);
 
-/* Reads such lines back into a table. Accepted: [2] is the number of records, whose words stand from table[0] on; no other word changes. No
- * line is accepted too. Refused: every word of the table is 0. 9 comes first, above 1,048,576 lines, an unended one counted; then by line, whose
- * number from 1 is the place, 29 where it is anything but 64 such digits and a line feed, and 8 where there is no room: the table has it for
- * table_len / 8 records. Whether the words form a table is not asked: tikfazrul_is_table does, and so does each function that takes one. */
+/* Reads such lines back into a table. Accepted: [2] is the number of records, whose words stand from table[0] on; no other word changes. Zero
+ * bytes are accepted, as 0 records. Refused: every word of the table is 0. 9 comes first, above 1,048,576 lines, an unended one counted; then by
+ * line, whose number from 1 is the place, 29 where it is anything but 64 such digits and a line feed, and 8 where there is no room: the table has
+ * it for table_len / 8 records. Whether the words form a table is not asked: tikfazrul_is_table does, and so does each function that takes one. */
 void tikfazrul_read_lines(const uint8_t *lines, size_t lines_len, uint32_t *table, size_t table_len, uint64_t answer[8]);
 
 /* Asks which tags of a table match a query, whose names lie in `doc`. The query is steps, sixteen at the most, one after the other, and says

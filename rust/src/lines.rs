@@ -65,8 +65,8 @@ pub fn lines_into(doc_len: usize, table: &Table, out: &mut [u8]) -> Result<usize
     Ok(answer[2] as usize)
 }
 
-/// Reads lines into words that the caller lends, with room for one record for each eight, and says how many records. No line is accepted
-/// too. Whether the words form a table is not asked. Accepted: no other word changes. Refused with 9, or at the first line that is bad
+/// Reads lines into words that the caller lends, with room for one record for each eight, and says how many records: none where there is
+/// no line. Whether the words form a table is not asked. Accepted: no other word changes. Refused with 9, or at the first line that is bad
 /// (29) or has no room (8): every word is 0.
 ///
 /// ```
