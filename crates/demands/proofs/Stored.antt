@@ -4,13 +4,14 @@
 use Prim.Native.Nat.{ℕ, zero, suc, _+_, _*_, _/_, _≤_}
 use mathlib.Core.Path.{_≡_, refl, sym, ap, subst, _∙_}
 use mathlib.Core.List.{List, [], _∷_, _++_}
-use mathlib.Core.Bool.{true, false≢true}
+use mathlib.Core.Bool.{Bool, true, false, false≢true}
+use mathlib.Core.Logic.{_⊎_, inl, inr, ⊎-elim}
 use native.Mathlib.Omega.{arith}
-use borrow.Author.Tests.{leb-true, le-leb}
+use borrow.Author.Tests.{leb-true, le-leb, lt-leb}
 use lib.Dec.{leb}
 use lib.ListN.{length, take, drop, length-append, length-drop, take-append-drop}
 use lib.Seq.{append-snoc, length-take-le, take-at, drop-at, getD-drop}
-use Rattle.form.specs.Answer.{Out, got, no as refused, documentLimit, recordLimit}
+use Rattle.form.specs.Answer.{Out, got, no as refused, _>>=_, documentLimit, recordLimit}
 use Rattle.form.specs.Spans.{over}
 use Rattle.form.specs.Tables.{IsTable, Within}
 use Rattle.form.specs.Writing.{Gives}
@@ -19,16 +20,17 @@ use Rattle.form.specs.Stored.{readingLines, recordsOf, wordsAfter}
 use Rattle.form.proofs.Answer.{got-no, guard-got}
 use Rattle.form.proofs.Outcomes as outcomes
 use Rattle.form.proofs.Outcomes.{both, same-list, in-each-case}
+use Rattle.form.proofs.Picks.{lt-or}
 use Rattle.form.proofs.Places.{part-over}
 use Rattle.form.proofs.Tables.{table-length}
 use Rattle.form.proofs.Stored as laws
 use Rattle.form.proofs.Stored.{word-digits-length, word-digits-all, words-length, digits-back, words-small, no-lines, digits-line, Behind, first-line}
-use Rattle.form.proofs.Stored.{each-none, each-good, Accepted, accepted, is-good, good-ended, good-long, good-digits}
+use Rattle.form.proofs.Stored.{each-none, each-bad, each-full, each-good, Accepted, accepted, is-good, good-ended, good-long, good-digits}
 use Rattle.text_form.specs.Lexing.{among}
 use Rattle.calls.specs.Words.{countWords}
 use Rattle.calls.specs.Calls.{WriteLinesCalled, ReadLinesCalled}
 use Rattle.demands.specs.Marked.{ascii}
-use Rattle.demands.specs.Stored.{Words, AreLines, IsLinesAre, IsLinesBack, IsWordsBack, IsOneWriteLines, examples, AreStoredExamples}
+use Rattle.demands.specs.Stored.{Words, AreLines, IsLinesAre, Fault, FirstRefused, IsLinesRefused, IsLinesBack, IsWordsBack, IsOneWriteLines, examples, AreStoredExamples}
 use Rattle.demands.proofs.Numbers.{write-lines-refusals, read-lines-numbers}
 
 -- ---- words of 32 bits
@@ -156,6 +158,71 @@ lines-are room s ws = (to, from)
         let lines = linesIn (linesOf 8 (x .records) ws) in
         let few : length lines ≤ recordLimit = omega (arith, lines-many 8 (x .records) ws, x .few) in
         rw (x .these, le-leb (length lines) recordLimit few) (lines-accepted 8 room (x .records) 1 ws (x .long) (x .small) (omega (arith, x .roomy)))
+
+-- ---- lines that are refused
+
+-- A refusal in a chain is the first step's, where the rest refuses nothing.
+bind-no : (o : Out (List ℕ)) (f : List ℕ → List ℕ) (n p : ℕ) → (o >>= λ x. got (f x)) ≡ refused n p → o ≡ refused n p
+bind-no (got x) f n p e = absurd (got-no e)
+bind-no (refused m q) f n p e = e
+
+module _ (w room : ℕ) where
+  -- A line with the number k that is refused itself, as bad or for want of room.
+  refused-here : (k n p : ℕ) (l : TextLine) (ls : List TextLine) → k ≤ suc room → p ≡ k → Fault w room l n p → FirstRefused w room k (l ∷ ls) n p
+  refused-here k n p l ls h e y =
+      record { before = []; line = l; later = ls; lines-are = refl; good = tt; roomy = omega arith; place = omega arith; why = y }
+
+  -- A good line before those that are refused.
+  refused-later : (k n p : ℕ) (l : TextLine) (ls : List TextLine) → isLine w l ≡ true → FirstRefused w room (k + 1) ls n p → FirstRefused w room k (l ∷ ls) n p
+  refused-later k n p l ls g f = record {
+    before = l ∷ f .before;
+    line = f .line;
+    later = f .later;
+    lines-are = ap (λ x. l ∷ x) (f .lines-are);
+    good = (g, f .good);
+    roomy = omega (arith, f .roomy);
+    place = omega (arith, f .place);
+    why = f .why;
+  }
+
+  -- One line and those behind it, by whether it is good and has room.
+  one-refused : (k n p : ℕ) (l : TextLine) (ls : List TextLine) → k ≤ suc room → eachLine w room k (l ∷ ls) ≡ refused n p
+      → (k + 1 ≤ suc room → eachLine w room (k + 1) ls ≡ refused n p → FirstRefused w room (k + 1) ls n p) → FirstRefused w room k (l ∷ ls) n p
+  one-refused k n p l ls h e behind = by-line (isLine w l) refl
+    where
+      by-line : (t : Bool) → isLine w l ≡ t → FirstRefused w room k (l ∷ ls) n p
+      by-line false bad =
+          let same : _≡_ {A = Out (List ℕ)} (refused 29 k) (refused n p) = sym (each-bad w room k l ls bad) ∙ e in
+          let number : n ≡ 29 = cc in
+          let place : p ≡ k = cc in
+          let why : Fault w room l n p = inl (number, bad) in
+          refused-here k n p l ls h place why
+      by-line true good =
+          ⊎-elim
+          (λ full.
+          let same : _≡_ {A = Out (List ℕ)} (refused 8 k) (refused n p) = sym (each-full w room k l ls good full) ∙ e in
+          let number : n ≡ 8 = cc in
+          let place : p ≡ k = cc in
+          let why : Fault w room l n p = inr (number, good, omega arith) in
+          refused-here k n p l ls h place why)
+          (λ fits.
+          refused-later k n p l ls good
+          (behind (omega arith) (bind-no (eachLine w room (k + 1) ls) (λ x. wordsOf w (l .bytes) ++ x) n p (sym (each-good w room k l ls good fits) ∙ e))))
+          (lt-or room k)
+
+  first-refused : (ls : List TextLine) (k n p : ℕ) → k ≤ suc room → eachLine w room k ls ≡ refused n p → FirstRefused w room k ls n p
+  first-refused [] k n p h e = absurd (got-no (sym (each-none w room k) ∙ e))
+  first-refused (l ∷ ls) k n p h e = one-refused k n p l ls h e (first-refused ls (k + 1) n p)
+
+pub lines-refused : IsLinesRefused
+unfolding linesRead
+lines-refused room s n p e =
+    ⊎-elim
+    (λ many.
+    let same : _≡_ {A = Out (List ℕ)} (refused 9 0) (refused n p) = rw (lt-leb (length (linesIn s)) recordLimit many) at e in
+    inl (many, cc, cc))
+    (λ few. inr (few, first-refused 8 room (linesIn s) 1 n p (omega arith) (rw (le-leb (length (linesIn s)) recordLimit few) at e)))
+    (lt-or recordLimit (length (linesIn s)))
 
 -- ---- one outcome
 

@@ -1,15 +1,16 @@
 -- What is claimed of stored lines ([6]): which bytes are lines, and that words and lines come back. The proofs are in proofs/Stored.antt, under
 -- the names given here; that examples hold is shown there by computing.
 -- Assumes nothing.
-use Prim.Native.Nat.{ℕ, _*_, _/_, _^_, _≤_, _<_}
+use Prim.Native.Nat.{ℕ, suc, _+_, _*_, _/_, _^_, _≤_, _<_}
 use mathlib.Core.Path.{_≡_}
-use mathlib.Core.Logic.{_↔_}
+use mathlib.Core.Bool.{true, false}
+use mathlib.Core.Logic.{_↔_, _⊎_}
 use mathlib.Core.List.{List, [], _∷_, _++_, map}
 use lib.ListN.{length, getD, take}
-use Rattle.form.specs.Answer.{Out, got, no, documentLimit, recordLimit}
+use Rattle.form.specs.Answer.{Out, got, no, tableFull, overLimit, documentLimit, recordLimit}
 use Rattle.form.specs.Spans.{over}
 use Rattle.form.specs.Tables.{IsTable}
-use Rattle.form.specs.Stored.{linesOf, linesRead, WriteLinesIs}
+use Rattle.form.specs.Stored.{badLine, linesOf, TextLine, linesIn, isLine, linesRead, WriteLinesIs}
 use Rattle.calls.specs.Calls.{WriteLinesCalled, ReadLinesCalled}
 use Rattle.demands.specs.Marked.{ascii}
 
@@ -30,6 +31,33 @@ pub record AreLines (room : ℕ) (s ws : List ℕ) : Type 0 where
 -- text two lists of words.
 abbrev pub IsLinesAre : Type 0
 IsLinesAre = (room : ℕ) (s ws : List ℕ) → linesRead 8 room s ≡ got ws ↔ AreLines room s ws
+
+-- Lines that are good, each of them.
+abbrev pub AllGood : ℕ → List TextLine → Type 0
+AllGood w [] = Unit {0}
+AllGood w (l ∷ ls) = (isLine w l ≡ true) × AllGood w ls
+
+-- Why the line with the number p can't be taken: it is bad (29), or good and the first without room (8).
+abbrev pub Fault : ℕ → ℕ → TextLine → ℕ → ℕ → Type 0
+Fault w room l n p = ((n ≡ badLine) × (isLine w l ≡ false)) ⊎ ((n ≡ tableFull) × (isLine w l ≡ true) × (p ≡ suc room))
+
+-- The first of some lines, the first of which has the number k, that can't be taken: those before it are good and have room.
+pub record FirstRefused (w room k : ℕ) (lines : List TextLine) (n p : ℕ) : Type 0 where
+  pub before : List TextLine
+  pub line : TextLine
+  pub later : List TextLine
+  pub lines-are : lines ≡ before ++ (line ∷ later)
+  pub good : AllGood w before
+  pub roomy : k + length before ≤ suc room
+  pub place : p ≡ k + length before
+  pub why : Fault w room line n p
+
+-- `lines-refused`: above the limit lines are refused with 9 at 0; else those that are refused are so at the first that can't be taken,
+-- numbered from 1.
+abbrev pub IsLinesRefused : Type 0
+IsLinesRefused =
+    (room : ℕ) (s : List ℕ) (n p : ℕ) → linesRead 8 room s ≡ no n p
+    → ((recordLimit < length (linesIn s)) × (n ≡ overLimit) × (p ≡ 0)) ⊎ ((length (linesIn s) ≤ recordLimit) × FirstRefused 8 room 1 (linesIn s) n p)
 
 -- `lines-back`: whoever writes the lines of a table, and reads the bytes written into as many words or more, gets the same words.
 abbrev pub IsLinesBack : Type 0
