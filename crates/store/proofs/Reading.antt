@@ -1,4 +1,4 @@
--- Laws for the code that reads lines back: line feeds counted, a good line known by its 65 bytes, and the lines read so far.
+-- Laws for the code that reads lines back: line feeds counted, digits and the words that they are, and a good line known by its 65 bytes.
 -- Assumes nothing.
 use Prim.Native.Nat.{ℕ, zero, suc, _+_, _-_, _*_, _%_, _^_, _≤_, _<_}
 use mathlib.Core.Path.{_≡_, refl, sym, ap, _∙_, subst}

@@ -34,6 +34,7 @@ pub record Sofar (s t₀ t : List ℕ) (n : ℕ) : Type 0 where
   pub table : t ≡ over t₀ 0 ws
   pub is : whole s t₀ ≡ onwards s t₀ ws n
 
+-- No words before the others change nothing, and words before words go together.
 then-same : (o : Out (List ℕ)) → o ≡ (o >>= λ vs. got ([] ++ vs))
 then-same (got vs) = refl
 then-same (no n p) = refl
@@ -53,7 +54,7 @@ sofar-start s t = record {
 }
 
 -- What is refused: the answer, and a table of the length it had.
-pub taken-no : (s t t′ : List ℕ) (m p : ℕ) → whole s t ≡ no m p → length t′ ≡ length t → TakenIs s t (no m p) t′
+taken-no : (s t t′ : List ℕ) (m p : ℕ) → whole s t ≡ no m p → length t′ ≡ length t → TakenIs s t (no m p) t′
 taken-no s t t′ m p e long = record { answer-is = ap recordsOf (sym e); put = rw e long }
 
 module _ (s t₀ t : List ℕ) (n : ℕ) (f : Sofar s t₀ t n) where
@@ -64,6 +65,7 @@ module _ (s t₀ t : List ℕ) (n : ℕ) (f : Sofar s t₀ t n) where
   rest-no : (m p : ℕ) → eachLine 8 (length t₀ / 8) (n + 1) (linesIn (drop (65 * n) s)) ≡ no m p → TakenIs s t₀ (no m p) t
   rest-no m p e = taken-no s t₀ t m p (f .is ∙ ap (λ o. o >>= λ vs. got (f .ws ++ vs)) e) sofar-length
 
+  -- The next line is bad (29), or good and without room (8); or there is none, and all are taken.
   pub sofar-bad : FirstLine (drop (65 * n) s) false → TakenIs s t₀ (no 29 (n + 1)) t
   sofar-bad l = rest-no 29 (n + 1) (rw (l .lines-are) (each-bad 8 (length t₀ / 8) (n + 1) (l .line) (l .later) (sym (l .told))))
 
@@ -126,7 +128,7 @@ all-cleared : (o : Out (List ℕ)) (m p : ℕ) (t t′ : List ℕ) → no m p �
 all-cleared (got ws) m p t t′ e q = absurd (got-no (sym e))
 all-cleared (no a b) m p t t′ e q = ap (λ k. replicate k 0) q
 
--- The same of an answer that is known.
+-- What is promised of the answer, where it is known which one it is.
 pub told : (s t t′ : List ℕ) {r x : Answer} → r ≡ x → TakenIs s t (answerOut r) t′ → TakenIs s t (answerOut x) t′
 told s t t′ e k = subst (λ y. TakenIs s t (answerOut y) t′) e k
 
