@@ -28,6 +28,7 @@ use Rattle.form.proofs.Answer.{got-no, guard-got, bind-got}
 use Rattle.form.proofs.Table.{over-length, flat-length, size-one}
 use Rattle.form.proofs.Payloads.{room-fits}
 use Rattle.form.proofs.Outcomes.{same-list, both, in-each-case}
+use Rattle.form.proofs.Stored.{storing-got}
 use Rattle.text_form.specs.Lexing.{among, Lexed, found, ended, judgedText, onCharacter, lexed, contentOf, content}
 use Rattle.text_form.specs.Text.{Block, parsed, documentOf, lengthsOf}
 use Rattle.text_form.specs.Text as text
@@ -40,7 +41,7 @@ use Rattle.demands.proofs.Judged.{then-got}
 use Rattle.demands.proofs.Reading.{sound}
 use Rattle.demands.proofs.Texts.{text-fills}
 use Rattle.demands.proofs.Numbers.{read-numbers, write-refusals, write-lines-refusals, read-lines-numbers, query-refusals, token-numbers, content-numbers, parse-numbers}
-use Rattle.demands.proofs.Stored.{storing-got, lines-are}
+use Rattle.demands.proofs.Stored.{lines-are}
 use Rattle.demands.proofs.Rescue.{Way, rescue-way}
 use Rattle.demands.proofs.Outcomes.{one-table-called, one-write-called, one-write-lines-called, one-query-called}
 

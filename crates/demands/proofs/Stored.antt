@@ -18,6 +18,7 @@ use Rattle.form.specs.Writing.{Gives}
 use Rattle.form.specs.Stored.{TextLine, wordDigits, linesOf, tableLines, storing, linesIn, digitOf, allDigits, hexValue, isLine, wordsOf, eachLine, linesRead}
 use Rattle.form.specs.Stored.{readingLines, recordsOf, wordsAfter}
 use Rattle.form.proofs.Answer.{got-no, guard-got}
+use Rattle.form.proofs.Cut.{bind-no}
 use Rattle.form.proofs.Outcomes as outcomes
 use Rattle.form.proofs.Outcomes.{both, same-list, in-each-case}
 use Rattle.form.proofs.Picks.{lt-or}
@@ -25,7 +26,7 @@ use Rattle.form.proofs.Places.{part-over}
 use Rattle.form.proofs.Tables.{table-length}
 use Rattle.form.proofs.Stored as laws
 use Rattle.form.proofs.Stored.{word-digits-length, word-digits-all, words-length, digits-back, words-small, no-lines, digits-line, Behind, first-line}
-use Rattle.form.proofs.Stored.{each-none, each-bad, each-full, each-good, Accepted, accepted, is-good, good-ended, good-long, good-digits}
+use Rattle.form.proofs.Stored.{each-none, each-bad, each-full, each-good, Accepted, accepted, is-good, good-ended, good-long, good-digits, storing-fits, storing-got}
 use Rattle.text_form.specs.Lexing.{among}
 use Rattle.calls.specs.Words.{countWords}
 use Rattle.calls.specs.Calls.{WriteLinesCalled, ReadLinesCalled}
@@ -161,10 +162,9 @@ lines-are room s ws = (to, from)
 
 -- ---- lines that are refused
 
--- A refusal in a chain is the first step's, where the rest refuses nothing.
-bind-no : (o : Out (List ℕ)) (f : List ℕ → List ℕ) (n p : ℕ) → (o >>= λ x. got (f x)) ≡ refused n p → o ≡ refused n p
-bind-no (got x) f n p e = absurd (got-no e)
-bind-no (refused m q) f n p e = e
+-- Lines behind a good one that are refused: what is put before their words refuses nothing.
+behind-no : (o : Out (List ℕ)) (us : List ℕ) (n p : ℕ) → (o >>= λ ws. got (us ++ ws)) ≡ refused n p → o ≡ refused n p
+behind-no o us n p e = ⊎-elim (λ f. f) (λ a. absurd (got-no (a .2))) (bind-no o (λ ws. got (us ++ ws)) e)
 
 module _ (w room : ℕ) where
   -- A line with the number k that is refused itself, as bad or for want of room.
@@ -207,7 +207,7 @@ module _ (w room : ℕ) where
           refused-here k n p l ls h place why)
           (λ fits.
           refused-later k n p l ls good
-          (behind (omega arith) (bind-no (eachLine w room (k + 1) ls) (λ x. wordsOf w (l .bytes) ++ x) n p (sym (each-good w room k l ls good fits) ∙ e))))
+          (behind (omega arith) (behind-no (eachLine w room (k + 1) ls) (wordsOf w (l .bytes)) n p (sym (each-good w room k l ls good fits) ∙ e))))
           (lt-or room k)
 
   first-refused : (ls : List TextLine) (k n p : ℕ) → k ≤ suc room → eachLine w room k ls ≡ refused n p → FirstRefused w room k ls n p
@@ -230,19 +230,6 @@ pub one-write-lines : IsOneWriteLines
 one-write-lines = outcomes.one-write-lines
 
 -- ---- there and back
-
--- What writing the lines of a table gives, by whether they fit.
-module _ (t : List ℕ) (room : ℕ) where
-  storing-fits : length (tableLines t) ≤ room → storing t room ≡ got (tableLines t)
-  unfolding storing
-  storing-fits h = rw (le-leb (length (tableLines t)) room h) refl
-
-  pub storing-got : (bs : List ℕ) → storing t room ≡ got bs → (bs ≡ tableLines t) × (length bs ≤ room)
-  unfolding storing
-  storing-got bs e =
-      let a = guard-got (leb (length (tableLines t)) room) _ _ _ e in
-      let same : bs ≡ tableLines t = cc (a .1) in
-      (same, rw same (leb-true (length (tableLines t)) room (a .0)))
 
 -- Bytes that are counted are those that were given.
 gives-bytes : (x : Out (List ℕ)) (o o′ : List ℕ) (c : ℕ) → Gives x o (got c) o′ → (bs : List ℕ) × (x ≡ got bs) × (c ≡ length bs) × (o′ ≡ over o 0 bs)

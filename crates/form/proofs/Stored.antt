@@ -10,11 +10,11 @@ use native.Mathlib.Nat.{pow-suc, one-le-pow, mod-one, mod-lt, mod-eq-of-lt}
 use borrow.Author.Tests.{ltb-true, leb-true, lt-ltb, le-ltb, le-leb, lt-leb, eqb-true, eqb-false, eq-eqb, ne-eqb}
 use lib.Arith.{digits-div, digits-mod, mod-mul}
 use lib.Dec.{ltb, leb, eqb, lit<}
-use lib.ListN.{length, getD, take, drop, length-append, length-take, length-drop, take-append-drop}
+use lib.ListN.{length, getD, take, drop, length-append, length-drop, take-append-drop}
 use lib.Seq.{take-suc, take-length, take-at, drop-at, length-take-le, drop-drop}
-use Rattle.form.specs.Answer.{got, no, _>>=_}
+use Rattle.form.specs.Answer.{got, no, _>>=_, outputFull}
 use Rattle.form.specs.Spans.{part}
-use Rattle.form.specs.Stored.{hexDigit, hexDigits, wordDigits, lineOf, linesOf, TextLine, begun, linesIn, digitOf, allDigits, hexValue, isLine, wordsOf, eachLine}
+use Rattle.form.specs.Stored.{hexDigit, hexDigits, wordDigits, lineOf, linesOf, tableLines, storing, TextLine, begun, linesIn, digitOf, allDigits, hexValue, isLine, wordsOf, eachLine}
 use Rattle.form.proofs.Answer.{bind-got, guard-got}
 use Rattle.form.proofs.Numbers.{foldl-snoc}
 use Rattle.form.proofs.Picks.{lt-or, and-left, and-right}
@@ -397,3 +397,20 @@ lines-next (suc i) t =
     let e : 8 * suc i ≡ 8 + 8 * i = omega arith in
     rw (e, ← drop-drop (8 * i) 8 t, append-assoc (lineOf (take 8 t)) (linesOf 8 i (drop 8 t)) (lineOf (part (drop 8 t) (8 * i) 8)))
     (ap (λ x. lineOf (take 8 t) ++ x) (lines-next i (drop 8 t)))
+
+-- What writing a table's lines gives, by whether they fit.
+module _ (t : List ℕ) (room : ℕ) where
+  pub storing-fits : length (tableLines t) ≤ room → storing t room ≡ got (tableLines t)
+  unfolding storing
+  storing-fits h = rw (le-leb (length (tableLines t)) room h) refl
+
+  pub storing-full : room < length (tableLines t) → storing t room ≡ no outputFull 0
+  unfolding storing
+  storing-full h = rw (lt-leb (length (tableLines t)) room h) refl
+
+  pub storing-got : (bs : List ℕ) → storing t room ≡ got bs → (bs ≡ tableLines t) × (length bs ≤ room)
+  unfolding storing
+  storing-got bs e =
+      let a = guard-got (leb (length (tableLines t)) room) _ _ _ e in
+      let same : bs ≡ tableLines t = cc (a .1) in
+      (same, rw same (leb-true (length (tableLines t)) room (a .0)))

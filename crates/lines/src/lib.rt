@@ -351,3 +351,59 @@ pub fn fill(out: &mut [u8], from: usize, to: usize, b: u8)
         i += 1;
     }
 }
+
+// ---- words that are lent to a call, and what it left of them
+
+// What stands in them before.
+pub const UNTOUCHED: u32 = 0xAAAAAAAA;
+
+// The first n words as they are before a call.
+pub fn untouched(table: &mut [u32], n: usize)
+    ensures { λ _. ⌜ now (table .exit) ≡ withByte (now (table .entry)) 0 n 2863311530 ⌝ }
+{
+    let end = least(n, table.len());
+    let mut i: usize = 0;
+    while i < end {
+        table[i] = UNTOUCHED;
+        i += 1;
+    }
+}
+
+// A word in decimal, or a dash for one that is as it was.
+fn print_word(w: u32) {
+    if w == UNTOUCHED {
+        io::write_all(1, b" -");
+    } else {
+        print_number(w as usize);
+    }
+}
+
+// Words one after the other.
+pub fn print_words(words: &[u32]) {
+    let mut i: usize = 0;
+    while i < words.len() {
+        print_word(words[i]);
+        i += 1;
+    }
+}
+
+// Whether each word is 0.
+fn all_zero(words: &[u32]) -> bool {
+    let mut i: usize = 0;
+    while i < words.len() {
+        if words[i] != 0 {
+            return false;
+        }
+        i += 1;
+    }
+    true
+}
+
+// The words of a table, or that each is 0.
+pub fn print_table(table: &[u32]) {
+    if all_zero(table) {
+        io::write_all(1, b" zero");
+    } else {
+        print_words(table);
+    }
+}

@@ -41,11 +41,3 @@ pub or-implied : (a b : Bool) → (b ≡ true → a ≡ true) → (a || b) ≡ a
 or-implied true b h = refl
 or-implied false true h = sym (h refl)
 or-implied false false h = refl
-
-pub and-true : (a : Bool) → (a && true) ≡ a
-and-true true = refl
-and-true false = refl
-
-pub and-false : (a : Bool) → (a && false) ≡ false
-and-false true = refl
-and-false false = refl

@@ -18,8 +18,8 @@ use Rattle.steps.specs.Steps.{NameIn}
 use Rattle.reach.specs.Reached.{isDeep, takesAt}
 use Rattle.reach.specs.Sets.{has, Bits, Least, takenOf, Shut, Gathers, gathered}
 use Rattle.reach.specs.Plans.{wordsOf, planned, StepsOf, PlanIn, Reaches}
-use Rattle.form.proofs.Picks.{and-left, and-right}
-use Rattle.reach.proofs.Bools.{no-way, or-left, or-right, or-cases, and-true}
+use Rattle.form.proofs.Picks.{and-left, and-right, and-true}
+use Rattle.reach.proofs.Bools.{no-way, or-left, or-right, or-cases}
 use Rattle.reach.proofs.Sets.{has-suc, has-none, has-and, has-one, steps-end, steps-step, Within, within-le, has-rest, within-one}
 use Rattle.reach.proofs.Reached.{from, some, some-in, some-out, in-passed, reached-then, reached-within, reached-shut}
 use Rattle.reach.proofs.Gathering.{shut-none, shut-all, shut-gathered}

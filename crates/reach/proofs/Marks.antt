@@ -17,7 +17,8 @@ use Rattle.steps.specs.declared.Step.{Step as StepWords}
 use Rattle.reach.specs.Reached.{isDeep, deepAt, takesAt}
 use Rattle.reach.specs.Sets.{has, Bits}
 use Rattle.reach.specs.Plans.{wordsOf, planned, kindIn, Marked}
-use Rattle.reach.proofs.Bools.{no-way, or-false, and-true, and-false}
+use Rattle.form.proofs.Picks.{and-true, and-false}
+use Rattle.reach.proofs.Bools.{no-way, or-false}
 use Rattle.reach.proofs.Sets.{has-none, has-or, has-one}
 use Rattle.reach.proofs.Levels.{step-deep, step-shallow, takes-rest}
 

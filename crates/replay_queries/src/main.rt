@@ -2,13 +2,8 @@
 // the table's words, of eight hexadecimal digits each; a query's bytes in hexadecimal digits; and the room of the list in words, decimal. For
 // each line it prints the answer and every word of the list, which was filled with AAAAAAAA before. The answers in stdout are of a second
 // reading of rule 9, on trees: tests/replay/queries.py made them.
-ghost use mathlib.Core.Path.{_≡_};
-ghost use lib.ListN.{length};
 use lines::Line;
 use query::Found;
-
-// What stands in the list before: the number of no record.
-const UNTOUCHED: u32 = 0xAAAAAAAA;
 
 // The answer to a query.
 fn print_found(found: Found) {
@@ -41,17 +36,6 @@ fn print_words(words: &[u32]) {
     let mut i: usize = 0;
     while i < words.len() {
         print_word(words[i]);
-        i += 1;
-    }
-}
-
-// The first n words of the list as they are before a query.
-fn clear(list: &mut [u32], n: usize)
-    ensures { λ _. ⌜ length (now (list .exit)) ≡ length (now (list .entry)) ⌝ }
-{
-    let mut i: usize = 0;
-    while i < n {
-        lines::put_word(list, i, UNTOUCHED);
         i += 1;
     }
 }
@@ -97,7 +81,7 @@ fn print_last(
 ) {
     let d = lines::take_field(line, len, from, field);
     let room = lines::decimal(field, d);
-    clear(list, room);
+    lines::untouched(list, room);
     print_case(doc, size, table, n, q, many, list, room);
 }
 

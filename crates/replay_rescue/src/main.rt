@@ -3,13 +3,8 @@
 // the answer, the whole output after the rescue, which was filled with AA before, every word of the list of changes, which was filled with
 // AAAAAAAA before, as the table was, and every word of the table, or that each is 0. The answers in stdout are of a second rescue, which
 // goes forward with a stack of what is open: tests/replay/rescue.py made them.
-ghost use mathlib.Core.Path.{_≡_};
-ghost use lib.ListN.{length};
 use lines::Line;
 use rescue::Answer;
-
-// What stands in the list and in the table before.
-const UNTOUCHED: u32 = 0xAAAAAAAA;
 
 // The answer to a rescue.
 fn print_answer(answer: Answer) {
@@ -36,64 +31,14 @@ fn print_answer(answer: Answer) {
     io::write_all(1, b": ");
 }
 
-// A word in decimal, or a dash for one that is as it was.
-fn print_word(w: u32) {
-    if w == UNTOUCHED {
-        io::write_all(1, b" -");
-    } else {
-        lines::print_number(w as usize);
-    }
-}
-
-// Words one after the other.
-fn print_words(words: &[u32]) {
-    let mut i: usize = 0;
-    while i < words.len() {
-        print_word(words[i]);
-        i += 1;
-    }
-}
-
-// Whether each word is 0.
-fn all_zero(words: &[u32]) -> bool {
-    let mut i: usize = 0;
-    while i < words.len() {
-        if words[i] != 0 {
-            return false;
-        }
-        i += 1;
-    }
-    true
-}
-
-// The words of a table, or that each is 0.
-fn print_table(table: &[u32]) {
-    if all_zero(table) {
-        io::write_all(1, b" zero");
-    } else {
-        print_words(table);
-    }
-}
-
-// The first n words of a list as they are before a rescue.
-fn clear(list: &mut [u32], n: usize)
-    ensures { λ _. ⌜ length (now (list .exit)) ≡ length (now (list .entry)) ⌝ }
-{
-    let mut i: usize = 0;
-    while i < n {
-        lines::put_word(list, i, UNTOUCHED);
-        i += 1;
-    }
-}
-
 // The answer to a document, and what the rescue left.
 fn print_answers(doc: &[u8], table: &mut [u32], out: &mut [u8], changes: &mut [u32]) {
     print_answer(rescue::rescue(doc, table, out, changes));
     lines::print_bytes(out);
     io::write_all(1, b";");
-    print_words(changes);
+    lines::print_words(changes);
     io::write_all(1, b";");
-    print_table(table);
+    lines::print_table(table);
     io::write_all(1, b"\n");
 }
 
@@ -136,7 +81,7 @@ fn print_last(
 ) {
     let d = lines::take_field(line, len, from, field);
     let many = lines::decimal(field, d);
-    clear(changes, many);
+    lines::untouched(changes, many);
     print_case(doc, size, table, n, out, room, changes, many);
 }
 
@@ -186,7 +131,7 @@ fn print_second(
 ) {
     let b = lines::take_field(line, len, from, field);
     let n = lines::decimal(field, b);
-    clear(table, n);
+    lines::untouched(table, n);
     let next = lines::sum(lines::sum(from, b), 1);
     print_third(line, len, next, field, doc, size, table, n, out, changes);
 }

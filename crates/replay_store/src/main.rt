@@ -4,13 +4,8 @@
 // the room of the output in bytes, decimal. For each case it prints the answer and then, after a reading, every word of the table, which
 // was filled with AAAAAAAA before, or that each is 0; after a writing the whole output, which was filled with AA before. The answers in
 // stdout are of a second reading of the paper: tests/replay/store.py made them.
-ghost use mathlib.Core.Path.{_≡_};
-ghost use lib.ListN.{length};
 use lines::Line;
 use store::Answer;
-
-// What stands in the table before.
-const UNTOUCHED: u32 = 0xAAAAAAAA;
 
 // The answer to a reading or a writing.
 fn print_answer(answer: Answer) {
@@ -28,62 +23,12 @@ fn print_answer(answer: Answer) {
     io::write_all(1, b":");
 }
 
-// A word in decimal, or a dash for one that is as it was.
-fn print_word(w: u32) {
-    if w == UNTOUCHED {
-        io::write_all(1, b" -");
-    } else {
-        lines::print_number(w as usize);
-    }
-}
-
-// Words one after the other.
-fn print_words(words: &[u32]) {
-    let mut i: usize = 0;
-    while i < words.len() {
-        print_word(words[i]);
-        i += 1;
-    }
-}
-
-// Whether each word is 0.
-fn all_zero(words: &[u32]) -> bool {
-    let mut i: usize = 0;
-    while i < words.len() {
-        if words[i] != 0 {
-            return false;
-        }
-        i += 1;
-    }
-    true
-}
-
-// The words of a table, or that each is 0.
-fn print_table(table: &[u32]) {
-    if all_zero(table) {
-        io::write_all(1, b" zero");
-    } else {
-        print_words(table);
-    }
-}
-
-// The first n words of a table as they are before a reading.
-fn clear(table: &mut [u32], n: usize)
-    ensures { λ _. ⌜ length (now (table .exit)) ≡ length (now (table .entry)) ⌝ }
-{
-    let mut i: usize = 0;
-    while i < n {
-        lines::put_word(table, i, UNTOUCHED);
-        i += 1;
-    }
-}
-
 // ---- reading
 
 // The answer to lines, and what reading them back left in the table.
 fn print_read(text: &[u8], table: &mut [u32]) {
     print_answer(store::read_lines(text, table));
-    print_table(table);
+    lines::print_table(table);
     io::write_all(1, b"\n");
 }
 
@@ -110,7 +55,7 @@ fn print_reading(
     let next = lines::sum(lines::sum(from, b), 1);
     let c = lines::take_field(line, len, next, field);
     let n = lines::decimal(field, c);
-    clear(table, n);
+    lines::untouched(table, n);
     read_case(bytes, size, table, n);
 }
 

@@ -16,7 +16,7 @@ use lib.Seq.{take-suc, take-at, getD-drop, getD-at, split-at, drop-drop, ext-get
 use Rattle.form.specs.Answer.{pick}
 use Rattle.form.specs.Spans.{part, over}
 use Rattle.form.specs.Stored.{TextLine, linesIn, digitOf, allDigits, hexValue, begun, isLine, wordsOf}
-use Rattle.form.proofs.Picks.{lt-or, and-left, and-right}
+use Rattle.form.proofs.Picks.{lt-or, and-left, and-right, and-true, and-false}
 use Rattle.form.proofs.Drops.{drop1}
 use Rattle.form.proofs.Spans.{part-length}
 use Rattle.form.proofs.Places.{part-at}
@@ -24,10 +24,6 @@ use Rattle.form.proofs.Table.{over-none, over-next}
 use Rattle.form.proofs.Stored.{below-digits, below-letters, above-digits, digits-append, digit-there, value-none, value-more, words-length}
 use Rattle.form.proofs.Stored.{no-lines, fed-line, begun-line, digits-line, First, first-line, is-good, good-ended, good-long, good-digits}
 use Rattle.store.specs.Steps.{feeds, fedAt, FirstLine}
-
-and-false : (t : Bool) → false ≡ (t && false)
-and-false true = refl
-and-false false = refl
 
 -- ---- line feeds counted
 
@@ -117,10 +113,6 @@ module _ (s : List ℕ) (at k : ℕ) (h : at + k < length s) where
   next-digit : allDigits (part s at (k + 1)) ≡ (allDigits (part s at k) && ltb (digitOf (getD s (at + k) 0)) 16)
   unfolding allDigits
   next-digit = ap allDigits next-byte ∙ digits-append (part s at k) (getD s (at + k) 0 ∷ []) ∙ ap (λ x. allDigits (part s at k) && x) (and-true _)
-    where
-      and-true : (t : Bool) → (t && true) ≡ t
-      and-true true = refl
-      and-true false = refl
 
   module _ (v : ℕ) (is : v ≡ digitOf (getD s (at + k) 0)) (largest : ℕ) (so-far : ltb largest 16 ≡ allDigits (part s at k)) where
     -- A value above the largest so far takes its place.
@@ -129,7 +121,7 @@ module _ (s : List ℕ) (at k : ℕ) (h : at + k < length s) where
       where
         by-value : (v < 16) ⊎ (16 ≤ v) → ltb v 16 ≡ (ltb largest 16 && ltb v 16)
         by-value (inl l) = rw (lt-ltb v 16 l, lt-ltb largest 16 (omega arith)) refl
-        by-value (inr l) = rw (le-ltb v 16 l) (and-false (ltb largest 16))
+        by-value (inr l) = rw (le-ltb v 16 l) (sym (and-false (ltb largest 16)))
 
     pub not-larger : v ≤ largest → ltb largest 16 ≡ allDigits (part s at (k + 1))
     not-larger g = rw (next-digit, ← is, ← so-far) (by-largest (lt-or largest 16))

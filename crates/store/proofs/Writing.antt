@@ -8,7 +8,6 @@ use mathlib.Core.List.{List, [], _∷_, _++_, append-nil, append-assoc}
 use native.Mathlib.Omega.{arith}
 use native.Mathlib.Numerals.{add-one}
 use native.Mathlib.Nat.{div-one}
-use borrow.Author.Tests.{le-leb, lt-leb}
 use lib.ListN.{length, getD, set, take, drop, length-drop, List·getD-append}
 use lib.Pow.{shr-shr}
 use lib.Seq.{getD-drop, getD-at, take-suc, take-all, length-take-le}
@@ -20,7 +19,7 @@ use Rattle.form.specs.Stored.{hexDigit, hexDigits, wordDigits, lineOf, linesOf,
 use Rattle.form.proofs.Picks.{lt-or}
 use Rattle.form.proofs.Spans.{part-length}
 use Rattle.form.proofs.Table.{over-over, over-next}
-use Rattle.form.proofs.Stored.{digits-length, word-digits-length, lines-length, lines-next}
+use Rattle.form.proofs.Stored.{digits-length, word-digits-length, lines-length, lines-next, storing-fits, storing-full}
 use Rattle.table.specs.declared.Verdict.{Verdict}
 use Rattle.table.specs.Check.{VerdictIs}
 
@@ -124,13 +123,10 @@ module _ (d : ℕ) (t : List ℕ) {r : Verdict} (v : VerdictIs d t r) where
 
     -- The output is too short for its lines (13).
     pub lines-full : r ≡ Verdict.Table → length o < 65 * (length t / 8) → WriteLinesIs d t o (no outputFull 0) o
-    unfolding storing
-    lines-full e h = lines-fit e (rw (lt-leb (length (tableLines t)) (length o) (rw (lines-long t) h)) (record { answer-is = refl; output-is = refl }))
+    lines-full e h = lines-fit e (rw (storing-full t (length o) (rw (lines-long t) h)) (record { answer-is = refl; output-is = refl }))
 
     -- Its lines are put.
     pub lines-put : {o′ : List ℕ} → r ≡ Verdict.Table → 65 * (length t / 8) ≤ length o → o′ ≡ over o 0 (tableLines t)
         → WriteLinesIs d t o (got (65 * (length t / 8))) o′
-    unfolding storing
     lines-put e h p =
-        lines-fit e
-        (rw (le-leb (length (tableLines t)) (length o) (rw (lines-long t) h)) (record { answer-is = ap got (sym (lines-long t)); output-is = p }))
+        lines-fit e (rw (storing-fits t (length o) (rw (lines-long t) h)) (record { answer-is = ap got (sym (lines-long t)); output-is = p }))

@@ -1,10 +1,10 @@
--- `replay_store::print_words` is safe and ends: i rises to the number of words.
+-- `lines::all_zero` is safe and ends: i rises to the number of words.
 -- Assumes nothing.
 use borrow.Author.Needs.{needs}
 use Prim.Native.Nat.{_-_, _≤_}
 use lib.ListN.{length}
-use Rattle.replay_store.proofs.print_words.Statement.{statement}
-use Rattle.replay_store.proofs.print_words.Tie as tie
+use Rattle.lines.proofs.all_zero.Statement.{statement}
+use Rattle.lines.proofs.all_zero.Tie as tie
 
 abbrev Inv-loop : tie.InvT-loop
 Inv-loop words i₀ i = i ≤ length words
@@ -12,8 +12,8 @@ Inv-loop words i₀ i = i ≤ length words
 abbrev μ-loop : tie.MeasureT-loop
 μ-loop words i₀ i = length words - i
 
-pub print-words-spec : {M : Type 1} → statement M
-print-words-spec =
+pub all-zero-spec : {M : Type 1} → statement M
+all-zero-spec =
     tie.close
     (tie.spec
     Inv-loop
@@ -21,7 +21,7 @@ print-words-spec =
     (λ c. search needs)
     (λ c. search needs)
     (λ c. search needs)
-    (λ c κs. search needs)
+    (λ c. search needs)
     (λ c. search needs)
     (λ c. search needs)
     (λ c. search needs)
