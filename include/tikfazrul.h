@@ -67,6 +67,9 @@ enum {
     TIKFAZRUL_WORDS = 8
 };
 
+/* The bytes of a record's line, its line feed among them. */
+enum { TIKFAZRUL_LINE = 65 };
+
 /* Reads a document into a table of records. Accepted: [2] is the number of bytes consumed, [3] the number of records, and the records' words
  * stand from table[0] on; no other word changes. Refused (1 to 9): every word of the table is 0. The table has room for table_len / 8
  * records, 1,048,576 at the most. */
@@ -93,7 +96,7 @@ void tikfazrul_rescue(uint32_t form, const uint8_t *doc, size_t doc_len, uint32_
                       uint32_t *changes, size_t changes_len, uint64_t answer[8]);
 
 /* Writes a table as lines, to be kept and read back: for each record its eight words, each as eight digits 0 to 9 and a to f with the highest
- * first, and a line feed; 65 bytes a record. The document is given by its length alone. Accepted: [2] is the number of bytes written, from
+ * first, and a line feed; TIKFAZRUL_LINE bytes a record. The document is given by its length alone. Accepted: [2] is the number of bytes written, from
  * out[0] on; no other byte changes. Refused (9, 10, 13): the output is as it was. */
 void tikfazrul_write_lines(size_t doc_len, const uint32_t *table, size_t table_len, uint8_t *out, size_t out_len, uint64_t answer[8]);
 

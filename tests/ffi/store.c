@@ -399,6 +399,7 @@ static void no_lines(void)
 int main(void)
 {
     uint32_t *t = leaves();
+    expect("the bytes of a line, by name", TIKFAZRUL_LINE == LINE);
     there_and_back();
     written();
     no_table();
