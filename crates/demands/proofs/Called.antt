@@ -18,19 +18,19 @@ use Rattle.demands.specs.Queries.{wordsOf}
 use Rattle.demands.proofs.Reading.{never-zero}
 
 -- The words of the records counted are those of the records read.
-counted-words : (t : List ℕ) (x : One) → take (8 * (1 + size (x .inner))) (tableAfter (got x) t) ≡ wordsOf x
+counted-words : (t : List ℕ) (x : One) → take (9 * (1 + size (x .inner))) (tableAfter (got x) t) ≡ wordsOf x
 unfolding wrote
 counted-words t x =
     let f = node (x .head) (x .inner) none in
-    let e : 8 * (1 + size (x .inner)) ≡ length (flat 0 f) = omega (arith, flat-length 0 f, size-one (x .head) (x .inner)) in
-    ap (λ (k : ℕ). take k (over t 0 (flat 0 f))) e ∙ part-over t 0 (flat 0 f) (omega arith)
+    let e : 9 * (1 + size (x .inner)) ≡ length (flat 0 0 f) = omega (arith, flat-length 0 0 f, size-one (x .head) (x .inner)) in
+    ap (λ (k : ℕ). take k (over t 0 (flat 0 0 f))) e ∙ part-over t 0 (flat 0 0 f) (omega arith)
 
 -- A read of doc into t that gave x, consumed c bytes and counted n records.
 pub record Held (doc t t′ : List ℕ) (c n : ℕ) (x : One) : Type 0 where
   pub is : documentAt doc (roomOf (length t)) ≡ got x
   pub consumed : x .next ≡ c
   pub records : 1 + size (x .inner) ≡ n
-  pub words : take (8 * n) t′ ≡ wordsOf x
+  pub words : take (9 * n) t′ ≡ wordsOf x
 
 module _ (doc t t′ : List ℕ) where
   -- Where the definition accepts x, the words are its counts and the table holds its records.
@@ -39,7 +39,7 @@ module _ (doc t t′ : List ℕ) where
     is = e;
     consumed = k;
     records = m;
-    words = ap (λ (i : ℕ). take (8 * i) t′) (sym m) ∙ ap (take (8 * (1 + size (x .inner)))) h ∙ counted-words t x;
+    words = ap (λ (i : ℕ). take (9 * i) t′) (sym m) ∙ ap (take (9 * (1 + size (x .inner)))) h ∙ counted-words t x;
   }
 
   -- An answer that begins with 0 is no refusal's.

@@ -88,24 +88,24 @@ same-changed k old new = go (both (ℕ-discrete (length new) (length old)) (same
 
 module _ (doc t : List ℕ) (bytes : Bytes doc) where
   -- The records that were read fit the table.
-  read-changed : (x : One) → reading doc t ≡ got x → Changed (8 * (1 + size (x .inner))) t (tableAfter (got x) t)
+  read-changed : (x : One) → reading doc t ≡ got x → Changed (9 * (1 + size (x .inner))) t (tableAfter (got x) t)
   unfolding wrote
   read-changed x e =
       let f = node (x .head) (x .inner) none in
       let s = sound doc bytes (roomOf (length t)) x e in
-      let long : length (flat 0 f) ≡ 8 * (1 + size (x .inner)) = omega (arith, flat-length 0 f, size-one (x .head) (x .inner)) in
-      over-changed (8 * (1 + size (x .inner))) t (flat 0 f) long (omega (arith, long, s .fits, s .records, room-fits (length t)))
+      let long : length (flat 0 0 f) ≡ 9 * (1 + size (x .inner)) = omega (arith, flat-length 0 0 f, size-one (x .head) (x .inner)) in
+      over-changed (9 * (1 + size (x .inner))) t (flat 0 0 f) long (omega (arith, long, s .fits, s .records, room-fits (length t)))
 
   read-each : (t′ a : List ℕ) → ReadCalled doc t t′ a
-      → (Accepts a × Changed (8 * getD a 3 0) t t′) ⊎ (Refuses readNumbers a × (t′ ≡ replicate (length t) 0))
+      → (Accepts a × Changed (9 * getD a 3 0) t t′) ⊎ (Refuses readNumbers a × (t′ ≡ replicate (length t) 0))
   read-each t′ a r = go (reading doc t) refl (r .answer-is) (r .table-is)
     where
       go : (o : Out One) → reading doc t ≡ o → a ≡ readWords (countsOf o) → t′ ≡ tableAfter o t
-          → (Accepts a × Changed (8 * getD a 3 0) t t′) ⊎ (Refuses readNumbers a × (t′ ≡ replicate (length t) 0))
+          → (Accepts a × Changed (9 * getD a 3 0) t t′) ⊎ (Refuses readNumbers a × (t′ ≡ replicate (length t) 0))
       go (got x) e w k = rw (w, k) (inl ((_, refl, refl), read-changed x e))
       go (refused n p) e w k = rw w (inr (refuses readNumbers n p (read-numbers doc bytes (roomOf (length t)) n p e), k))
 
-  read-answers : Answers (ReadCalled doc t) readNumbers t (replicate (length t) 0) (λ a. 8 * getD a 3 0)
+  read-answers : Answers (ReadCalled doc t) readNumbers t (replicate (length t) 0) (λ a. 9 * getD a 3 0)
   read-answers = record {
     one = λ m₁ m₂ a₁ a₂ r s. (r .table-is ∙ sym (s .table-is), r .answer-is ∙ sym (s .answer-is));
     each = read-each;
@@ -202,17 +202,17 @@ write-lines-answers d t o = record {
 
 -- The records that were read are whole, and fit the table.
 read-lines-each : (s t t′ a : List ℕ) → ReadLinesCalled s t t′ a
-    → (Accepts a × Changed (8 * getD a 2 0) t t′) ⊎ (Refuses readLinesNumbers a × (t′ ≡ replicate (length t) 0))
+    → (Accepts a × Changed (9 * getD a 2 0) t t′) ⊎ (Refuses readLinesNumbers a × (t′ ≡ replicate (length t) 0))
 read-lines-each s t t′ a r = go (readingLines s t) refl (r .answer-is) (r .table-is)
   where
     go : (x : Out (List ℕ)) → readingLines s t ≡ x → a ≡ countWords (recordsOf x) → t′ ≡ wordsAfter x t
-        → (Accepts a × Changed (8 * getD a 2 0) t t′) ⊎ (Refuses readLinesNumbers a × (t′ ≡ replicate (length t) 0))
+        → (Accepts a × Changed (9 * getD a 2 0) t t′) ⊎ (Refuses readLinesNumbers a × (t′ ≡ replicate (length t) 0))
     go (got ws) e w k =
-        let x = lines-are (length t / 8) s ws .0 e in
-        rw (w, k) (inl ((_, refl, refl), over-changed (8 * (length ws / 8)) t ws (omega (arith, x .long)) (omega (arith, x .long, x .roomy))))
-    go (refused n p) e w k = rw w (inr (refuses readLinesNumbers n p (read-lines-numbers 8 (length t / 8) s n p e), k))
+        let x = lines-are (length t / 9) s ws .0 e in
+        rw (w, k) (inl ((_, refl, refl), over-changed (9 * (length ws / 9)) t ws (omega (arith, x .long)) (omega (arith, x .long, x .roomy))))
+    go (refused n p) e w k = rw w (inr (refuses readLinesNumbers n p (read-lines-numbers 9 (length t / 9) s n p e), k))
 
-read-lines-answers : (s t : List ℕ) → Answers (ReadLinesCalled s t) readLinesNumbers t (replicate (length t) 0) (λ a. 8 * getD a 2 0)
+read-lines-answers : (s t : List ℕ) → Answers (ReadLinesCalled s t) readLinesNumbers t (replicate (length t) 0) (λ a. 9 * getD a 2 0)
 read-lines-answers s t = record {
   one = λ t₁ t₂ a₁ a₂ p q. (p .table-is ∙ sym (q .table-is), p .answer-is ∙ sym (q .answer-is));
   each = read-lines-each s t;

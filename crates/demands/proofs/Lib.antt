@@ -22,6 +22,7 @@ pub mod Writing
 pub mod Texts
 pub mod Queries
 pub mod Numbered
+pub mod Parents
 pub mod Called
 pub mod DemandOne
 pub mod DemandTwo

@@ -12,17 +12,18 @@ use Rattle.form.specs.Answer.{pick}
 use Rattle.form.specs.Spans.{part}
 use Rattle.form.specs.Tree.{Tag, compound}
 use Rattle.form.specs.Table.{Head, Forest, none, node, size, tagsOf, entriesOf, valueBy}
-use Rattle.form.specs.Tables.{LeafIs, ContainerIs, Fair}
-use Rattle.form.specs.Paths.{Hop, named, item}
+use Rattle.form.specs.Tables.{LeafIs, ContainerIs, Fair, IsTable}
+use Rattle.form.specs.Paths.{Hop, named, item, paths}
 use Rattle.form.proofs.Leaves.{held-kind}
 use Rattle.form.specs.Records.{Sits, hopOf, recordPaths}
 use Rattle.form.proofs.Paths.{paths-length, tree-paths}
 use Rattle.form.proofs.Tables.{sits-first, sits-inner, sits-later, fair-first, fair-inner, fair-later, table-sits}
+use Rattle.demands.specs.Writing.{tableValue}
 use Rattle.demands.specs.Queries.{PathAt}
 use Rattle.demands.specs.Numbered.{Nth, EntryOf, Leads, StandsFor, IsNumbered}
 
 -- A place in one list after the other.
-path-split : (ps qs : List (List Hop)) (m : ℕ) (q : List Hop) → PathAt (ps ++ qs) m q → PathAt ps m q ⊎ ((length ps ≤ m) × PathAt qs (m - length ps) q)
+pub path-split : (ps qs : List (List Hop)) (m : ℕ) (q : List Hop) → PathAt (ps ++ qs) m q → PathAt ps m q ⊎ ((length ps ≤ m) × PathAt qs (m - length ps) q)
 path-split [] qs m q h = let z : m - 0 ≡ m = omega arith in inr (omega arith, subst (λ (k : ℕ). PathAt qs k q) (sym z) h)
 path-split (p ∷ ps) qs zero q h = inl h
 path-split (p ∷ ps) qs (suc m) q h = go (path-split ps qs m q h)
@@ -153,9 +154,15 @@ module _ (doc w : List ℕ) where
       (λ m′ b. find d l later (fair-later d l h inner later fr) (n + 1 + size inner) (sits-later w n h inner later s) k (suc i) p m′ q b)
       (path-split (pathsIn k i p h inner) (recordPaths doc k (suc i) p later) m q a)
 
+-- The paths of a table's document are the root's and those of the records in it.
+pub table-paths : (doc w : List ℕ) (t : IsTable (length doc) w) → paths (tableValue doc w t) ≡ [] ∷ recordPaths doc 10 0 [] (t .inner)
+table-paths doc w t =
+    let inner-fair = fair-inner (length doc) false (t .head) (t .inner) none (t .fair) in
+    tree-paths doc (length doc) (t .head) (t .inner) (subst (λ (k : ℕ). Fair (length doc) (eqb k 9) (t .inner)) (t .compound) inner-fair)
+
 pub numbered : IsNumbered
 unfolding Leads valueBy
-numbered doc w t n p a = go n (subst (λ (ps : List (List Hop)). PathAt ps n p) (tree-paths doc (length doc) (t .head) (t .inner) kids-fair) a)
+numbered doc w t n p a = go n (subst (λ (ps : List (List Hop)). PathAt ps n p) (table-paths doc w t) a)
   where
     root : Tag
     root = compound (entriesOf doc (t .inner))
@@ -165,9 +172,6 @@ numbered doc w t n p a = go n (subst (λ (ps : List (List Hop)). PathAt ps n p) 
 
     inner-fair : Fair (length doc) (eqb (t .head .kind) 9) (t .inner)
     inner-fair = fair-inner (length doc) false (t .head) (t .inner) none (t .fair)
-
-    kids-fair : Fair (length doc) (eqb 10 9) (t .inner)
-    kids-fair = subst (λ (k : ℕ). Fair (length doc) (eqb k 9) (t .inner)) (t .compound) inner-fair
 
     root-value : valueBy doc (t .head) (tagsOf doc (t .inner)) (entriesOf doc (t .inner)) ≡ root
     root-value = rw (t .compound) refl

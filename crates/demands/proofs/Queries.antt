@@ -29,7 +29,7 @@ tabled doc bytes room x le e =
     let n = s .records in
     let f = s .fits in (
       record { head = x .head; inner = x .inner; compound = r .compound; fair = r .fair; these = refl },
-      record { bytes = s .small; words = omega (arith, flat-length 0 (node (x .head) (x .inner) none), size-one (x .head) (x .inner)) },
+      record { bytes = s .small; words = omega (arith, flat-length 0 0 (node (x .head) (x .inner) none), size-one (x .head) (x .inner)) },
     )
 
 -- It stands for the document that was read.

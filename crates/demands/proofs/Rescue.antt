@@ -71,7 +71,7 @@ root-whole doc room name len k inner few small w text e g =
       table = record { head = h; inner = inner; compound = refl; fair = fair; these = refl };
       table-head = refl;
       table-inner = refl;
-      small = record { bytes = small; words = omega (arith, flat-length 0 (node h inner none), size-one h inner, g .fits) };
+      small = record { bytes = small; words = omega (arith, flat-length 0 0 (node h inner none), size-one h inner, g .fits) };
       lawful = record { name = text; valid = g .valid; depth-le = g .deep };
       records = sym (counted doc false inner (g .fair) .entries);
       fits = omega (arith, g .fits);

@@ -141,10 +141,10 @@ pub lines-are : IsLinesAre
 unfolding linesRead
 lines-are room s ws = (to, from)
   where
-    to : linesRead 8 room s ≡ got ws → AreLines room s ws
+    to : linesRead 9 room s ≡ got ws → AreLines room s ws
     to e =
         let a = guard-got (leb (length (linesIn s)) recordLimit) _ _ _ e in
-        let x = accepted-whole 8 room (linesIn s) 1 s ws refl (omega arith) (a .1) in
+        let x = accepted-whole 9 room (linesIn s) 1 s ws refl (omega arith) (a .1) in
         record {
           records = length (linesIn s);
           long = x .long;
@@ -154,11 +154,11 @@ lines-are room s ws = (to, from)
           these = x .these;
         }
 
-    from : AreLines room s ws → linesRead 8 room s ≡ got ws
+    from : AreLines room s ws → linesRead 9 room s ≡ got ws
     from x =
-        let lines = linesIn (linesOf 8 (x .records) ws) in
-        let few : length lines ≤ recordLimit = omega (arith, lines-many 8 (x .records) ws, x .few) in
-        rw (x .these, le-leb (length lines) recordLimit few) (lines-accepted 8 room (x .records) 1 ws (x .long) (x .small) (omega (arith, x .roomy)))
+        let lines = linesIn (linesOf 9 (x .records) ws) in
+        let few : length lines ≤ recordLimit = omega (arith, lines-many 9 (x .records) ws, x .few) in
+        rw (x .these, le-leb (length lines) recordLimit few) (lines-accepted 9 room (x .records) 1 ws (x .long) (x .small) (omega (arith, x .roomy)))
 
 -- ---- lines that are refused
 
@@ -221,7 +221,7 @@ lines-refused room s n p e =
     (λ many.
     let same : _≡_ {A = Out (List ℕ)} (refused 9 0) (refused n p) = rw (lt-leb (length (linesIn s)) recordLimit many) at e in
     inl (many, cc, cc))
-    (λ few. inr (few, first-refused 8 room (linesIn s) 1 n p (omega arith) (rw (le-leb (length (linesIn s)) recordLimit few) at e)))
+    (λ few. inr (few, first-refused 9 room (linesIn s) 1 n p (omega arith) (rw (le-leb (length (linesIn s)) recordLimit few) at e)))
     (lt-or recordLimit (length (linesIn s)))
 
 -- ---- one outcome
@@ -237,10 +237,10 @@ gives-bytes (got bs) o o′ c g = (bs, refl, cc (g .answer-is), g .output-is)
 gives-bytes (refused n p) o o′ c g = absurd (got-no (g .answer-is))
 
 -- A table's lines are those of its words, which are whole records within the limit.
-table-lines : (d : ℕ) (t : List ℕ) → Within d t → IsTable d t → Words t → (room : ℕ) → length t / 8 ≤ room → AreLines room (tableLines t) t
+table-lines : (d : ℕ) (t : List ℕ) → Within d t → IsTable d t → Words t → (room : ℕ) → length t / 9 ≤ room → AreLines room (tableLines t) t
 table-lines d t within table small room fits =
     let long = table-length d t table in
-    record { records = length t / 8; long = omega arith; small = small; few = omega (arith, within .words); roomy = fits; these = refl }
+    record { records = length t / 9; long = omega arith; small = small; few = omega (arith, within .words); roomy = fits; these = refl }
 
 -- The bytes that an accepted write of lines counts are the table's lines.
 written-lines : (t o o′ : List ℕ) (c : ℕ) → Gives (storing t (length o)) o (got c) o′ → take c o′ ≡ tableLines t
@@ -267,44 +267,44 @@ lines-back d t o o′ a small k c words u u′ b fits r =
     accepted-is : k .result ≡ got c
     accepted-is = counted (k .result) refl (sym (k .words-are) ∙ words)
 
-    back : Within d t → IsTable d t → (b ≡ 0 ∷ 0 ∷ length t / 8 ∷ 0 ∷ 0 ∷ 0 ∷ 0 ∷ 0 ∷ []) × (u′ ≡ over u 0 t)
+    back : Within d t → IsTable d t → (b ≡ 0 ∷ 0 ∷ length t / 9 ∷ 0 ∷ 0 ∷ 0 ∷ 0 ∷ 0 ∷ []) × (u′ ≡ over u 0 t)
     back within table =
         let lines = written-lines t o o′ c (subst (λ (x : Out ℕ). Gives (storing t (length o)) o x o′) accepted-is (k .is .fit within table)) in
-        let read = lines-are (length u / 8) (tableLines t) t .1 (table-lines d t within table small (length u / 8) (omega arith)) in
-        let e : readingLines (take c o′) u ≡ got t = ap (linesRead 8 (length u / 8)) lines ∙ read in
+        let read = lines-are (length u / 9) (tableLines t) t .1 (table-lines d t within table small (length u / 9) (omega arith)) in
+        let e : readingLines (take c o′) u ≡ got t = ap (linesRead 9 (length u / 9)) lines ∙ read in
         (r .answer-is ∙ ap (λ x. countWords (recordsOf x)) e, r .table-is ∙ ap (λ x. wordsAfter x u) e)
 
 -- The bytes of an accepted read are the lines of the records that it counts.
-read-lines : (s t t′ a : List ℕ) → ReadLinesCalled s t t′ a → (n : ℕ) → a ≡ 0 ∷ 0 ∷ n ∷ 0 ∷ 0 ∷ 0 ∷ 0 ∷ 0 ∷ [] → AreLines (length t / 8) s (take (8 * n) t′)
+read-lines : (s t t′ a : List ℕ) → ReadLinesCalled s t t′ a → (n : ℕ) → a ≡ 0 ∷ 0 ∷ n ∷ 0 ∷ 0 ∷ 0 ∷ 0 ∷ 0 ∷ [] → AreLines (length t / 9) s (take (9 * n) t′)
 unfolding among
 read-lines s t t′ a r n words = go (readingLines s t) refl (sym (r .answer-is) ∙ words) (r .table-is)
   where
     go : (x : Out (List ℕ)) → readingLines s t ≡ x → countWords (recordsOf x) ≡ 0 ∷ 0 ∷ n ∷ 0 ∷ 0 ∷ 0 ∷ 0 ∷ 0 ∷ [] → t′ ≡ wordsAfter x t
-        → AreLines (length t / 8) s (take (8 * n) t′)
+        → AreLines (length t / 9) s (take (9 * n) t′)
     go (got ws) e w table =
-        let x = lines-are (length t / 8) s ws .0 e in
-        let counted : length ws / 8 ≡ n = cc in
-        let all : 8 * n ≡ length ws = omega (arith, x .long) in
-        let same : take (8 * n) t′ ≡ ws = ap (λ (k : ℕ). take k t′) all ∙ ap (take (length ws)) table ∙ part-over t 0 ws (omega arith) in
-        subst (AreLines (length t / 8) s) (sym same) x
+        let x = lines-are (length t / 9) s ws .0 e in
+        let counted : length ws / 9 ≡ n = cc in
+        let all : 9 * n ≡ length ws = omega (arith, x .long) in
+        let same : take (9 * n) t′ ≡ ws = ap (λ (k : ℕ). take k t′) all ∙ ap (take (length ws)) table ∙ part-over t 0 ws (omega arith) in
+        subst (AreLines (length t / 9) s) (sym same) x
     go (refused m p) e w table =
         let number : m ≡ 0 = cc in
-        absurd (false≢true (rw number at (read-lines-numbers 8 (length t / 8) s m p e)))
+        absurd (false≢true (rw number at (read-lines-numbers 9 (length t / 9) s m p e)))
 
 -- Words that form a table are written as their lines.
 lines-written : (room d : ℕ) (s ws o o′ b : List ℕ) → AreLines room s ws → d ≤ documentLimit → IsTable d ws → length s ≤ length o → WriteLinesCalled d ws o o′ b
     → (b ≡ 0 ∷ 0 ∷ length s ∷ 0 ∷ 0 ∷ 0 ∷ 0 ∷ 0 ∷ []) × (o′ ≡ over o 0 s)
 lines-written room d s ws o o′ b x small table fits k =
     let within : Within d ws = record { bytes = small; words = omega (arith, x .long, x .few) } in
-    let many : length ws / 8 ≡ x .records = omega (arith, x .long) in
-    let same : tableLines ws ≡ s = ap (λ (r : ℕ). linesOf 8 r ws) many ∙ sym (x .these) in
+    let many : length ws / 9 ≡ x .records = omega (arith, x .long) in
+    let same : tableLines ws ≡ s = ap (λ (r : ℕ). linesOf 9 r ws) many ∙ sym (x .these) in
     let e : storing ws (length o) ≡ got s = storing-fits ws (length o) (omega (arith, ap length same)) ∙ ap got same in
     let g = subst (λ (y : Out (List ℕ)). Gives y o (k .result) o′) e (k .is .fit within table) in
     (k .words-are ∙ ap countWords (g .answer-is), g .output-is)
 
 pub words-back : IsWordsBack
 words-back s t t′ a r n words d small table o o′ b fits k =
-    lines-written (length t / 8) d s (take (8 * n) t′) o o′ b (read-lines s t t′ a r n words) small table fits k
+    lines-written (length t / 9) d s (take (9 * n) t′) o o′ b (read-lines s t t′ a r n words) small table fits k
 
 -- ---- by example
 

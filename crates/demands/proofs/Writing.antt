@@ -86,7 +86,7 @@ rewritten doc bytes room few x e =
       table = record { head = x .head; inner = x .inner; compound = f .compound; fair = f .fair; these = refl };
       head-is = refl;
       inner-is = refl;
-      small = record { bytes = s .small; words = omega (arith, flat-length 0 (node (x .head) (x .inner) none), size-one (x .head) (x .inner), s .fits, s .records) };
+      small = record { bytes = s .small; words = omega (arith, flat-length 0 0 (node (x .head) (x .inner) none), size-one (x .head) (x .inner), s .fits, s .records) };
       written-is = λ to l. again doc room x e (s .lawful) to (omega (arith, long));
       near = n;
     }

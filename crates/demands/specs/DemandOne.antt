@@ -47,7 +47,7 @@ Alone P m a = (m ≡ []) × P a
 -- other changes nothing. On acceptance the words and bytes that the answer counts change, and no others. A rescue is lent three memories:
 -- its output and its list of changes are as any call's, and its table ends as a read of the same document leaves it.
 pub record DemandOne : Type 0 where
-  pub read : (doc t : List ℕ) → Bytes doc → Answers (ReadCalled doc t) readNumbers t (replicate (length t) 0) (λ a. 8 * getD a 3 0)
+  pub read : (doc t : List ℕ) → Bytes doc → Answers (ReadCalled doc t) readNumbers t (replicate (length t) 0) (λ a. 9 * getD a 3 0)
   pub is-table : (d : ℕ) (t : List ℕ) → Answers (Alone (TableCalled d t)) (overLimit ∷ []) [] [] (λ a. 0)
   pub write : (doc t t′ o : List ℕ) → Answers (WriteCalled doc t t′ o) writeNumbers o o (λ a. getD a 2 0)
   pub write-table : (doc t t′ o o′ a : List ℕ) → WriteCalled doc t t′ o o′ a → t′ ≡ t
@@ -55,7 +55,7 @@ pub record DemandOne : Type 0 where
   pub rescue-changes : (form : ℕ) (doc t t′ o o′ c : List ℕ) → Bytes doc → Answers (RescueCalled form doc t t′ o o′ c) rescueNumbers c c (λ a. 3 * getD a 3 0)
   pub rescue-table : (form : ℕ) (doc t t′ o o′ c c′ a : List ℕ) → RescueCalled form doc t t′ o o′ c c′ a → (t″ b : List ℕ) → ReadCalled doc t t″ b → t′ ≡ t″
   pub write-lines : (d : ℕ) (t o : List ℕ) → Answers (WriteLinesCalled d t o) writeLinesNumbers o o (λ a. getD a 2 0)
-  pub read-lines : (s t : List ℕ) → Answers (ReadLinesCalled s t) readLinesNumbers t (replicate (length t) 0) (λ a. 8 * getD a 2 0)
+  pub read-lines : (s t : List ℕ) → Answers (ReadLinesCalled s t) readLinesNumbers t (replicate (length t) 0) (λ a. 9 * getD a 2 0)
   pub query : (doc t q l : List ℕ) → Answers (QueryCalled doc t q l) queryNumbers l l (λ a. getD a 2 0)
   pub token : (t : List ℕ) (start stops : ℕ) → Answers (Alone (TokenCalled t start stops)) tokenNumbers [] [] (λ a. 0)
   pub content : (t : List ℕ) (start e quoted : ℕ) (o : List ℕ) → Answers (ContentCalled t start e quoted o) contentNumbers o o (λ a. getD a 2 0)

@@ -38,5 +38,5 @@ pub record Listed (doc w : List ℕ) (d : Document) (ss : List Step) (l l′ b :
 abbrev pub IsDemandThree : Type 0
 IsDemandThree =
     (doc t t′ a : List ℕ) → Bytes doc → ReadCalled doc t t′ a → (c n : ℕ) → a ≡ 0 ∷ 0 ∷ c ∷ n ∷ 0 ∷ 0 ∷ 0 ∷ 0 ∷ []
-    → (q : List ℕ) (ss : List Step) → spelt q ≡ got ss → (l l′ b : List ℕ) → QueryCalled doc (take (8 * n) t′) q l l′ b
-    → (d : Document) × Layout d (take c doc) × Lawful d × Listed doc (take (8 * n) t′) d ss l l′ b
+    → (q : List ℕ) (ss : List Step) → spelt q ≡ got ss → (l l′ b : List ℕ) → QueryCalled doc (take (9 * n) t′) q l l′ b
+    → (d : Document) × Layout d (take c doc) × Lawful d × Listed doc (take (9 * n) t′) d ss l l′ b

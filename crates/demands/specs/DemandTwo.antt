@@ -32,11 +32,11 @@ pub record Reads (doc t′ a : List ℕ) (c : ℕ) (d : Document) : Type 0 where
   pub records : ℕ
   pub answer : a ≡ 0 ∷ 0 ∷ c ∷ records ∷ 0 ∷ 0 ∷ 0 ∷ 0 ∷ []
   pub each : records ≡ 1 + entriesCount (d .root)
-  pub holds : Holds doc (take (8 * records) t′) d
+  pub holds : Holds doc (take (9 * records) t′) d
 
 -- A table of so many words has room for the records of a document.
 pub record RoomFor (d : Document) (words : ℕ) : Type 0 where
-  pub room : 8 * (1 + entriesCount (d .root)) ≤ words
+  pub room : 9 * (1 + entriesCount (d .root)) ≤ words
   pub few : 1 + entriesCount (d .root) ≤ recordLimit
 
 -- Whoever reads doc, with room for the records of d, gets d of its first c bytes.

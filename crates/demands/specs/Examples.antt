@@ -37,7 +37,7 @@ helloWorld = "0A000B68656C6C6F20776F726C640800046E616D65000942616E616E72616D6100
 unfoldable pub examples : List (Question × Out (List ℕ))
 examples =
     -- Named Binary Tag, the format's own description: its first document, read and written back
-    (as-marked (read helloWorld), got (33 ∷ 10 ∷ 3 ∷ 11 ∷ 0 ∷ 0 ∷ 1 ∷ 0 ∷ 2 ∷ 8 ∷ 17 ∷ 4 ∷ 23 ∷ 9 ∷ 0 ∷ 0 ∷ 2 ∷ []))
+    (as-marked (read helloWorld), got (33 ∷ 10 ∷ 3 ∷ 11 ∷ 0 ∷ 0 ∷ 1 ∷ 0 ∷ 2 ∷ 0 ∷ 8 ∷ 17 ∷ 4 ∷ 23 ∷ 9 ∷ 0 ∷ 0 ∷ 2 ∷ 0 ∷ []))
     ∷ (as-marked (write helloWorld), got (unhex helloWorld))
     -- java.io.DataInput, the tables of modified UTF-8: U+0001 to U+007F take one byte; U+0000 and U+0080 to U+07FF two; U+0800 to U+FFFF three
     ∷ (modified (0x1 ∷ 0x7F ∷ []), got (unhex "017F"))

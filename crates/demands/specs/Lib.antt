@@ -5,6 +5,7 @@ pub mod Texts
 pub mod Queries
 pub mod Rescue
 pub mod Numbered
+pub mod Parents
 pub mod Numbers
 pub mod DemandOne
 pub mod DemandTwo

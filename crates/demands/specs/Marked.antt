@@ -47,7 +47,7 @@ pub data Asked : Type 0 where
 
 -- A read as numbers: the bytes consumed, then the words of the records; or the refusal's number and place.
 abbrev pub readAnswer : Out One → Out (List ℕ)
-readAnswer (got x) = got (x .next ∷ flat 0 (node (x .head) (x .inner) none))
+readAnswer (got x) = got (x .next ∷ flat 0 0 (node (x .head) (x .inner) none))
 readAnswer (no n p) = no n p
 
 -- A write as numbers: the bytes written, of the document as it was read; or the refusal's number and place.
@@ -110,16 +110,16 @@ answerTo (parse t) = parseAnswer (parsed (ascii t) 15)
 -- The records, as document 01 writes them.
 unfoldable pub records : List (Asked × Out (List ℕ))
 records =
-    -- 0A0000: 1 at 3. 0A000000: 4 consumed, record 10 3 0 0 0 0 0 1.
+    -- 0A0000: 1 at 3. 0A000000: 4 consumed, record 10 3 0 0 0 0 0 1 0.
     (read "0A0000", no 1 3)
-    ∷ (read "0A000000", got (4 ∷ 10 ∷ 3 ∷ 0 ∷ 0 ∷ 0 ∷ 0 ∷ 0 ∷ 1 ∷ []))
-    -- 10 consumed, records 10 3 1 0 0 1 0 2 and 1 7 1 8 1 0 0 2. Queries 04 and 04 04: 0, 1. Query 03: 1.
-    ∷ (read "0A00016101000162FF00", got (10 ∷ 10 ∷ 3 ∷ 1 ∷ 0 ∷ 0 ∷ 1 ∷ 0 ∷ 2 ∷ 1 ∷ 7 ∷ 1 ∷ 8 ∷ 1 ∷ 0 ∷ 0 ∷ 2 ∷ []))
+    ∷ (read "0A000000", got (4 ∷ 10 ∷ 3 ∷ 0 ∷ 0 ∷ 0 ∷ 0 ∷ 0 ∷ 1 ∷ 0 ∷ []))
+    -- 10 consumed, records 10 3 1 0 0 1 0 2 0 and 1 7 1 8 1 0 0 2 0. Queries 04 and 04 04: 0, 1. Query 03: 1.
+    ∷ (read "0A00016101000162FF00", got (10 ∷ 10 ∷ 3 ∷ 1 ∷ 0 ∷ 0 ∷ 1 ∷ 0 ∷ 2 ∷ 0 ∷ 1 ∷ 7 ∷ 1 ∷ 8 ∷ 1 ∷ 0 ∷ 0 ∷ 2 ∷ 0 ∷ []))
     ∷ (ask "0A00016101000162FF00" "04", got (0 ∷ 1 ∷ []))
     ∷ (ask "0A00016101000162FF00" "0404", got (0 ∷ 1 ∷ []))
     ∷ (ask "0A00016101000162FF00" "03", got (1 ∷ []))
     -- accepted; written with byte 7 as 00. With 0D at byte 7: 3 at 7. With 01 there and count FFFFFFFF: 5 at 8.
-    ∷ (read "0A00000900016C050000000000", got (13 ∷ 10 ∷ 3 ∷ 0 ∷ 0 ∷ 0 ∷ 1 ∷ 0 ∷ 2 ∷ 9 ∷ 6 ∷ 1 ∷ 0 ∷ 0 ∷ 0 ∷ 0 ∷ 2 ∷ []))
+    ∷ (read "0A00000900016C050000000000", got (13 ∷ 10 ∷ 3 ∷ 0 ∷ 0 ∷ 0 ∷ 1 ∷ 0 ∷ 2 ∷ 0 ∷ 9 ∷ 6 ∷ 1 ∷ 0 ∷ 0 ∷ 0 ∷ 0 ∷ 2 ∷ 0 ∷ []))
     ∷ (write "0A00000900016C050000000000", got (unhex "0A00000900016C000000000000"))
     ∷ (read "0A00000900016C0D0000000000", no 3 7)
     ∷ (read "0A00000900016C01FFFFFFFF00", no 5 8)

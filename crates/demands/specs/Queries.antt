@@ -18,7 +18,7 @@ use Rattle.demands.specs.Reading.{Bytes}
 
 -- The words of the records that a read wrote, and no others.
 abbrev pub wordsOf : One → List ℕ
-wordsOf x = flat 0 (node (x .head) (x .inner) none)
+wordsOf x = flat 0 0 (node (x .head) (x .inner) none)
 
 -- `tabled`: what a read writes forms a table, within the limits of rule 7's check.
 abbrev pub IsTabled : Type 0

@@ -31,10 +31,10 @@ pub record Whole (doc : List ℕ) (room : ℕ) (k : Kept) : Type 0 where
   pub head : Head
   pub inner : Forest
   pub is : k .forest ≡ node head inner none
-  pub table : IsTable (length doc) (flat 0 (node head inner none))
+  pub table : IsTable (length doc) (flat 0 0 (node head inner none))
   pub table-head : table .head ≡ head
   pub table-inner : table .inner ≡ inner
-  pub small : Within (length doc) (flat 0 (node head inner none))
+  pub small : Within (length doc) (flat 0 0 (node head inner none))
   pub lawful : Lawful (valueOf doc head inner)
   pub records : size inner ≡ entriesCount (valueOf doc head inner .root)
   pub fits : 1 + size inner ≤ room

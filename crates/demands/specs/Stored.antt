@@ -21,16 +21,16 @@ Words t = (i : ℕ) → getD t i 0 < 2 ^ 32
 -- The bytes s are the lines of the words ws, which are whole records, within the limit and a room.
 pub record AreLines (room : ℕ) (s ws : List ℕ) : Type 0 where
   pub records : ℕ
-  pub long : length ws ≡ 8 * records
+  pub long : length ws ≡ 9 * records
   pub small : Words ws
   pub few : records ≤ recordLimit
   pub roomy : records ≤ room
-  pub these : s ≡ linesOf 8 records ws
+  pub these : s ≡ linesOf 9 records ws
 
 -- `lines-are`: bytes are accepted with some words exactly if they are the lines of those words; no two texts have the same words, and no
 -- text two lists of words.
 abbrev pub IsLinesAre : Type 0
-IsLinesAre = (room : ℕ) (s ws : List ℕ) → linesRead 8 room s ≡ got ws ↔ AreLines room s ws
+IsLinesAre = (room : ℕ) (s ws : List ℕ) → linesRead 9 room s ≡ got ws ↔ AreLines room s ws
 
 -- Lines that are good, each of them.
 abbrev pub AllGood : ℕ → List TextLine → Type 0
@@ -56,23 +56,23 @@ pub record FirstRefused (w room k : ℕ) (lines : List TextLine) (n p : ℕ) : T
 -- numbered from 1.
 abbrev pub IsLinesRefused : Type 0
 IsLinesRefused =
-    (room : ℕ) (s : List ℕ) (n p : ℕ) → linesRead 8 room s ≡ no n p
-    → ((recordLimit < length (linesIn s)) × (n ≡ overLimit) × (p ≡ 0)) ⊎ ((length (linesIn s) ≤ recordLimit) × FirstRefused 8 room 1 (linesIn s) n p)
+    (room : ℕ) (s : List ℕ) (n p : ℕ) → linesRead 9 room s ≡ no n p
+    → ((recordLimit < length (linesIn s)) × (n ≡ overLimit) × (p ≡ 0)) ⊎ ((length (linesIn s) ≤ recordLimit) × FirstRefused 9 room 1 (linesIn s) n p)
 
 -- `lines-back`: whoever writes the lines of a table, and reads the bytes written into as many words or more, gets the same words.
 abbrev pub IsLinesBack : Type 0
 IsLinesBack =
     (d : ℕ) (t o o′ a : List ℕ) → Words t → WriteLinesCalled d t o o′ a → (c : ℕ) → a ≡ 0 ∷ 0 ∷ c ∷ 0 ∷ 0 ∷ 0 ∷ 0 ∷ 0 ∷ []
     → (u u′ b : List ℕ) → length t ≤ length u → ReadLinesCalled (take c o′) u u′ b
-    → (b ≡ 0 ∷ 0 ∷ length t / 8 ∷ 0 ∷ 0 ∷ 0 ∷ 0 ∷ 0 ∷ []) × (u′ ≡ over u 0 t)
+    → (b ≡ 0 ∷ 0 ∷ length t / 9 ∷ 0 ∷ 0 ∷ 0 ∷ 0 ∷ 0 ∷ []) × (u′ ≡ over u 0 t)
 
 -- `words-back`: whoever reads lines, and writes the words read, gets the same lines where there is room, on one condition: that the words
 -- form a table over the document whose length the writer is told. Other words are refused with 10.
 abbrev pub IsWordsBack : Type 0
 IsWordsBack =
     (s t t′ a : List ℕ) → ReadLinesCalled s t t′ a → (n : ℕ) → a ≡ 0 ∷ 0 ∷ n ∷ 0 ∷ 0 ∷ 0 ∷ 0 ∷ 0 ∷ []
-    → (d : ℕ) → d ≤ documentLimit → IsTable d (take (8 * n) t′)
-    → (o o′ b : List ℕ) → length s ≤ length o → WriteLinesCalled d (take (8 * n) t′) o o′ b
+    → (d : ℕ) → d ≤ documentLimit → IsTable d (take (9 * n) t′)
+    → (o o′ b : List ℕ) → length s ≤ length o → WriteLinesCalled d (take (9 * n) t′) o o′ b
     → (b ≡ 0 ∷ 0 ∷ length s ∷ 0 ∷ 0 ∷ 0 ∷ 0 ∷ 0 ∷ []) × (o′ ≡ over o 0 s)
 
 -- `one-write-lines`: two outcomes that the promise of writing lines allows are one. That of reading them is one equation for each word.
@@ -87,14 +87,14 @@ pub data Stored : Type 0 where
   stored : List ℕ → ℕ → Stored
 
 abbrev pub answerTo : Stored → Out (List ℕ)
-answerTo (stored s room) = linesRead 8 room s
+answerTo (stored s room) = linesRead 9 room s
 
--- The line of the record 10 3 0 0 0 0 0 1, without its line feed; a capital in the place of its a; and a line feed.
+-- The line of the record 10 3 0 0 0 0 0 1 0, without its line feed; a capital in the place of its a; and a line feed.
 abbrev pub smallest : List ℕ
-smallest = ascii "0000000a00000003000000000000000000000000000000000000000000000001"
+smallest = ascii "0000000a0000000300000000000000000000000000000000000000000000000100000000"
 
 abbrev pub capital : List ℕ
-capital = ascii "0000000A00000003000000000000000000000000000000000000000000000001"
+capital = ascii "0000000A0000000300000000000000000000000000000000000000000000000100000000"
 
 abbrev pub feed : List ℕ
 feed = 10 ∷ []
@@ -103,13 +103,15 @@ unfoldable pub examples : List (Stored × Out (List ℕ))
 examples =
     -- no line, with no room; one line
     (stored [] 0, got [])
-    ∷ (stored (smallest ++ feed) 1, got (10 ∷ 3 ∷ 0 ∷ 0 ∷ 0 ∷ 0 ∷ 0 ∷ 1 ∷ []))
-    -- not ended; ended by a carriage return as well; a capital; a digit short, and one over; an empty line
+    ∷ (stored (smallest ++ feed) 1, got (10 ∷ 3 ∷ 0 ∷ 0 ∷ 0 ∷ 0 ∷ 0 ∷ 1 ∷ 0 ∷ []))
+    -- not ended; ended by a carriage return as well; a capital; a digit short, and one over; a word short, as before [7];
+    -- an empty line
     ∷ (stored smallest 1, no 29 1)
     ∷ (stored (smallest ++ (13 ∷ feed)) 1, no 29 1)
     ∷ (stored (capital ++ feed) 1, no 29 1)
-    ∷ (stored (take 63 smallest ++ feed) 1, no 29 1)
+    ∷ (stored (take 71 smallest ++ feed) 1, no 29 1)
     ∷ (stored (smallest ++ (48 ∷ feed)) 1, no 29 1)
+    ∷ (stored (take 64 smallest ++ feed) 1, no 29 1)
     ∷ (stored (smallest ++ feed ++ feed) 2, no 29 2)
     -- no room; in one line 29 comes before 8, and a line's 8 before the next line's 29
     ∷ (stored (smallest ++ feed) 0, no 8 1)

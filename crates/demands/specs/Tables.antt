@@ -11,4 +11,4 @@ use Rattle.form.specs.Rows.{RowsAre}
 
 -- `row-by-row`: words form a table over a document of d bytes exactly if they are those of n records, each of which is as rule 7 says.
 abbrev pub IsRowByRow : Type 0
-IsRowByRow = (d : ℕ) (w : List ℕ) → IsTable d w ↔ ((n : ℕ) × (length w ≡ 8 * n) × RowsAre d w n)
+IsRowByRow = (d : ℕ) (w : List ℕ) → IsTable d w ↔ ((n : ℕ) × (length w ≡ 9 * n) × RowsAre d w n)

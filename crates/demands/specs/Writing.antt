@@ -103,10 +103,10 @@ IsNear = (d : Document) (bs : List ℕ) → Layout d bs → Near (emptyIdIn d) b
 -- What an accepted read says of writing: the words of its records form a table, which stands for the document that was read; with room
 -- for its layout that table is written; and what is written are the bytes consumed, but at the ids of empty lists.
 pub record Rewritten (doc : List ℕ) (x : One) : Type 0 where
-  pub table : IsTable (length doc) (flat 0 (node (x .head) (x .inner) none))
+  pub table : IsTable (length doc) (flat 0 0 (node (x .head) (x .inner) none))
   pub head-is : table .head ≡ x .head
   pub inner-is : table .inner ≡ x .inner
-  pub small : Within (length doc) (flat 0 (node (x .head) (x .inner) none))
+  pub small : Within (length doc) (flat 0 0 (node (x .head) (x .inner) none))
   pub written-is : (room : ℕ) → x .next ≤ room → written doc (x .head) (x .inner) room ≡ got (layout (valueOf doc (x .head) (x .inner)))
   pub near : Near (emptyIdIn (valueOf doc (x .head) (x .inner))) (take (x .next) doc) (layout (valueOf doc (x .head) (x .inner)))
 

@@ -138,14 +138,14 @@ pub room-le : (n : ℕ) → roomOf n ≤ 1048576
 unfolding roomOf
 room-le n = omega arith
 
-pub room-fits : (n : ℕ) → 8 * roomOf n ≤ n
+pub room-fits : (n : ℕ) → 9 * roomOf n ≤ n
 unfolding roomOf
 room-fits n = omega arith
 
-pub room-small : (n : ℕ) → n / 8 < 1048576 → n / 8 ≡ roomOf n
+pub room-small : (n : ℕ) → n / 9 < 1048576 → n / 9 ≡ roomOf n
 unfolding roomOf
 room-small n h = omega arith
 
-pub room-large : (n : ℕ) → 1048576 ≤ n / 8 → 1048576 ≡ roomOf n
+pub room-large : (n : ℕ) → 1048576 ≤ n / 9 → 1048576 ≡ roomOf n
 unfolding roomOf
 room-large n h = omega arith

@@ -91,11 +91,11 @@ module _ (doc : List ℕ) (read : Reader) where
 
 -- the records acc were read and written from record n₀ on, done of them side by side; n is the next record's number, and what is left
 -- of the whole is `left`
-pub record Sofar (whole left : Out Run) (acc : Forest) (t₀ t : List ℕ) (n₀ n done : ℕ) : Type 0 where
+pub record Sofar (whole left : Out Run) (acc : Forest) (t₀ t : List ℕ) (above n₀ n done : ℕ) : Type 0 where
   pub is : whole ≡ after acc left
   pub n-is : n ≡ n₀ + size acc
   pub done-is : done ≡ width acc
-  pub table : t ≡ wrote t₀ n₀ acc
+  pub table : t ≡ wrote t₀ above n₀ acc
 
 after-none : (o : Out Run) → o ≡ after none o
 unfolding _⊕_
@@ -110,27 +110,27 @@ after-then f x (got r) = ap (λ g. got (record { forest = g; next = r .next })) 
     lemma = refl
 after-then f x (no m p) = refl
 
-pub sofar-start : (whole : Out Run) (t : List ℕ) (n : ℕ) {done : ℕ} → done ≡ 0 → Sofar whole whole none t t n n done
+pub sofar-start : (whole : Out Run) (t : List ℕ) (above n : ℕ) {done : ℕ} → done ≡ 0 → Sofar whole whole none t t above n n done
 unfolding size width
-sofar-start whole t n d =
-    record { is = after-none whole; n-is = omega arith; done-is = d; table = sym (wrote-none t n) }
+sofar-start whole t above n d =
+    record { is = after-none whole; n-is = omega arith; done-is = d; table = sym (wrote-none t above n) }
 
-module _ {whole left : Out Run} {acc : Forest} {t₀ t : List ℕ} {n₀ n done : ℕ} (s : Sofar whole left acc t₀ t n₀ n done) where
+module _ {whole left : Out Run} {acc : Forest} {t₀ t : List ℕ} {above n₀ n done : ℕ} (s : Sofar whole left acc t₀ t above n₀ n done) where
   pub sofar-no : {m p : ℕ} → left ≡ no m p → whole ≡ no m p
   sofar-no e = s .is ∙ ap (after acc) e
 
   pub sofar-end : {at : ℕ} → left ≡ got (record { forest = none; next = at }) → whole ≡ got (record { forest = acc; next = at })
   sofar-end {at} e = s .is ∙ ap (after acc) e ∙ ap (λ g. got (record { forest = g; next = at })) (append-none acc)
 
-  pub sofar-length : 8 * n ≤ length t₀ → length t ≡ length t₀
-  sofar-length h = rw (s .table) (wrote-length t₀ n₀ acc (rw (← s .n-is) h))
+  pub sofar-length : 9 * n ≤ length t₀ → length t ≡ length t₀
+  sofar-length h = rw (s .table) (wrote-length t₀ above n₀ acc (rw (← s .n-is) h))
 
-  pub sofar-next : (x : One) {rest : Out Run} {t′ : List ℕ} {n′ done′ : ℕ} → left ≡ then x rest → t′ ≡ wrote t n (node (x .head) (x .inner) none)
-      → n′ ≡ n + 1 + size (x .inner) → done′ ≡ done + 1 → 8 * n ≤ length t₀
-      → Sofar whole rest (acc ⊕ node (x .head) (x .inner) none) t₀ t′ n₀ n′ done′
+  pub sofar-next : (x : One) {rest : Out Run} {t′ : List ℕ} {n′ done′ : ℕ} → left ≡ then x rest → t′ ≡ wrote t above n (node (x .head) (x .inner) none)
+      → n′ ≡ n + 1 + size (x .inner) → done′ ≡ done + 1 → 9 * n ≤ length t₀
+      → Sofar whole rest (acc ⊕ node (x .head) (x .inner) none) t₀ t′ above n₀ n′ done′
   sofar-next x {rest} {t′} e w i d h = record {
     is = s .is ∙ ap (after acc) e ∙ after-then acc x rest;
     n-is = omega (arith, s .n-is, size-append acc (node (x .head) (x .inner) none), size-one (x .head) (x .inner));
     done-is = omega (arith, s .done-is, width-append acc (node (x .head) (x .inner) none), width-one (x .head) (x .inner));
-    table = w ∙ rw (s .table, s .n-is) (wrote-next t₀ n₀ acc (node (x .head) (x .inner) none) (rw (← s .n-is) h));
+    table = w ∙ rw (s .table, s .n-is) (wrote-next t₀ above n₀ acc (node (x .head) (x .inner) none) (rw (← s .n-is) h));
   }

@@ -381,22 +381,22 @@ module _ (w : ℕ) (l : TextLine) where
 pub line-length : (ws : List ℕ) → length (lineOf ws) ≡ 8 * length ws + 1
 line-length ws = simp length-append (omega (arith, word-digits-length ws))
 
-pub lines-length : (n : ℕ) (t : List ℕ) → 8 * n ≤ length t → length (linesOf 8 n t) ≡ 65 * n
+pub lines-length : (n : ℕ) (t : List ℕ) → 9 * n ≤ length t → length (linesOf 9 n t) ≡ 73 * n
 unfolding linesOf
 lines-length zero t h = refl
 lines-length (suc n) t h =
-    let front : length (take 8 t) ≡ 8 = length-take-le 8 t (omega arith) in
-    length-append (lineOf (take 8 t)) (linesOf 8 n (drop 8 t))
-    ∙ omega (arith, line-length (take 8 t), lines-length n (drop 8 t) (simp length-drop (omega arith)))
+    let front : length (take 9 t) ≡ 9 = length-take-le 9 t (omega arith) in
+    length-append (lineOf (take 9 t)) (linesOf 9 n (drop 9 t))
+    ∙ omega (arith, line-length (take 9 t), lines-length n (drop 9 t) (simp length-drop (omega arith)))
 
 -- One record more.
-pub lines-next : (i : ℕ) (t : List ℕ) → linesOf 8 (suc i) t ≡ linesOf 8 i t ++ lineOf (part t (8 * i) 8)
+pub lines-next : (i : ℕ) (t : List ℕ) → linesOf 9 (suc i) t ≡ linesOf 9 i t ++ lineOf (part t (9 * i) 9)
 unfolding linesOf
-lines-next zero t = append-nil (lineOf (take 8 t))
+lines-next zero t = append-nil (lineOf (take 9 t))
 lines-next (suc i) t =
-    let e : 8 * suc i ≡ 8 + 8 * i = omega arith in
-    rw (e, ← drop-drop (8 * i) 8 t, append-assoc (lineOf (take 8 t)) (linesOf 8 i (drop 8 t)) (lineOf (part (drop 8 t) (8 * i) 8)))
-    (ap (λ x. lineOf (take 8 t) ++ x) (lines-next i (drop 8 t)))
+    let e : 9 * suc i ≡ 9 + 9 * i = omega arith in
+    rw (e, ← drop-drop (9 * i) 9 t, append-assoc (lineOf (take 9 t)) (linesOf 9 i (drop 9 t)) (lineOf (part (drop 9 t) (9 * i) 9)))
+    (ap (λ x. lineOf (take 9 t) ++ x) (lines-next i (drop 9 t)))
 
 -- What writing a table's lines gives, by whether they fit.
 module _ (t : List ℕ) (room : ℕ) where

@@ -51,19 +51,19 @@ unfolding width size
 width-le-size none = omega arith
 width-le-size (node h i l) = omega (arith, width-le-size l)
 
--- eight words to a record
-pub flat-length : (n : ℕ) (f : Forest) → length (flat n f) ≡ 8 * size f
+-- nine words to a record
+pub flat-length : (p n : ℕ) (f : Forest) → length (flat p n f) ≡ 9 * size f
 unfolding flat size
-flat-length n none = refl
-flat-length n (node h i l) =
-    simp length-append (omega (arith, flat-length (n + 1) i, flat-length (n + 1 + size i) l))
+flat-length p n none = refl
+flat-length p n (node h i l) =
+    simp length-append (omega (arith, flat-length n (n + 1) i, flat-length p (n + 1 + size i) l))
 
-pub flat-append : (n : ℕ) (f g : Forest) → flat n (f ⊕ g) ≡ flat n f ++ flat (n + size f) g
+pub flat-append : (p n : ℕ) (f g : Forest) → flat p n (f ⊕ g) ≡ flat p n f ++ flat p (n + size f) g
 unfolding flat size _⊕_
-flat-append n none g = ap (λ k. flat k g) (sym (add-zero n))
-flat-append n (node h i l) g =
+flat-append p n none g = ap (λ k. flat p k g) (sym (add-zero n))
+flat-append p n (node h i l) g =
     let e : n + (1 + size i + size l) ≡ n + 1 + size i + size l = omega arith in
-    rw (e, flat-append (n + 1 + size i) l g, append-assoc (flat (n + 1) i) (flat (n + 1 + size i) l) (flat (n + 1 + size i + size l) g)) refl
+    rw (e, flat-append p (n + 1 + size i) l g, append-assoc (flat n (n + 1) i) (flat p (n + 1 + size i) l) (flat p (n + 1 + size i + size l) g)) refl
 
 -- ---- lists written over
 
@@ -131,35 +131,35 @@ over-before t i vs ws h =
 
 -- ---- tables
 
--- the words of records n on start at 8 * n
-at-next : (n : ℕ) (f : Forest) → 8 * (n + size f) ≡ 8 * n + length (flat n f)
-at-next n f = omega (arith, flat-length n f)
+-- the words of records n on start at 9 * n
+at-next : (p n : ℕ) (f : Forest) → 9 * (n + size f) ≡ 9 * n + length (flat p n f)
+at-next p n f = omega (arith, flat-length p n f)
 
-pub wrote-none : (t : List ℕ) (n : ℕ) → wrote t n none ≡ t
+pub wrote-none : (t : List ℕ) (p n : ℕ) → wrote t p n none ≡ t
 unfolding wrote flat
-wrote-none t n = over-none t (8 * n)
+wrote-none t p n = over-none t (9 * n)
 
-pub wrote-length : (t : List ℕ) (n : ℕ) (f : Forest) → 8 * (n + size f) ≤ length t → length (wrote t n f) ≡ length t
+pub wrote-length : (t : List ℕ) (p n : ℕ) (f : Forest) → 9 * (n + size f) ≤ length t → length (wrote t p n f) ≡ length t
 unfolding wrote
-wrote-length t n f h = over-length t (8 * n) (flat n f) (rw (← at-next n f) h)
+wrote-length t p n f h = over-length t (9 * n) (flat p n f) (rw (← at-next p n f) h)
 
 -- records after records
-pub wrote-next : (t : List ℕ) (n : ℕ) (f g : Forest) → 8 * (n + size f) ≤ length t
-    → wrote (wrote t n f) (n + size f) g ≡ wrote t n (f ⊕ g)
+pub wrote-next : (t : List ℕ) (p n : ℕ) (f g : Forest) → 9 * (n + size f) ≤ length t
+    → wrote (wrote t p n f) p (n + size f) g ≡ wrote t p n (f ⊕ g)
 unfolding wrote
-wrote-next t n f g h =
-    rw (at-next n f, over-over t (8 * n) (flat n f) (rw (← at-next n f) h) (flat (n + size f) g), flat-append n f g) refl
+wrote-next t p n f g h =
+    rw (at-next p n f, over-over t (9 * n) (flat p n f) (rw (← at-next p n f) h) (flat p (n + size f) g), flat-append p n f g) refl
 
 -- a record's own words, before those of the records in it
-pub wrote-head : (t : List ℕ) (n : ℕ) (h : Head) (f : Forest) → 8 * n + 8 ≤ length t
-    → over (wrote t (n + 1) f) (8 * n) (words h (n + 1 + size f)) ≡ wrote t n (node h f none)
+pub wrote-head : (t : List ℕ) (p n : ℕ) (h : Head) (f : Forest) → 9 * n + 9 ≤ length t
+    → over (wrote t n (n + 1) f) (9 * n) (words h (n + 1 + size f) p) ≡ wrote t p n (node h f none)
 unfolding wrote flat
-wrote-head t n h f l =
-    let e : 8 * (n + 1) ≡ 8 * n + 8 = omega arith in
-    rw (e, over-before t (8 * n) (words h (n + 1 + size f)) (flat (n + 1) f) l, append-nil) refl
+wrote-head t p n h f l =
+    let e : 9 * (n + 1) ≡ 9 * n + 9 = omega arith in
+    rw (e, over-before t (9 * n) (words h (n + 1 + size f) p) (flat n (n + 1) f) l, append-nil) refl
 
 -- the words of a record with none in it
-pub wrote-leaf : (t : List ℕ) (n : ℕ) (h : Head) → 8 * n + 8 ≤ length t → over t (8 * n) (words h (n + 1)) ≡ wrote t n (node h none none)
-wrote-leaf t n h l =
+pub wrote-leaf : (t : List ℕ) (p n : ℕ) (h : Head) → 9 * n + 9 ≤ length t → over t (9 * n) (words h (n + 1) p) ≡ wrote t p n (node h none none)
+wrote-leaf t p n h l =
     let e : n + 1 + size none ≡ n + 1 = omega (arith, size-none) in
-    rw (← wrote-head t n h none l, wrote-none t (n + 1), e) refl
+    rw (← wrote-head t p n h none l, wrote-none t n (n + 1), e) refl

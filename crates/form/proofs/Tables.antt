@@ -13,7 +13,7 @@ use lib.Dec.{eqb}
 use Rattle.form.specs.Answer.{recordLimit}
 use Rattle.form.specs.Spans.{over}
 use Rattle.form.specs.Table.{Head, Forest, none, node, size, _⊕_, words, word, flat, wrote}
-use Rattle.form.specs.Records.{Stands, Sits}
+use Rattle.form.specs.Records.{Stands, Sits, Under}
 use Rattle.form.specs.Tables.{LeafIs, ContainerIs, NameIs, Fair, IsTable, Within}
 use Rattle.form.proofs.Table.{flat-length}
 use Rattle.form.proofs.Leaves.{held-kind, leaf-kind}
@@ -32,7 +32,7 @@ module _ (t : List ℕ) (n : ℕ) (h : Head) (inner later : Forest) where
   sits-node s i l = (s, i, l)
 
   module _ (s : Sits t n (node h inner later)) where
-    -- The eight words of the first record.
+    -- The first record's words but the ninth.
     pub sits-first : Stands t n h (n + 1 + size inner)
     unfolding Sits
     sits-first = s .0
@@ -52,8 +52,44 @@ module _ (t : List ℕ) (n : ℕ) (h : Head) (inner later : Forest) where
     unfolding Sits
     sits-alone = (s .0, s .1, tt)
 
+-- ---- their parents
+
+-- An empty row of records has any parent.
+pub under-none : (t : List ℕ) (p n : ℕ) → Under t p n none
+unfolding Under
+under-none t p n = tt
+
+module _ (t : List ℕ) (p n : ℕ) (h : Head) (inner later : Forest) where
+  -- The first record has the parent p, those in it the first, those after it p too.
+  pub under-node : word t n 8 ≡ p → Under t n (n + 1) inner → Under t p (n + 1 + size inner) later → Under t p n (node h inner later)
+  unfolding Under
+  under-node e i l = (e, i, l)
+
+  module _ (u : Under t p n (node h inner later)) where
+    -- The ninth word of the first record.
+    pub under-first : word t n 8 ≡ p
+    unfolding Under
+    under-first = u .0
+
+    -- The first record is the parent of those in it.
+    pub under-inner : Under t n (n + 1) inner
+    unfolding Under
+    under-inner = u .1
+
+    -- Those after it have its parent.
+    pub under-later : Under t p (n + 1 + size inner) later
+    unfolding Under
+    under-later = u .2
+
+    -- The first record alone, with those in it.
+    pub under-alone : Under t p n (node h inner none)
+    unfolding Under
+    under-alone = (u .0, u .1, tt)
+
+-- ---- room, and the words
+
 -- A table is long enough for the records that stand in it.
-pub sits-room : (t : List ℕ) (n : ℕ) (f : Forest) → Sits t n f → 8 * n ≤ length t → 8 * (n + size f) ≤ length t
+pub sits-room : (t : List ℕ) (n : ℕ) (f : Forest) → Sits t n f → 9 * n ≤ length t → 9 * (n + size f) ≤ length t
 unfolding Sits size
 sits-room t n none s l = omega arith
 sits-room t n (node h inner later) s l =
@@ -82,21 +118,22 @@ sits-split t n (node h inner later) g s =
 next-word : (t : List ℕ) (a b : ℕ) → a < length t → suc a ≡ b → drop a t ≡ getD t a 0 ∷ drop b t
 next-word t a b h e = drop-cons t a 0 h ∙ ap (λ (k : ℕ). getD t a 0 ∷ drop k t) e
 
--- So do the eight words of a record.
-drop-eight : (t : List ℕ) (n : ℕ) (h : Head) (e : ℕ) → Stands t n h e → drop (8 * n) t ≡ words h e ++ drop (8 * (n + 1)) t
-drop-eight t n h e s =
+-- So do the nine words of a record.
+drop-nine : (t : List ℕ) (n : ℕ) (h : Head) (e p : ℕ) → Stands t n h e → word t n 8 ≡ p → drop (9 * n) t ≡ words h e p ++ drop (9 * (n + 1)) t
+drop-nine t n h e p s q =
     let r = s .room in
-    let z : 8 * n ≡ 8 * n + 0 = omega arith in
+    let z : 9 * n ≡ 9 * n + 0 = omega arith in
     rw (
       z,
-      next-word t (8 * n + 0) (8 * n + 1) (omega arith) (omega arith),
-      next-word t (8 * n + 1) (8 * n + 2) (omega arith) (omega arith),
-      next-word t (8 * n + 2) (8 * n + 3) (omega arith) (omega arith),
-      next-word t (8 * n + 3) (8 * n + 4) (omega arith) (omega arith),
-      next-word t (8 * n + 4) (8 * n + 5) (omega arith) (omega arith),
-      next-word t (8 * n + 5) (8 * n + 6) (omega arith) (omega arith),
-      next-word t (8 * n + 6) (8 * n + 7) (omega arith) (omega arith),
-      next-word t (8 * n + 7) (8 * (n + 1)) (omega arith) (omega arith),
+      next-word t (9 * n + 0) (9 * n + 1) (omega arith) (omega arith),
+      next-word t (9 * n + 1) (9 * n + 2) (omega arith) (omega arith),
+      next-word t (9 * n + 2) (9 * n + 3) (omega arith) (omega arith),
+      next-word t (9 * n + 3) (9 * n + 4) (omega arith) (omega arith),
+      next-word t (9 * n + 4) (9 * n + 5) (omega arith) (omega arith),
+      next-word t (9 * n + 5) (9 * n + 6) (omega arith) (omega arith),
+      next-word t (9 * n + 6) (9 * n + 7) (omega arith) (omega arith),
+      next-word t (9 * n + 7) (9 * n + 8) (omega arith) (omega arith),
+      next-word t (9 * n + 8) (9 * (n + 1)) (omega arith) (omega arith),
       s .kind,
       s .name,
       s .name-length,
@@ -105,62 +142,67 @@ drop-eight t n h e s =
       s .count,
       s .list-kind,
       s .end,
+      q,
     )
     refl
 
 -- Where records stand, the words are theirs.
-pub sits-words : (t : List ℕ) (n : ℕ) (f : Forest) → Sits t n f → flat n f ++ drop (8 * (n + size f)) t ≡ drop (8 * n) t
-unfolding Sits flat size
-sits-words t n none s = let z : n + 0 ≡ n = omega arith in rw z refl
-sits-words t n (node h inner later) s =
+pub sits-words : (t : List ℕ) (p n : ℕ) (f : Forest) → Sits t n f → Under t p n f → flat p n f ++ drop (9 * (n + size f)) t ≡ drop (9 * n) t
+unfolding Sits Under flat size
+sits-words t p n none s u = let z : n + 0 ≡ n = omega arith in rw z refl
+sits-words t p n (node h inner later) s u =
     let z : n + (1 + size inner + size later) ≡ n + 1 + size inner + size later = omega arith in
-    let rest = drop (8 * (n + 1 + size inner + size later)) t in
+    let rest = drop (9 * (n + 1 + size inner + size later)) t in
     rw z
-    (ap (λ (l : List ℕ). words h (n + 1 + size inner) ++ l)
-    (append-assoc (flat (n + 1) inner) (flat (n + 1 + size inner) later) rest
-    ∙ ap (λ (l : List ℕ). flat (n + 1) inner ++ l) (sits-words t (n + 1 + size inner) later (s .2))
-    ∙ sits-words t (n + 1) inner (s .1))
-    ∙ sym (drop-eight t n h (n + 1 + size inner) (s .0)))
+    (ap (λ (l : List ℕ). words h (n + 1 + size inner) p ++ l)
+    (append-assoc (flat n (n + 1) inner) (flat p (n + 1 + size inner) later) rest
+    ∙ ap (λ (l : List ℕ). flat n (n + 1) inner ++ l) (sits-words t p (n + 1 + size inner) later (s .2) (u .2))
+    ∙ sits-words t n (n + 1) inner (s .1) (u .1))
+    ∙ sym (drop-nine t n h (n + 1 + size inner) p (s .0) (u .0)))
 
 -- Where the words are those of a record, it stands there.
-stands : (t : List ℕ) (n : ℕ) (h : Head) (e : ℕ) (rest : List ℕ) → drop (8 * n) t ≡ words h e ++ rest → Stands t n h e
-stands t n h e rest p = record {
-  room = omega (arith, length-drop (8 * n) t, ap length p);
-  kind = at 0;
-  name = at 1;
-  name-length = at 2;
-  start = at 3;
-  size = at 4;
-  count = at 5;
-  list-kind = at 6;
-  end = at 7;
-}
+stands : (t : List ℕ) (n : ℕ) (h : Head) (e m : ℕ) (rest : List ℕ) → drop (9 * n) t ≡ words h e m ++ rest → Stands t n h e × (word t n 8 ≡ m)
+stands t n h e m rest p = (
+  record {
+    room = omega (arith, length-drop (9 * n) t, ap length p);
+    kind = at 0;
+    name = at 1;
+    name-length = at 2;
+    start = at 3;
+    size = at 4;
+    count = at 5;
+    list-kind = at 6;
+    end = at 7;
+  },
+  at 8,
+)
   where
-    at : (k : ℕ) → word t n k ≡ getD (words h e ++ rest) k 0
-    at k = sym (getD-drop (8 * n) t k 0) ∙ ap (λ (l : List ℕ). getD l k 0) p
+    at : (k : ℕ) → word t n k ≡ getD (words h e m ++ rest) k 0
+    at k = sym (getD-drop (9 * n) t k 0) ∙ ap (λ (l : List ℕ). getD l k 0) p
 
 -- Where the words are those of some records, they stand there.
-pub words-sit : (t : List ℕ) (n : ℕ) (f : Forest) (rest : List ℕ) → drop (8 * n) t ≡ flat n f ++ rest
-    → Sits t n f × (drop (8 * (n + size f)) t ≡ rest)
-unfolding Sits flat size
-words-sit t n none rest p = let z : n + 0 ≡ n = omega arith in (tt, rw z p)
-words-sit t n (node h inner later) rest p =
+pub words-sit : (t : List ℕ) (m n : ℕ) (f : Forest) (rest : List ℕ) → drop (9 * n) t ≡ flat m n f ++ rest
+    → Sits t n f × Under t m n f × (drop (9 * (n + size f)) t ≡ rest)
+unfolding Sits Under flat size
+words-sit t m n none rest p = let z : n + 0 ≡ n = omega arith in (tt, tt, rw z p)
+words-sit t m n (node h inner later) rest p =
     let z : n + (1 + size inner + size later) ≡ n + 1 + size inner + size later = omega arith in
-    let y : 8 * (n + 1) ≡ 8 * n + 8 = omega arith in
-    let a : List ℕ = flat (n + 1) inner in
-    let b : List ℕ = flat (n + 1 + size inner) later in
-    let q : drop (8 * n) t ≡ words h (n + 1 + size inner) ++ (a ++ (b ++ rest)) = p ∙ ap (λ (l : List ℕ). words h (n + 1 + size inner) ++ l) (append-assoc a b rest) in
-    let r : drop (8 * (n + 1)) t ≡ a ++ (b ++ rest) = rw y (sym (drop-drop 8 (8 * n) t) ∙ ap (drop 8) q) in
-    let i = words-sit t (n + 1) inner (b ++ rest) r in
-    let l = words-sit t (n + 1 + size inner) later rest (i .1) in
-    ((stands t n h (n + 1 + size inner) (a ++ (b ++ rest)) q, i .0, l .0), rw z (l .1))
+    let y : 9 * (n + 1) ≡ 9 * n + 9 = omega arith in
+    let a : List ℕ = flat n (n + 1) inner in
+    let b : List ℕ = flat m (n + 1 + size inner) later in
+    let q : drop (9 * n) t ≡ words h (n + 1 + size inner) m ++ (a ++ (b ++ rest)) = p ∙ ap (λ (l : List ℕ). words h (n + 1 + size inner) m ++ l) (append-assoc a b rest) in
+    let r : drop (9 * (n + 1)) t ≡ a ++ (b ++ rest) = rw y (sym (drop-drop 9 (9 * n) t) ∙ ap (drop 9) q) in
+    let i = words-sit t n (n + 1) inner (b ++ rest) r in
+    let l = words-sit t m (n + 1 + size inner) later rest (i .2) in
+    let s = stands t n h (n + 1 + size inner) m (a ++ (b ++ rest)) q in
+    ((s .0, i .0, l .0), (s .1, i .1, l .1), rw z (l .2))
 
 -- What was written stands there.
-pub wrote-sits : (t : List ℕ) (n : ℕ) (f : Forest) → 8 * n ≤ length t → Sits (wrote t n f) n f
+pub wrote-sits : (t : List ℕ) (p n : ℕ) (f : Forest) → 9 * n ≤ length t → Sits (wrote t p n f) n f
 unfolding wrote over
-wrote-sits t n f l =
-    let rest = drop (8 * n + length (flat n f)) t in
-    words-sit (wrote t n f) n f rest (drop-at (take (8 * n) t) (flat n f ++ rest) (8 * n) (length-take-le (8 * n) t l)) .0
+wrote-sits t p n f l =
+    let rest = drop (9 * n + length (flat p n f)) t in
+    words-sit (wrote t p n f) p n f rest (drop-at (take (9 * n) t) (flat p n f ++ rest) (9 * n) (length-take-le (9 * n) t l)) .0
 
 -- ---- there is one tree
 
@@ -187,26 +229,30 @@ same-forest t n (node h inner later) (node h′ inner′ later′) s r e =
     }) (i k) (l k)
 
 -- Words are those of one forest at most.
-pub flat-injective : (n : ℕ) (f g : Forest) → flat n f ≡ flat n g → f ≡ g
-flat-injective n f g e = same-forest t n f g (sits f refl) (sits g e) (omega (arith, flat-length n f, flat-length n g, ap length e))
+pub flat-injective : (p n : ℕ) (f g : Forest) → flat p n f ≡ flat p n g → f ≡ g
+flat-injective p n f g e = same-forest t n f g (sits f refl) (sits g e) (omega (arith, flat-length p n f, flat-length p n g, ap length e))
   where
     t : List ℕ
-    t = replicate (8 * n) 0 ++ flat n f
+    t = replicate (9 * n) 0 ++ flat p n f
 
-    sits : (k : Forest) → flat n f ≡ flat n k → Sits t n k
-    sits k p = words-sit t n k [] (drop-at (replicate (8 * n) 0) (flat n f) (8 * n) (length-replicate {A = ℕ} (8 * n) 0) ∙ p ∙ sym (append-nil (flat n k))) .0
+    sits : (k : Forest) → flat p n f ≡ flat p n k → Sits t n k
+    sits k q = words-sit t p n k [] (drop-at (replicate (9 * n) 0) (flat p n f) (9 * n) (length-replicate {A = ℕ} (9 * n) 0) ∙ q ∙ sym (append-nil (flat p n k))) .0
 
 -- ---- tables
 
 module _ (d : ℕ) (w : List ℕ) (t : IsTable d w) where
   -- The words of a table's tree stand in it from record 0 on.
   pub table-sits : Sits w 0 (node (t .head) (t .inner) none)
-  table-sits = words-sit w 0 (node (t .head) (t .inner) none) [] (t .these ∙ sym (append-nil (flat 0 (node (t .head) (t .inner) none)))) .0
+  table-sits = words-sit w 0 0 (node (t .head) (t .inner) none) [] (t .these ∙ sym (append-nil (flat 0 0 (node (t .head) (t .inner) none)))) .0
 
-  -- A table has eight words to a record.
-  pub table-length : length w ≡ 8 * (1 + size (t .inner))
+  -- Its ninth words name the parents.
+  pub table-under : Under w 0 0 (node (t .head) (t .inner) none)
+  table-under = words-sit w 0 0 (node (t .head) (t .inner) none) [] (t .these ∙ sym (append-nil (flat 0 0 (node (t .head) (t .inner) none)))) .1
+
+  -- A table has nine words to a record.
+  pub table-length : length w ≡ 9 * (1 + size (t .inner))
   unfolding size
-  table-length = omega (arith, ap length (t .these), flat-length 0 (node (t .head) (t .inner) none))
+  table-length = omega (arith, ap length (t .these), flat-length 0 0 (node (t .head) (t .inner) none))
 
   -- No more records than the limit, where the words are within theirs.
   pub table-records : Within d w → 1 + size (t .inner) ≤ recordLimit
@@ -215,7 +261,7 @@ module _ (d : ℕ) (w : List ℕ) (t : IsTable d w) where
 -- Words are those of one tree at most, whatever the document.
 pub one-tree : (d d′ : ℕ) (w : List ℕ) (s : IsTable d w) (t : IsTable d′ w) → (s .head ≡ t .head) × (s .inner ≡ t .inner)
 one-tree d d′ w s t =
-    let e : node (s .head) (s .inner) none ≡ node (t .head) (t .inner) none = flat-injective 0 (node (s .head) (s .inner) none) (node (t .head) (t .inner) none) (sym (s .these) ∙ t .these) in
+    let e : node (s .head) (s .inner) none ≡ node (t .head) (t .inner) none = flat-injective 0 0 (node (s .head) (s .inner) none) (node (t .head) (t .inner) none) (sym (s .these) ∙ t .these) in
     (cc, cc)
 
 -- ---- what rules 4 and 6 say of records side by side
@@ -288,36 +334,40 @@ pub record RecordAt (d : ℕ) (t : List ℕ) (n i : ℕ) : Type 0 where
   pub head : Head
   pub inner : Forest
   pub element : Bool
+  pub parent : ℕ
   pub sits : Sits t i (node head inner none)
+  pub under : Under t parent i (node head inner none)
   pub fair : Fair d element (node head inner none)
   pub within : i + 1 + size inner ≤ n
 
 -- Each number among those of fair records is a record's.
-pub record-in : (d : ℕ) (t : List ℕ) (to : ℕ) (l : Bool) (n : ℕ) (f : Forest) → Sits t n f → Fair d l f → n + size f ≤ to
+pub record-in : (d : ℕ) (t : List ℕ) (to : ℕ) (l : Bool) (p n : ℕ) (f : Forest) → Sits t n f → Under t p n f → Fair d l f → n + size f ≤ to
     → (i : ℕ) → n ≤ i → i < n + size f → RecordAt d t to i
 unfolding size
-record-in d t to l n none s f le i lo hi = absurd (omega arith)
-record-in d t to l n (node h inner later) s f le i lo hi =
-    go (record-in d t to (eqb (h .kind) 9) (n + 1) inner (sits-inner t n h inner later s) (fair-inner d l h inner later f))
-    (record-in d t to l (n + 1 + size inner) later (sits-later t n h inner later s) (fair-later d l h inner later f))
+record-in d t to l p n none s u f le i lo hi = absurd (omega arith)
+record-in d t to l p n (node h inner later) s u f le i lo hi =
+    go (record-in d t to (eqb (h .kind) 9) n (n + 1) inner (sits-inner t n h inner later s) (under-inner t p n h inner later u) (fair-inner d l h inner later f))
+    (record-in d t to l p (n + 1 + size inner) later (sits-later t n h inner later s) (under-later t p n h inner later u) (fair-later d l h inner later f))
     (ℕ-discrete n i) (decLt i (n + 1 + size inner))
   where
     go : (n + 1 + size inner ≤ to → (i : ℕ) → n + 1 ≤ i → i < n + 1 + size inner → RecordAt d t to i)
         → (n + 1 + size inner + size later ≤ to → (i : ℕ) → n + 1 + size inner ≤ i → i < n + 1 + size inner + size later → RecordAt d t to i)
         → Dec (n ≡ i) → Dec (i < n + 1 + size inner) → RecordAt d t to i
-    go below after (yes p) q = subst (λ (j : ℕ). RecordAt d t to j) p (record {
+    go below after (yes g) q = subst (λ (j : ℕ). RecordAt d t to j) g (record {
       head = h;
       inner = inner;
       element = l;
+      parent = p;
       sits = sits-alone t n h inner later s;
+      under = under-alone t p n h inner later u;
       fair = fair-alone d l h inner later f;
       within = omega arith;
     })
-    go below after (no p) (yes q) = below (omega arith) i (omega arith) q
-    go below after (no p) (no q) = after (omega arith) i (omega arith) (omega arith)
+    go below after (no g) (yes q) = below (omega arith) i (omega arith) q
+    go below after (no g) (no q) = after (omega arith) i (omega arith) (omega arith)
 
 -- Each number below a table's record count is a record's.
 pub record-at : (d : ℕ) (w : List ℕ) (t : IsTable d w) (i : ℕ) → i < 1 + size (t .inner) → RecordAt d w (1 + size (t .inner)) i
 unfolding size
 record-at d w t i l =
-    record-in d w (1 + size (t .inner)) false 0 (node (t .head) (t .inner) none) (table-sits d w t) (t .fair) (omega arith) i (omega arith) (omega arith)
+    record-in d w (1 + size (t .inner)) false 0 0 (node (t .head) (t .inner) none) (table-sits d w t) (table-under d w t) (t .fair) (omega arith) i (omega arith) (omega arith)

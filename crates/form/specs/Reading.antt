@@ -210,7 +210,7 @@ module _ (doc : List ℕ) where
 
 -- How many records a table of so many words has room for.
 unfoldable pub roomOf : ℕ → ℕ
-roomOf n = min (n / 8) recordLimit
+roomOf n = min (n / 9) recordLimit
 
 -- What a read answers: the bytes consumed and the number of records (rule 5).
 pub record Counts : Type 0 where
@@ -223,7 +223,7 @@ countsOf (no n p) = no n p
 
 -- The table after a read: the records from word 0 on and the rest as it was; after a refusal all zero.
 abbrev pub tableAfter : Out One → List ℕ → List ℕ
-tableAfter (got x) t = wrote t 0 (node (x .head) (x .inner) none)
+tableAfter (got x) t = wrote t 0 0 (node (x .head) (x .inner) none)
 tableAfter (no n p) t = replicate (length t) 0
 
 -- A read of doc into a table of words t.

@@ -10,9 +10,9 @@ use Rattle.form.specs.Spans.{part}
 use Rattle.form.specs.Table.{Head, Forest, none, node, size, word}
 use Rattle.form.specs.Paths.{Hop, named, item}
 
--- Record n of a table has a head's words, and ends at e.
+-- Record n of a table has a head's words, and ends at e. Its ninth word is `Under`'s.
 pub record Stands (t : List ℕ) (n : ℕ) (h : Head) (e : ℕ) : Type 0 where
-  pub room : 8 * n + 8 ≤ length t
+  pub room : 9 * n + 9 ≤ length t
   pub kind : word t n 0 ≡ h .kind
   pub name : word t n 1 ≡ h .name
   pub name-length : word t n 2 ≡ h .name-length
@@ -27,6 +27,11 @@ unfoldable pub Sits : List ℕ → ℕ → Forest → Type 0
 Sits t n none = Unit {0}
 Sits t n (node h inner later) =
     Stands t n h (n + 1 + size inner) × Sits t (n + 1) inner × Sits t (n + 1 + size inner) later
+
+-- Their ninth words name their parents (02, [7]): p for the records side by side from n on, and each of them for those in it.
+unfoldable pub Under : List ℕ → ℕ → ℕ → Forest → Type 0
+Under t p n none = Unit {0}
+Under t p n (node h inner later) = (word t n 8 ≡ p) × Under t n (n + 1) inner × Under t p (n + 1 + size inner) later
 
 -- The level from a record of kind k down to a child, which is number i in it: by name in a compound, by number in a list.
 unfoldable pub hopOf : ℕ → ℕ → List ℕ → Hop

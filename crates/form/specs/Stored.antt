@@ -48,9 +48,9 @@ linesOf w (suc n) t = lineOf (take w t) ++ linesOf w n (drop w t)
 
 -- ---- writing them
 
--- The lines of a table, whose records have eight words.
+-- The lines of a table, whose records have nine words.
 abbrev pub tableLines : List ℕ → List ℕ
-tableLines t = linesOf 8 (length t / 8) t
+tableLines t = linesOf 9 (length t / 9) t
 
 -- What writing the lines of a table gives, with so much room (13).
 unfoldable pub storing : List ℕ → ℕ → Out (List ℕ)
@@ -118,13 +118,13 @@ linesRead w room s = do
   guard (leb (length (linesIn s)) recordLimit) overLimit 0
   eachLine w room 1 (linesIn s)
 
--- The lines s read back into a table of words t, whose records have eight.
+-- The lines s read back into a table of words t, whose records have nine.
 abbrev pub readingLines : List ℕ → List ℕ → Out (List ℕ)
-readingLines s t = linesRead 8 (length t / 8) s
+readingLines s t = linesRead 9 (length t / 9) s
 
 -- What reading lines answers: the number of records.
 abbrev pub recordsOf : Out (List ℕ) → Out ℕ
-recordsOf (got ws) = got (length ws / 8)
+recordsOf (got ws) = got (length ws / 9)
 recordsOf (no n p) = no n p
 
 -- The table after that: the words read from 0 on and the rest as it was; after a refusal all zero.

@@ -1,4 +1,5 @@
--- Rule 6: the records of a document as a tree with spans, their words in file order, and the values that they stand for.
+-- Rule 6, with the ninth word of 02 [7]: the records of a document as a tree with spans, their words in file order, and the values that
+-- they stand for.
 -- Assumes nothing.
 use Prim.Native.Nat.{ℕ, zero, suc, _+_, _*_}
 use mathlib.Core.List.{List, [], _∷_, _++_}
@@ -11,7 +12,7 @@ use Rattle.form.specs.Numbers.{bigEndian, signedOf}
 use Rattle.form.specs.Spans.{part, over}
 use Rattle.form.specs.Tree.{Tag, Tags, Entries, byte, short, int, long, float, double, byteArray, string, list, compound, intArray, longArray, nil, more, ended, entry, Document}
 
--- A record's words but the last, which the number of records below it gives.
+-- A record's words but the last two, which its place in the tree gives.
 pub record Head : Type 0 where
   pub kind : ℕ
   pub name : ℕ
@@ -42,24 +43,25 @@ unfoldable pub _⊕_ : Forest → Forest → Forest
 none ⊕ g = g
 node h inner later ⊕ g = node h inner (later ⊕ g)
 
--- The words of one record, in rule 6's order. `end` is the number of the first record outside its subtree.
-abbrev pub words : Head → ℕ → List ℕ
-words h end =
-    h .kind ∷ h .name ∷ h .name-length ∷ h .start ∷ h .size ∷ h .count ∷ h .list-kind ∷ end ∷ []
+-- The words of one record, in rule 6's order. `end` is the number of the first record outside its subtree, `parent` that of the record
+-- that holds it.
+abbrev pub words : Head → ℕ → ℕ → List ℕ
+words h end parent =
+    h .kind ∷ h .name ∷ h .name-length ∷ h .start ∷ h .size ∷ h .count ∷ h .list-kind ∷ end ∷ parent ∷ []
 
 -- Word k of record n in a table.
 abbrev pub word : List ℕ → ℕ → ℕ → ℕ
-word t n k = getD t (8 * n + k) 0
+word t n k = getD t (9 * n + k) 0
 
--- The words of the records, the first of which has the number n.
-unfoldable pub flat : ℕ → Forest → List ℕ
-flat n none = []
-flat n (node h inner later) =
-    words h (n + 1 + size inner) ++ (flat (n + 1) inner ++ flat (n + 1 + size inner) later)
+-- The words of records side by side and of those in them: the first has the number n, and their parent is p. The root's own p is 0.
+unfoldable pub flat : ℕ → ℕ → Forest → List ℕ
+flat p n none = []
+flat p n (node h inner later) =
+    words h (n + 1 + size inner) p ++ (flat n (n + 1) inner ++ flat p (n + 1 + size inner) later)
 
--- The table with the records written from record n on.
-unfoldable pub wrote : List ℕ → ℕ → Forest → List ℕ
-wrote t n f = over t (8 * n) (flat n f)
+-- The table with the records written from record n on, whose parent is p.
+unfoldable pub wrote : List ℕ → ℕ → ℕ → Forest → List ℕ
+wrote t p n f = over t (9 * n) (flat p n f)
 
 -- How many bytes kinds 1 to 6 take, and an element of the arrays 7, 11 and 12 (rule 4).
 unfoldable pub widthOf : ℕ → ℕ

@@ -1,4 +1,4 @@
--- Rule 7: what it is for words to form a table.
+-- Rule 7: what it is for words to form a table, each with the right parent (02, [7]).
 -- Assumes nothing.
 use Prim.Native.Nat.{ℕ, _+_, _*_, _≤_}
 use mathlib.Core.Path.{_≡_}
@@ -49,15 +49,15 @@ Fair d l none = Unit {0}
 Fair d l (node h inner later) =
     NameIs d l h × (LeafIs d h inner ⊎ ContainerIs h inner) × Fair d (eqb (h .kind) 9) inner × Fair d l later
 
--- The words form a table: they are those of a compound's record and of the records in it.
+-- The words form a table: they are those of a compound's record, whose parent word is 0, and of the records in it.
 pub record IsTable (d : ℕ) (w : List ℕ) : Type 0 where
   pub head : Head
   pub inner : Forest
   pub compound : head .kind ≡ 10
   pub fair : Fair d false (node head inner none)
-  pub these : w ≡ flat 0 (node head inner none)
+  pub these : w ≡ flat 0 0 (node head inner none)
 
 -- The limits of a document and a table (refusal 9).
 pub record Within (d : ℕ) (w : List ℕ) : Type 0 where
   pub bytes : d ≤ documentLimit
-  pub words : length w ≤ 8 * recordLimit
+  pub words : length w ≤ 9 * recordLimit

@@ -18,12 +18,11 @@ use Rattle.form.proofs.Fields.{list-head-within, number-no, string-no, string-w
 use Rattle.form.proofs.Payloads.{payload-no, room-le, room-fits, inside-list, list-head-no}
 use Rattle.form.proofs.Table.{sets-over, width-le-size}
 use Rattle.form.proofs.Cut.{RootCut, root-cut, kept-of, not-both}
-use Rattle.table.specs.declared.Record.{Record}
-use Rattle.table.specs.Records.{recordWords, containerOf}
+use Rattle.gather.specs.declared.Label.{Label}
 use Rattle.gather.specs.declared.Piece.{Piece}
 use Rattle.gather.specs.declared.Side.{Side}
 use Rattle.gather.specs.Steps.{OnlyCut, IsCut, readIn, elementsIn, entriesIn, elementsKept, entriesKept, PayloadAsked, ElementsAsked}
-use Rattle.gather.specs.Steps.{EntriesAsked, HeldAsked, endOf, countOf, openOf, Shut, PieceIs, SideIs, HeldIs, KeptIn}
+use Rattle.gather.specs.Steps.{EntriesAsked, HeldAsked, endOf, countOf, openOf, Shut, PieceIs, SideIs, heldWords, HeldIs, KeptIn}
 use Rattle.gather.proofs.Only.{cut-only}
 use Rattle.gather.proofs.Parts.{only-room, only-inside, only-deep, only-entries, only-head, only-elements, positive, list-kind-some}
 use Rattle.gather.proofs.Containers.{shut-nothing, held-piece, no-list-at, compound-holds, list-holds}
@@ -36,20 +35,20 @@ pub line-put : (ls : List ℕ) (level n promised kept : ℕ) → 3 * level + 3 �
 line-put ls level n promised kept h = simp towards-suc (sets-over (n ∷ promised ∷ kept ∷ []) ls (3 * level) h)
 
 -- What `held` asks, where the side is known.
-pub asked-known : {t ls : List ℕ} {name len promised level n most : ℕ} {s s′ : Side} → s ≡ s′ → HeldAsked t name len promised level n s ls most
-    → HeldAsked t name len promised level n s′ ls most
+pub asked-known : {t ls : List ℕ} {name len promised level above n most : ℕ} {s s′ : Side} → s ≡ s′ → HeldAsked t name len promised level above n s ls most
+    → HeldAsked t name len promised level above n s′ ls most
 asked-known e h = rw e at h
 
-module _ (kind name len inner promised level n : ℕ) (t t′ ls : List ℕ) (most : ℕ) (s : Side) where
+module _ (kind name len inner promised level above n : ℕ) (t t′ ls : List ℕ) (most : ℕ) (s : Side) where
   -- A container's record, behind what is whole and behind what is cut.
-  pub held-whole : (at n′ count : ℕ) → s ≡ Side.Whole at n′ count → {r : Record} → r ≡ containerOf kind name len count inner n′
-      → t′ ≡ over t (8 * n) (recordWords r) → HeldIs kind name len inner promised level n t t′ ls ls most s (Piece.Whole at n′)
-  held-whole at n′ count e {r} f g = rw e (refl, rw f at g, refl)
+  pub held-whole : (at n′ count : ℕ) → s ≡ Side.Whole at n′ count → {inner′ : ℕ} → inner′ ≡ inner
+      → t′ ≡ over t (9 * n) (heldWords kind name len count inner′ n′ above) → HeldIs kind name len inner promised level above n t t′ ls ls most s (Piece.Whole at n′)
+  held-whole at n′ count e f g = rw e (refl, rw f at g, refl)
 
-  pub held-cut : (n′ count m : ℕ) → s ≡ Side.Cut n′ count m → {r : Record} {first : ℕ} {ls′ : List ℕ} → r ≡ containerOf kind name len count first n′
-      → first ≡ pick (eqb count 0) 0 inner → t′ ≡ over t (8 * n) (recordWords r) → ls′ ≡ pick (ltb (level + m) most) (over ls (3 * level) (n ∷ promised ∷ count ∷ [])) ls
-      → HeldIs kind name len inner promised level n t t′ ls ls′ most s (Piece.Cut n′ (m + 1))
-  held-cut n′ count m e {r} {first} f i g l = rw e (refl, rw (f, i) at g, l)
+  pub held-cut : (n′ count m : ℕ) → s ≡ Side.Cut n′ count m → {first : ℕ} {ls′ : List ℕ}
+      → first ≡ pick (eqb count 0) 0 inner → t′ ≡ over t (9 * n) (heldWords kind name len count first n′ above) → ls′ ≡ pick (ltb (level + m) most) (over ls (3 * level) (n ∷ promised ∷ count ∷ [])) ls
+      → HeldIs kind name len inner promised level above n t t′ ls ls′ most s (Piece.Cut n′ (m + 1))
+  held-cut n′ count m e i g l = rw e (refl, rw i at g, l)
 
 -- The list of lines behind a cut container: with its line, if all lines are `most` at the most, or as it was.
 module _ (ls ls′ : List ℕ) (level n promised count m most : ℕ) where
@@ -73,14 +72,14 @@ picked-le false inner = omega arith
 
 -- ---- a payload, from what is asked of it
 
-module _ {doc t ls : List ℕ} {depth kind name len at n most : ℕ} (a : PayloadAsked doc t depth kind name len at n ls most) where
+module _ {doc t ls : List ℕ} {depth kind name len at above n most : ℕ} (a : PayloadAsked doc t depth kind name len at above n ls most) where
   abbrev room : ℕ
   room = roomOf (length t)
 
   pub asked-room : n < room
   asked-room = only-room doc room (insideAt doc room depth) kind name len at n (a .only)
 
-  pub asked-fits : 8 * n + 8 ≤ length t
+  pub asked-fits : 9 * n + 9 ≤ length t
   asked-fits = omega (arith, asked-room, a .named .ready)
 
   module _ (c : holds kind ≡ true) where
@@ -90,25 +89,25 @@ module _ {doc t ls : List ℕ} {depth kind name len at n most : ℕ} (a : Payloa
     pub asked-deep : depth ≡ 0 → ⊥
     asked-deep = only-deep doc room depth kind at (n + 1) inside
 
-    pub entries-asked : kind ≡ 10 → EntriesAsked doc t (depth - 1) at (n + 1) ls most
+    pub entries-asked : kind ≡ 10 → EntriesAsked doc t (depth - 1) at n ls most
     entries-asked e =
         let r = a .named .ready in
         let d = positive depth asked-deep in
         record {
-          ready = record { doc-le = r .doc-le; at-le = r .at-le; cap-le = r .cap-le; fits = r .fits; n-le = omega (arith, asked-room) };
+          ready = record { doc-le = r .doc-le; at-le = r .at-le; cap-le = r .cap-le; fits = r .fits; n-le = omega (arith, asked-room); above-le = omega arith };
           deep = omega (arith, a .deep);
           only = only-entries doc room depth kind at (n + 1) inside (λ z. omega arith);
           lines-fit = a .lines-fit;
         }
 
     module _ (e : kind ≡ 9) where
-      pub elements-asked : {h : ListHead} → listHeadAt doc at ≡ got h → ElementsAsked doc t (depth - 1) (h .count) (h .kind) (at + 5) (n + 1) ls most
+      pub elements-asked : {h : ListHead} → listHeadAt doc at ≡ got h → ElementsAsked doc t (depth - 1) (h .count) (h .kind) (at + 5) n ls most
       elements-asked f =
           let r = a .named .ready in
           let d = positive depth asked-deep in
           let w = list-head-within doc at f in
           record {
-            ready = record { doc-le = r .doc-le; at-le = w .0; cap-le = r .cap-le; fits = r .fits; n-le = omega (arith, asked-room) };
+            ready = record { doc-le = r .doc-le; at-le = w .0; cap-le = r .cap-le; fits = r .fits; n-le = omega (arith, asked-room); above-le = omega arith };
             deep = omega (arith, a .deep);
             kind-le = w .1;
             kind-some = list-kind-some doc at f;
@@ -118,7 +117,7 @@ module _ {doc t ls : List ℕ} {depth kind name len at n most : ℕ} (a : Payloa
 
       -- A list whose head is cut leaves nothing.
       pub list-head-piece : (level : ℕ) {m p : ℕ} → listHeadAt doc at ≡ no m p → level ≤ depthLimit
-          → IsCut (readIn doc (length t) depth kind name len at n) × Shut room (begunAt doc room depth kind name len at n) n 0 level n t t ls ls most
+          → IsCut (readIn doc (length t) depth kind name len at n) × Shut room (begunAt doc room depth kind name len at n) n 0 level above n t t ls ls most
       list-head-piece level {m} {p} f l =
           let one : m ≡ 1 = rw f at (only-head doc room depth kind at (n + 1) inside e) in (
             (
@@ -126,21 +125,22 @@ module _ {doc t ls : List ℕ} {depth kind name len at n most : ℕ} (a : Payloa
               payload-no doc room (insideAt doc room depth) kind name len at n asked-room c
                   (inside-list doc room kind at (n + 1) depth asked-deep e ∙ list-head-no doc _ at (n + 1) (f ∙ ap (λ q. no q p) one)),
             ),
-            shut-nothing room level n t ls most (no-list-at doc room kind name len at n depth e f) (omega (arith, asked-room)) l,
+            shut-nothing room level above n t ls most (no-list-at doc room kind name len at n depth e f) (omega (arith, asked-room)) l,
           )
 
-module _ (doc : List ℕ) (room : ℕ) (o : Out Run) (k : Kept) (level from n : ℕ) (t t′ ls ls′ : List ℕ) (most : ℕ) where
+module _ (doc : List ℕ) (room : ℕ) (o : Out Run) (k : Kept) (level from above n : ℕ) (t t′ ls ls′ : List ℕ) (most : ℕ) where
   -- The numbers of what was gathered side by side are small.
-  pub side-small : (s : Side) → SideIs doc room o k level from n t t′ ls ls′ most s → (endOf s ≤ room) × (countOf s ≤ room) × (openOf s ≤ depthLimit)
+  pub side-small : (s : Side) → SideIs doc room o k level from above n t t′ ls ls′ most s → (endOf s ≤ room) × (countOf s ≤ room) × (openOf s ≤ depthLimit)
   side-small (Side.Whole at n′ count) (g, e) = (g .n-le, omega (arith, g .n-le, g .n-is, g .count-is, width-le-size (g .x .forest)), omega arith)
   side-small (Side.Cut n′ count m) (c, g, e) = (g .n-le, omega (arith, g .n-le, g .n-is, e, width-le-size (k .forest)), omega (arith, g .deep))
 
 -- What `held` asks, behind what was gathered in a container.
-pub held-asked : {doc t ls : List ℕ} {depth kind name len at n most : ℕ} (a : PayloadAsked doc t depth kind name len at n ls most) {t₁ ls₁ : List ℕ} {s : Side}
+pub held-asked : {doc t ls : List ℕ} {depth kind name len at above n most : ℕ} (a : PayloadAsked doc t depth kind name len at above n ls most) {t₁ ls₁ : List ℕ} {s : Side}
     → (endOf s ≤ roomOf (length t)) × (countOf s ≤ roomOf (length t)) × (openOf s ≤ depthLimit)
-    → length t₁ ≡ length t → length ls₁ ≡ length ls → {promised level : ℕ} → promised < 2 ^ 32 → level ≤ depthLimit → HeldAsked t₁ name len promised level n s ls₁ most
+    → length t₁ ≡ length t → length ls₁ ≡ length ls → {promised level : ℕ} → promised < 2 ^ 32 → level ≤ depthLimit → HeldAsked t₁ name len promised level above n s ls₁ most
 held-asked a w e f p l = record {
   fits = omega (arith, asked-fits a);
+  above-le = a .named .ready .above-le;
   n-lt = omega (arith, asked-room a, a .named .ready);
   name-lt = a .named .name-lt;
   len-lt = a .named .len-lt;
@@ -152,7 +152,7 @@ held-asked a w e f p l = record {
   lines-fit = omega (arith, a .lines-fit, f);
 }
 
-module _ {doc t ls : List ℕ} {depth kind name len at n most : ℕ} (a : PayloadAsked doc t depth kind name len at n ls most) (c : holds kind ≡ true)
+module _ {doc t ls : List ℕ} {depth kind name len at above n most : ℕ} (a : PayloadAsked doc t depth kind name len at above n ls most) (c : holds kind ≡ true)
     (t₁ t₂ ls₁ ls₂ : List ℕ) (s : Side) (r : Piece) where
   abbrev size-of : ℕ
   size-of = length t
@@ -162,22 +162,22 @@ module _ {doc t ls : List ℕ} {depth kind name len at n most : ℕ} (a : Payloa
 
   -- A compound, of its entries and its own record.
   pub compound-piece : kind ≡ 10
-      → SideIs doc (roomOf size-of) (entriesIn doc size-of (depth - 1) at (n + 1)) (entriesKept doc size-of (depth - 1) at (n + 1)) (512 - (depth - 1)) at (n + 1) t t₁ ls ls₁ most s
-      → HeldIs kind name len 0 0 (512 - depth) n t₁ t₂ ls₁ ls₂ most s r
-      → PieceIs doc (roomOf size-of) (readIn doc size-of depth kind name len at n) (begunAt doc (roomOf size-of) depth kind name len at n) (512 - depth) at n t t₂ ls ls₂ most r
+      → SideIs doc (roomOf size-of) (entriesIn doc size-of (depth - 1) at (n + 1)) (entriesKept doc size-of (depth - 1) at (n + 1)) (512 - (depth - 1)) at n (n + 1) t t₁ ls ls₁ most s
+      → HeldIs kind name len 0 0 (512 - depth) above n t₁ t₂ ls₁ ls₂ most s r
+      → PieceIs doc (roomOf size-of) (readIn doc size-of depth kind name len at n) (begunAt doc (roomOf size-of) depth kind name len at n) (512 - depth) at above n t t₂ ls ls₂ most r
   compound-piece e f g =
       held-piece doc (roomOf size-of) (compound-holds doc (roomOf size-of) depth kind name len at n (asked-deep a c) (asked-room a) e)
-      (512 - depth) (512 - (depth - 1)) at at t t₁ t₂ ls ls₁ ls₂ most s r f g level-next (omega arith) (asked-fits a) (a .lines-fit)
+      (512 - depth) (512 - (depth - 1)) at at above t t₁ t₂ ls ls₁ ls₂ most s r f g level-next (omega arith) (asked-fits a) (a .lines-fit)
 
   -- A list, of its head, its elements and its own record.
   pub list-piece : kind ≡ 9 → {inner count : ℕ} → listHeadAt doc at ≡ got (record { kind = inner; count = count })
       → SideIs doc (roomOf size-of) (elementsIn doc size-of (depth - 1) count inner (at + 5) (n + 1)) (elementsKept doc size-of (depth - 1) count inner (at + 5) (n + 1))
-      (512 - (depth - 1)) (at + 5) (n + 1) t t₁ ls ls₁ most s
-      → HeldIs kind name len inner count (512 - depth) n t₁ t₂ ls₁ ls₂ most s r
-      → PieceIs doc (roomOf size-of) (readIn doc size-of depth kind name len at n) (begunAt doc (roomOf size-of) depth kind name len at n) (512 - depth) at n t t₂ ls ls₂ most r
+      (512 - (depth - 1)) (at + 5) n (n + 1) t t₁ ls ls₁ most s
+      → HeldIs kind name len inner count (512 - depth) above n t₁ t₂ ls₁ ls₂ most s r
+      → PieceIs doc (roomOf size-of) (readIn doc size-of depth kind name len at n) (begunAt doc (roomOf size-of) depth kind name len at n) (512 - depth) at above n t t₂ ls ls₂ most r
   list-piece e h f g =
       held-piece doc (roomOf size-of) (list-holds doc (roomOf size-of) depth kind name len at n (asked-deep a c) (asked-room a) e h)
-      (512 - depth) (512 - (depth - 1)) at (at + 5) t t₁ t₂ ls ls₁ ls₂ most s r f g level-next (omega arith) (asked-fits a) (a .lines-fit)
+      (512 - depth) (512 - (depth - 1)) at (at + 5) above t t₁ t₂ ls ls₁ ls₂ most s r f g level-next (omega arith) (asked-fits a) (a .lines-fit)
 
 -- ---- the document
 
@@ -190,13 +190,13 @@ module _ (doc t : List ℕ) (c : IsCut (reading doc t)) {s : Span} (e : stringAt
   root = root-cut doc (roomOf (length t)) e (c .1)
 
   -- What is asked of the root's payload.
-  pub root-asked : (ls : List ℕ) (most : ℕ) → 3 * most ≤ length ls → PayloadAsked doc t 512 10 (s .start) (s .size) (s .next) 0 ls most
+  pub root-asked : (ls : List ℕ) (most : ℕ) → 3 * most ≤ length ls → PayloadAsked doc t 512 10 (s .start) (s .size) (s .next) 0 0 ls most
   root-asked ls most h =
       let w = string-within doc 1 e in
       let small = root .small in
       record {
         named = record {
-          ready = record { doc-le = small; at-le = w .to; cap-le = room-le (length t); fits = room-fits (length t); n-le = omega arith };
+          ready = record { doc-le = small; at-le = w .to; cap-le = room-le (length t); fits = room-fits (length t); n-le = omega arith; above-le = omega arith };
           kind-le = omega arith;
           name-lt = omega (arith, w);
           len-lt = omega (arith, w);
@@ -206,12 +206,12 @@ module _ (doc t : List ℕ) (c : IsCut (reading doc t)) {s : Span} (e : stringAt
         lines-fit = h;
       }
 
-  module _ (t′ ls ls′ : List ℕ) (most : ℕ) (r : Piece)
-      (g : PieceIs doc (roomOf (length t)) (readIn doc (length t) 512 10 (s .start) (s .size) (s .next) 0)
-      (begunAt doc (roomOf (length t)) 512 10 (s .start) (s .size) (s .next) 0) 0 (s .next) 0 t t′ ls ls′ most r) where
+  module _ (t′ ls ls′ : List ℕ) (most : ℕ) (r : Piece) {label : Label} (known : label ≡ record { name = s .start; len = s .size; above = 0 })
+      (g : PieceIs doc (roomOf (length t)) (readIn doc (length t) 512 10 (label .name) (label .len) (s .next) 0)
+      (begunAt doc (roomOf (length t)) 512 10 (label .name) (label .len) (s .next) 0) 0 (s .next) (label .above) 0 t t′ ls ls′ most r) where
     -- It is not whole.
     pub root-whole : {at n : ℕ} → r ≡ Piece.Whole at n → ⊥
-    root-whole f = not-both (rw f at g .0 .is) (root .payload)
+    root-whole f = not-both (rw (f, known) at g .0 .is) (root .payload)
 
     -- What it leaves is what is kept of the document.
     pub root-kept : {n m : ℕ} → r ≡ Piece.Cut n m → KeptIn doc t t′ ls ls′ most n m
@@ -227,5 +227,5 @@ module _ (doc t : List ℕ) (c : IsCut (reading doc t)) {s : Span} (e : stringAt
       small = omega (arith, shut .deep);
     }
       where
-        shut : Shut (roomOf (length t)) (begunAt doc (roomOf (length t)) 512 10 (s .start) (s .size) (s .next) 0) n m 0 0 t t′ ls ls′ most
-        shut = rw f at g .1
+        shut : Shut (roomOf (length t)) (begunAt doc (roomOf (length t)) 512 10 (s .start) (s .size) (s .next) 0) n m 0 0 0 t t′ ls ls′ most
+        shut = rw (f, known) at g .1

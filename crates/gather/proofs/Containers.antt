@@ -31,23 +31,23 @@ use Rattle.gather.proofs.Parts.{only-room}
 -- ---- a leaf
 
 -- Nothing is kept and nothing was written.
-pub shut-nothing : (room level n : ℕ) (t ls : List ℕ) (most : ℕ) {k : Kept} → k ≡ nothing → n ≤ room → level ≤ depthLimit → Shut room k n 0 level n t t ls ls most
+pub shut-nothing : (room level above n : ℕ) (t ls : List ℕ) (most : ℕ) {k : Kept} → k ≡ nothing → n ≤ room → level ≤ depthLimit → Shut room k n 0 level above n t t ls ls most
 unfolding lineWords
-shut-nothing room level n t ls most e l d = rw e (record {
+shut-nothing room level above n t ls most e l d = rw e (record {
   n-is = omega (arith, size-none);
   many = refl;
-  table = sym (wrote-none t n);
+  table = sym (wrote-none t above n);
   listed = λ f. sym (over-none ls (3 * level));
   unlisted = λ f. refl;
   n-le = l;
   deep = omega arith;
 })
 
-module _ (doc : List ℕ) (room depth kind name len at n level : ℕ) (t t′ ls : List ℕ) (most : ℕ) where
+module _ (doc : List ℕ) (room depth kind name len at above n level : ℕ) (t t′ ls : List ℕ) (most : ℕ) where
   -- A leaf is kept whole or not at all.
-  pub leaf-piece : (r : Piece) → LeafIs doc room (leafOne doc kind name len at) at n t t′ r → holds kind ≡ false
+  pub leaf-piece : (r : Piece) → LeafIs doc room (leafOne doc kind name len at) at above n t t′ r → holds kind ≡ false
       → OnlyCut (payloadBy doc room (insideAt doc room depth) kind name len at n) → level ≤ depthLimit
-      → PieceIs doc room (payloadBy doc room (insideAt doc room depth) kind name len at n) (begunAt doc room depth kind name len at n) level at n t t′ ls ls most r
+      → PieceIs doc room (payloadBy doc room (insideAt doc room depth) kind name len at n) (begunAt doc room depth kind name len at n) level at above n t t′ ls ls most r
   leaf-piece (Piece.Whole at′ n′) s e h d =
       let is = payload-leaf doc room (insideAt doc room depth) kind name len at n (only-room doc room (insideAt doc room depth) kind name len at n h) e in
       (rw is s, refl)
@@ -57,7 +57,7 @@ module _ (doc : List ℕ) (room depth kind name len at n level : ℕ) (t t′ ls
       let f = s .0 .2 in
       let one : s .0 .0 ≡ 1 = rw (is ∙ f) at h in (
         (s .0 .1, is ∙ f ∙ ap (λ q. no q (s .0 .1)) one),
-        rw (s .1, s .2, s .3) (shut-nothing room level n t ls most (begun-leaf doc room depth kind name len at n e) (omega arith) d),
+        rw (s .1, s .2, s .3) (shut-nothing room level above n t ls most (begun-leaf doc room depth kind name len at n e) (omega arith) d),
       )
 
 -- ---- a container, closed behind what was gathered in it
@@ -86,18 +86,18 @@ pub record HoldsIn (o : Out Run) (k : Kept) (kind name len inner promised n : �
   pub first : pick (eqb kind 9) (firstKind (k .forest)) 0 ≡ pick (eqb (width (k .forest)) 0) 0 inner
 
 module _ (doc : List ℕ) (room : ℕ) {o : Out Run} {k : Kept} {kind name len inner promised n : ℕ} {q : Out One} {b : Kept} (w : HoldsIn o k kind name len inner promised n q b)
-    (level level′ at from : ℕ) (t t₁ t₂ ls ls₁ ls₂ : List ℕ) (most : ℕ) where
+    (level level′ at from above : ℕ) (t t₁ t₂ ls ls₁ ls₂ : List ℕ) (most : ℕ) where
   -- Such a container, closed behind what was gathered in it.
-  pub held-piece : (s : Side) (r : Piece) → SideIs doc room o k level′ from (n + 1) t t₁ ls ls₁ most s → HeldIs kind name len inner promised level n t₁ t₂ ls₁ ls₂ most s r
-      → level′ ≡ level + 1 → at ≤ from → 8 * n + 8 ≤ length t → 3 * most ≤ length ls → PieceIs doc room q b level at n t t₂ ls ls₂ most r
+  pub held-piece : (s : Side) (r : Piece) → SideIs doc room o k level′ from n (n + 1) t t₁ ls ls₁ most s → HeldIs kind name len inner promised level above n t₁ t₂ ls₁ ls₂ most s r
+      → level′ ≡ level + 1 → at ≤ from → 9 * n + 9 ≤ length t → 3 * most ≤ length ls → PieceIs doc room q b level at above n t t₂ ls ls₂ most r
   held-piece (Side.Whole at′ n′ count) r (g, e) (is, f, u) d a l z =
       let x = heldOne kind name len (record { forest = g .x .forest; count = width (g .x .forest); kind = inner; next = g .x .next }) in
-      let next : Next doc room q at′ n′ at n t t₂ = record {
+      let next : Next doc room q at′ n′ at above n t t₂ = record {
         x = x;
         is = w .whole (g .x) (g .is);
         at-is = g .at-is;
         n-is = g .n-is;
-        table = f ∙ rw (g .table, g .count-is, g .n-is) (wrote-head t n (x .head) (g .x .forest) l);
+        table = f ∙ rw (g .table, g .count-is, g .n-is) (wrote-head t above n (x .head) (g .x .forest) l);
         on = omega (arith, g .on);
         at-le = g .at-le;
         n-le = g .n-le;
@@ -105,10 +105,10 @@ module _ (doc : List ℕ) (room : ℕ) {o : Out Run} {k : Kept} {kind name len i
       rw is (next, u ∙ e)
   held-piece (Side.Cut n′ count m) r ((p, c), g, e) (is, f, u) d a l z =
       let h = openHead kind name len (k .forest) in
-      let shut : Shut room (opened kind name len n promised k) n′ (m + 1) level n t t₂ ls ls₂ most = record {
+      let shut : Shut room (opened kind name len n promised k) n′ (m + 1) level above n t t₂ ls ls₂ most = record {
         n-is = omega (arith, g .n-is, size-one h (k .forest));
         many = omega (arith, g .many);
-        table = f ∙ rw (e, ← w .first, g .table, g .n-is) (wrote-head t n h (k .forest) l);
+        table = f ∙ rw (e, ← w .first, g .table, g .n-is) (wrote-head t above n h (k .forest) l);
         listed = λ y. line-before ls ls₁ ls₂ level n promised (width (k .forest)) m most (rw e at u) (k .lines) (g .many) z y (rw d at (g .listed));
         unlisted = λ y. line-none ls ls₁ ls₂ level n promised (width (k .forest)) m most (rw e at u) y (rw d at (g .unlisted));
         n-le = g .n-le;

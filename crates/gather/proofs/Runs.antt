@@ -20,6 +20,7 @@ use Rattle.form.proofs.Cut.{kept-element, begun-element, no-element, no-entry, 
 use Rattle.form.proofs.Fields.{bytes-no, number-no, string-no, array-no, leaf-fixed, leaf-string, leaf-array, list-head-end, entry-end}
 use Rattle.form.proofs.Payloads.{leaf-one-no, payload-leaf, payload-no, inside-deep, inside-list, inside-compound, compound-no, list-head-no, room-le, room-fits}
 use Rattle.reader.specs.Steps.{Next}
+use Rattle.gather.specs.declared.Label.{Label}
 use Rattle.gather.specs.declared.Piece.{Piece}
 use Rattle.gather.specs.declared.Side.{Side}
 use Rattle.gather.specs.Steps.{OnlyCut, IsCut, readIn, PayloadAsked, PieceIs, SideIs, Shut}
@@ -77,22 +78,22 @@ begun-width doc room (suc depth) kind name len at n = go (eqb kind 9) (eqb kind 
 
 -- ---- how far a loop has come
 
--- The records acc were read and written from record n₀ on, done of them side by side; `left` is read of what is left and `rest` kept of it, and
+-- The records acc were read and written from record n₀ on, in record `above`, done of them side by side; `left` is read of what is left and `rest` kept of it, and
 -- no line is written yet.
-pub record Gathering (all left : Out Run) (k rest : Kept) (acc : Forest) (t₀ t ls₀ ls : List ℕ) (n₀ n done : ℕ) : Type 0 where
-  pub sofar : Sofar all left acc t₀ t n₀ n done
+pub record Gathering (all left : Out Run) (k rest : Kept) (acc : Forest) (t₀ t ls₀ ls : List ℕ) (above n₀ n done : ℕ) : Type 0 where
+  pub sofar : Sofar all left acc t₀ t above n₀ n done
   pub kept : k ≡ prefixed acc rest
   pub listed : ls ≡ ls₀
 
-pub gathering-start : (all : Out Run) (k : Kept) (t ls : List ℕ) (n : ℕ) {done : ℕ} → done ≡ 0 → Gathering all all k k none t t ls ls n n done
-gathering-start all k t ls n d = record { sofar = sofar-start all t n d; kept = prefixed-none k; listed = refl }
+pub gathering-start : (all : Out Run) (k : Kept) (t ls : List ℕ) (above n : ℕ) {done : ℕ} → done ≡ 0 → Gathering all all k k none t t ls ls above n n done
+gathering-start all k t ls above n d = record { sofar = sofar-start all t above n d; kept = prefixed-none k; listed = refl }
 
 only-after : (f : Forest) (o : Out Run) → OnlyCut (after f o) → OnlyCut o
 only-after f (got r) h = tt
 only-after f (no m p) h = h
 
-module _ {all left : Out Run} {k rest : Kept} {acc : Forest} {t₀ t ls₀ ls : List ℕ} {n₀ n done : ℕ}
-    (g : Gathering all left k rest acc t₀ t ls₀ ls n₀ n done) where
+module _ {all left : Out Run} {k rest : Kept} {acc : Forest} {t₀ t ls₀ ls : List ℕ} {above n₀ n done : ℕ}
+    (g : Gathering all left k rest acc t₀ t ls₀ ls above n₀ n done) where
   -- What is left is accepted or refused with 1 where the whole is.
   pub only-left : OnlyCut all → OnlyCut left
   only-left h = only-after acc left (rw (g .sofar .is) at h)
@@ -102,8 +103,8 @@ module _ {all left : Out Run} {k rest : Kept} {acc : Forest} {t₀ t ls₀ ls : 
   done-small cap h = omega (arith, g .sofar .n-is, g .sofar .done-is, width-le-size acc, h)
 
   pub gathering-next : (x : One) {left′ : Out Run} {rest′ : Kept} {t′ ls′ : List ℕ} {n′ done′ : ℕ} → left ≡ then x left′ → rest ≡ whole x rest′
-      → t′ ≡ wrote t n (node (x .head) (x .inner) none) → ls′ ≡ ls → n′ ≡ n + 1 + size (x .inner) → done′ ≡ done + 1 → 8 * n ≤ length t₀
-      → Gathering all left′ k rest′ (acc ⊕ node (x .head) (x .inner) none) t₀ t′ ls₀ ls′ n₀ n′ done′
+      → t′ ≡ wrote t above n (node (x .head) (x .inner) none) → ls′ ≡ ls → n′ ≡ n + 1 + size (x .inner) → done′ ≡ done + 1 → 9 * n ≤ length t₀
+      → Gathering all left′ k rest′ (acc ⊕ node (x .head) (x .inner) none) t₀ t′ ls₀ ls′ above n₀ n′ done′
   gathering-next x {rest′} e f w l i d h = record {
     sofar = sofar-next (g .sofar) x e w i d h;
     kept = g .kept ∙ ap (prefixed acc) f ∙ prefixed-whole acc x rest′;
@@ -113,7 +114,7 @@ module _ {all left : Out Run} {k rest : Kept} {acc : Forest} {t₀ t ls₀ ls : 
   -- Everything is read.
   pub gathering-end : (doc : List ℕ) (room level at most at′ count : ℕ) → left ≡ got (record { forest = none; next = at′ })
       → count ≡ done → at ≤ at′ → at′ ≤ length doc → n ≤ room
-      → SideIs doc room all k level at n₀ t₀ t ls₀ ls most (Side.Whole at′ n count)
+      → SideIs doc room all k level at above n₀ t₀ t ls₀ ls most (Side.Whole at′ n count)
   gathering-end doc room level at most at′ count e c a b h = (
     record {
       x = record { forest = acc; next = at′ };
@@ -131,7 +132,7 @@ module _ {all left : Out Run} {k rest : Kept} {acc : Forest} {t₀ t ls₀ ls : 
 
   -- The data ends before the next record.
   pub gathering-none : (doc : List ℕ) (room level at most p : ℕ) → left ≡ no dataEnds p → rest ≡ nothing → n ≤ room → level ≤ depthLimit
-      → SideIs doc room all k level at n₀ t₀ t ls₀ ls most (Side.Cut n done 0)
+      → SideIs doc room all k level at above n₀ t₀ t ls₀ ls most (Side.Cut n done 0)
   unfolding lineWords
   gathering-none doc room level at most p e f h d =
       let s = g .sofar in
@@ -142,7 +143,7 @@ module _ {all left : Out Run} {k rest : Kept} {acc : Forest} {t₀ t ls₀ ls : 
         record {
           n-is = s .n-is ∙ ap (λ y. n₀ + size y) forest-is;
           many = sym (ap length lines-are);
-          table = s .table ∙ ap (wrote t₀ n₀) forest-is;
+          table = s .table ∙ ap (wrote t₀ above n₀) forest-is;
           listed = λ l. g .listed ∙ sym (over-none ls₀ (3 * level)) ∙ sym (ap (λ y. over ls₀ (3 * level) (lineWords y)) lines-are);
           unlisted = λ l. g .listed;
           n-le = h;
@@ -152,9 +153,9 @@ module _ {all left : Out Run} {k rest : Kept} {acc : Forest} {t₀ t ls₀ ls : 
       )
 
   -- The data ends in the next record's payload, of which b is kept.
-  pub gathering-open : (doc : List ℕ) (room level at most : ℕ) {b : Kept} {n′ m count : ℕ} {t′ ls′ : List ℕ} → IsCut left → rest ≡ b → Shut room b n′ m level n t t′ ls ls′ most
-      → Single b → count ≡ pick (eqb m 0) done (done + 1) → 8 * n ≤ length t₀
-      → SideIs doc room all k level at n₀ t₀ t′ ls₀ ls′ most (Side.Cut n′ count m)
+  pub gathering-open : (doc : List ℕ) (room level at most : ℕ) {b : Kept} {n′ m count : ℕ} {t′ ls′ : List ℕ} → IsCut left → rest ≡ b → Shut room b n′ m level above n t t′ ls ls′ most
+      → Single b → count ≡ pick (eqb m 0) done (done + 1) → 9 * n ≤ length t₀
+      → SideIs doc room all k level at above n₀ t₀ t′ ls₀ ls′ most (Side.Cut n′ count m)
   gathering-open doc room level at most {b} {n′} {m} {count} {t′} {ls′} e f s w c h =
       let o = g .sofar in
       let is : k ≡ prefixed acc b = g .kept ∙ ap (prefixed acc) f in
@@ -164,7 +165,7 @@ module _ {all left : Out Run} {k rest : Kept} {acc : Forest} {t₀ t ls₀ ls : 
         record {
           n-is = omega (arith, s .n-is, o .n-is, size-append acc (b .forest), ap size forest-is);
           many = s .many ∙ ap length lines-are;
-          table = s .table ∙ rw (o .table, o .n-is) (wrote-next t₀ n₀ acc (b .forest) (rw (← o .n-is) h)) ∙ ap (wrote t₀ n₀) forest-is;
+          table = s .table ∙ rw (o .table, o .n-is) (wrote-next t₀ above n₀ acc (b .forest) (rw (← o .n-is) h)) ∙ ap (wrote t₀ above n₀) forest-is;
           listed = λ l. s .listed l ∙ ap (λ y. over y (3 * level) (lineWords (b .lines))) (g .listed) ∙ ap (λ y. over ls₀ (3 * level) (lineWords y)) lines-are;
           unlisted = λ l. s .unlisted l ∙ g .listed;
           n-le = s .n-le;
@@ -298,12 +299,12 @@ module _ (doc : List ℕ) (read : Reader) where
 -- ---- a payload, where the table is as long as it was
 
 -- What `node` asks.
-pub payload-asked : (doc t ls : List ℕ) (words depth kind name len at n most : ℕ) → length t ≡ words → length doc ≤ documentLimit → at ≤ length doc → n ≤ roomOf words
+pub payload-asked : (doc t ls : List ℕ) (words depth kind name len at above n most : ℕ) → length t ≡ words → length doc ≤ documentLimit → at ≤ length doc → n ≤ roomOf words → above ≤ n
     → kind ≤ 12 → name < 2 ^ 32 → len < 2 ^ 32 → depth ≤ depthLimit → OnlyCut (readIn doc words depth kind name len at n) → 3 * most ≤ length ls
-    → PayloadAsked doc t depth kind name len at n ls most
-payload-asked doc t ls words depth kind name len at n most same d a c k x y z o f = record {
+    → PayloadAsked doc t depth kind name len at above n ls most
+payload-asked doc t ls words depth kind name len at above n most same d a c u k x y z o f = record {
   named = record {
-    ready = record { doc-le = d; at-le = a; cap-le = room-le (length t); fits = room-fits (length t); n-le = rw same c };
+    ready = record { doc-le = d; at-le = a; cap-le = room-le (length t); fits = room-fits (length t); n-le = rw same c; above-le = u };
     kind-le = k;
     name-lt = x;
     len-lt = y;
@@ -314,15 +315,21 @@ payload-asked doc t ls words depth kind name len at n most same d a c k x y z o 
 }
 
 -- What `node` leaves, with a table of so many words.
-abbrev pub Pieced : List ℕ → ℕ → ℕ → ℕ → ℕ → ℕ → ℕ → ℕ → List ℕ → List ℕ → List ℕ → List ℕ → ℕ → Piece → Type 0
-Pieced doc words depth kind name len at n t t′ ls ls′ most r =
-    PieceIs doc (roomOf words) (readIn doc words depth kind name len at n) (begunAt doc (roomOf words) depth kind name len at n) (512 - depth) at n t t′ ls ls′ most r
+abbrev pub Pieced : List ℕ → ℕ → ℕ → ℕ → ℕ → ℕ → ℕ → ℕ → ℕ → List ℕ → List ℕ → List ℕ → List ℕ → ℕ → Piece → Type 0
+Pieced doc words depth kind name len at above n t t′ ls ls′ most r =
+    PieceIs doc (roomOf words) (readIn doc words depth kind name len at n) (begunAt doc (roomOf words) depth kind name len at n) (512 - depth) at above n t t′ ls ls′ most r
 
-module _ (r : Piece) (doc : List ℕ) (words words₀ depth kind name len at n : ℕ) (t t′ ls ls′ : List ℕ) (most : ℕ) (same : words ≡ words₀)
-    (s : Pieced doc words depth kind name len at n t t′ ls ls′ most r) where
-  pub piece-whole : (at′ n′ : ℕ) → r ≡ Piece.Whole at′ n′ → Next doc (roomOf words₀) (readIn doc words₀ depth kind name len at n) at′ n′ at n t t′ × (ls′ ≡ ls)
-  piece-whole at′ n′ e = rw (e, same) at s
+-- What it asks, where the parts of its label are known.
+pub asked-labelled : {label : Label} {doc t ls : List ℕ} {depth kind name len at above n most : ℕ} → label ≡ record { name = name; len = len; above = above }
+    → PayloadAsked doc t depth kind name len at above n ls most → PayloadAsked doc t depth kind (label .name) (label .len) at (label .above) n ls most
+asked-labelled e a = rw e a
+
+module _ (r : Piece) (doc : List ℕ) (words words₀ depth kind name len at above n : ℕ) (t t′ ls ls′ : List ℕ) (most : ℕ) (same : words ≡ words₀)
+    {label : Label} (known : label ≡ record { name = name; len = len; above = above })
+    (s : Pieced doc words depth kind (label .name) (label .len) at (label .above) n t t′ ls ls′ most r) where
+  pub piece-whole : (at′ n′ : ℕ) → r ≡ Piece.Whole at′ n′ → Next doc (roomOf words₀) (readIn doc words₀ depth kind name len at n) at′ n′ at above n t t′ × (ls′ ≡ ls)
+  piece-whole at′ n′ e = rw (e, same, known) at s
 
   pub piece-cut : (n′ m : ℕ) → r ≡ Piece.Cut n′ m
-      → IsCut (readIn doc words₀ depth kind name len at n) × Shut (roomOf words₀) (begunAt doc (roomOf words₀) depth kind name len at n) n′ m (512 - depth) n t t′ ls ls′ most
-  piece-cut n′ m e = rw (e, same) at s
+      → IsCut (readIn doc words₀ depth kind name len at n) × Shut (roomOf words₀) (begunAt doc (roomOf words₀) depth kind name len at n) n′ m (512 - depth) above n t t′ ls ls′ most
+  piece-cut n′ m e = rw (e, same, known) at s

@@ -45,26 +45,26 @@ entriesKept doc words depth at n = keptEntries doc (readIn doc words depth) (beg
 -- ---- what the functions require
 
 -- Of a payload.
-pub record PayloadAsked (doc t : List ℕ) (depth kind name len at n : ℕ) (ls : List ℕ) (most : ℕ) : Type 0 where
-  pub named : Named doc t (roomOf (length t)) at n kind name len
+pub record PayloadAsked (doc t : List ℕ) (depth kind name len at above n : ℕ) (ls : List ℕ) (most : ℕ) : Type 0 where
+  pub named : Named doc t (roomOf (length t)) at above n kind name len
   pub deep : depth ≤ depthLimit
   pub only : OnlyCut (readIn doc (length t) depth kind name len at n)
   pub lines-fit : 3 * most ≤ length ls
 
--- Of a list's elements: their kind is one that has bytes.
+-- Of the elements of the list that is record n: their kind is one that has bytes.
 pub record ElementsAsked (doc t : List ℕ) (depth count kind at n : ℕ) (ls : List ℕ) (most : ℕ) : Type 0 where
-  pub ready : Ready doc t (roomOf (length t)) at n
+  pub ready : Ready doc t (roomOf (length t)) at n (n + 1)
   pub deep : depth < depthLimit
   pub kind-le : kind ≤ 12
   pub kind-some : 0 < count → 0 < kind
-  pub only : OnlyCut (elementsIn doc (length t) depth count kind at n)
+  pub only : OnlyCut (elementsIn doc (length t) depth count kind at (n + 1))
   pub lines-fit : 3 * most ≤ length ls
 
--- Of a compound's entries.
+-- Of the entries of the compound that is record n.
 pub record EntriesAsked (doc t : List ℕ) (depth at n : ℕ) (ls : List ℕ) (most : ℕ) : Type 0 where
-  pub ready : Ready doc t (roomOf (length t)) at n
+  pub ready : Ready doc t (roomOf (length t)) at n (n + 1)
   pub deep : depth < depthLimit
-  pub only : OnlyCut (entriesIn doc (length t) depth at n)
+  pub only : OnlyCut (entriesIn doc (length t) depth at (n + 1))
   pub lines-fit : 3 * most ≤ length ls
 
 -- The next record behind what was gathered side by side, how many stand there, and how many containers are open.
@@ -81,8 +81,9 @@ openOf (Side.Whole at n count) = 0
 openOf (Side.Cut n count m) = m
 
 -- Of a container, record n, behind what was gathered in it.
-pub record HeldAsked (t : List ℕ) (name len promised level n : ℕ) (s : Side) (ls : List ℕ) (most : ℕ) : Type 0 where
-  pub fits : 8 * n + 8 ≤ length t
+pub record HeldAsked (t : List ℕ) (name len promised level above n : ℕ) (s : Side) (ls : List ℕ) (most : ℕ) : Type 0 where
+  pub fits : 9 * n + 9 ≤ length t
+  pub above-le : above ≤ n
   pub n-lt : n < 2 ^ 32
   pub name-lt : name < 2 ^ 32
   pub len-lt : len < 2 ^ 32
@@ -96,42 +97,42 @@ pub record HeldAsked (t : List ℕ) (name len promised level n : ℕ) (s : Side)
 -- ---- what they leave
 
 -- A payload that holds no records and is read as o: its record; or nothing is changed.
-abbrev pub LeafIs : List ℕ → ℕ → Out One → ℕ → ℕ → List ℕ → List ℕ → Piece → Type 0
-LeafIs doc room o at n t t′ (Piece.Whole at′ n′) = Next doc room o at′ n′ at n t t′
-LeafIs doc room o at n t t′ (Piece.Cut n′ m) = ((q p : ℕ) × (o ≡ no q p)) × (n′ ≡ n) × (m ≡ 0) × (t′ ≡ t)
+abbrev pub LeafIs : List ℕ → ℕ → Out One → ℕ → ℕ → ℕ → List ℕ → List ℕ → Piece → Type 0
+LeafIs doc room o at above n t t′ (Piece.Whole at′ n′) = Next doc room o at′ n′ at above n t t′
+LeafIs doc room o at above n t t′ (Piece.Cut n′ m) = ((q p : ℕ) × (o ≡ no q p)) × (n′ ≡ n) × (m ≡ 0) × (t′ ≡ t)
 
--- What is kept stands in the table from record n on, and its m lines in the list from line `level` on, if the lines are `most` at the most.
-pub record Shut (room : ℕ) (k : Kept) (n′ m level n : ℕ) (t t′ ls ls′ : List ℕ) (most : ℕ) : Type 0 where
+-- What is kept stands in the table from record n on, in record `above`, and its m lines in the list from line `level` on, if the lines are `most` at the most.
+pub record Shut (room : ℕ) (k : Kept) (n′ m level above n : ℕ) (t t′ ls ls′ : List ℕ) (most : ℕ) : Type 0 where
   pub n-is : n′ ≡ n + size (k .forest)
   pub many : m ≡ length (k .lines)
-  pub table : t′ ≡ wrote t n (k .forest)
+  pub table : t′ ≡ wrote t above n (k .forest)
   pub listed : level + m ≤ most → ls′ ≡ over ls (3 * level) (lineWords (k .lines))
   pub unlisted : most < level + m → ls′ ≡ ls
   pub n-le : n′ ≤ room
   pub deep : level + m ≤ depthLimit
 
 -- Of a payload that is read as o and of which k is kept where it is cut.
-abbrev pub PieceIs : List ℕ → ℕ → Out One → Kept → ℕ → ℕ → ℕ → List ℕ → List ℕ → List ℕ → List ℕ → ℕ → Piece → Type 0
-PieceIs doc room o k level at n t t′ ls ls′ most (Piece.Whole at′ n′) = Next doc room o at′ n′ at n t t′ × (ls′ ≡ ls)
-PieceIs doc room o k level at n t t′ ls ls′ most (Piece.Cut n′ m) = IsCut o × Shut room k n′ m level n t t′ ls ls′ most
+abbrev pub PieceIs : List ℕ → ℕ → Out One → Kept → ℕ → ℕ → ℕ → ℕ → List ℕ → List ℕ → List ℕ → List ℕ → ℕ → Piece → Type 0
+PieceIs doc room o k level at above n t t′ ls ls′ most (Piece.Whole at′ n′) = Next doc room o at′ n′ at above n t t′ × (ls′ ≡ ls)
+PieceIs doc room o k level at above n t t′ ls ls′ most (Piece.Cut n′ m) = IsCut o × Shut room k n′ m level above n t t′ ls ls′ most
 
 -- Of records side by side, with how many of them stand there.
-abbrev pub SideIs : List ℕ → ℕ → Out Run → Kept → ℕ → ℕ → ℕ → List ℕ → List ℕ → List ℕ → List ℕ → ℕ → Side → Type 0
-SideIs doc room o k level at n t t′ ls ls′ most (Side.Whole at′ n′ count) = Gone doc room o at′ n′ count at n t t′ × (ls′ ≡ ls)
-SideIs doc room o k level at n t t′ ls ls′ most (Side.Cut n′ count m) = IsCut o × Shut room k n′ m level n t t′ ls ls′ most × (count ≡ width (k .forest))
+abbrev pub SideIs : List ℕ → ℕ → Out Run → Kept → ℕ → ℕ → ℕ → ℕ → List ℕ → List ℕ → List ℕ → List ℕ → ℕ → Side → Type 0
+SideIs doc room o k level at above n t t′ ls ls′ most (Side.Whole at′ n′ count) = Gone doc room o at′ n′ count at above n t t′ × (ls′ ≡ ls)
+SideIs doc room o k level at above n t t′ ls ls′ most (Side.Cut n′ count m) = IsCut o × Shut room k n′ m level above n t t′ ls ls′ most × (count ≡ width (k .forest))
 
 -- The words of a container's record.
-abbrev pub heldWords : ℕ → ℕ → ℕ → ℕ → ℕ → ℕ → List ℕ
-heldWords kind name len count inner end =
-    words (record { kind = kind; name = name; name-length = len; start = 0; size = 0; count = count; list-kind = inner }) end
+abbrev pub heldWords : ℕ → ℕ → ℕ → ℕ → ℕ → ℕ → ℕ → List ℕ
+heldWords kind name len count inner end parent =
+    words (record { kind = kind; name = name; name-length = len; start = 0; size = 0; count = count; list-kind = inner }) end parent
 
 -- A container closed behind what was gathered in it: its record, and where it is cut its line, if all lines are `most` at the most; a list
 -- that is left with no element has no kind.
-abbrev pub HeldIs : ℕ → ℕ → ℕ → ℕ → ℕ → ℕ → ℕ → List ℕ → List ℕ → List ℕ → List ℕ → ℕ → Side → Piece → Type 0
-HeldIs kind name len inner promised level n t t′ ls ls′ most (Side.Whole at n′ count) r =
-    (r ≡ Piece.Whole at n′) × (t′ ≡ over t (8 * n) (heldWords kind name len count inner n′)) × (ls′ ≡ ls)
-HeldIs kind name len inner promised level n t t′ ls ls′ most (Side.Cut n′ count m) r =
-    (r ≡ Piece.Cut n′ (m + 1)) × (t′ ≡ over t (8 * n) (heldWords kind name len count (pick (eqb count 0) 0 inner) n′))
+abbrev pub HeldIs : ℕ → ℕ → ℕ → ℕ → ℕ → ℕ → ℕ → ℕ → List ℕ → List ℕ → List ℕ → List ℕ → ℕ → Side → Piece → Type 0
+HeldIs kind name len inner promised level above n t t′ ls ls′ most (Side.Whole at n′ count) r =
+    (r ≡ Piece.Whole at n′) × (t′ ≡ over t (9 * n) (heldWords kind name len count inner n′ above)) × (ls′ ≡ ls)
+HeldIs kind name len inner promised level above n t t′ ls ls′ most (Side.Cut n′ count m) r =
+    (r ≡ Piece.Cut n′ (m + 1)) × (t′ ≡ over t (9 * n) (heldWords kind name len count (pick (eqb count 0) 0 inner) n′ above))
     × (ls′ ≡ pick (ltb (level + m) most) (over ls (3 * level) (n ∷ promised ∷ count ∷ [])) ls)
 
 -- ---- the document
@@ -143,10 +144,10 @@ pub record KeptIn (doc t t′ ls ls′ : List ℕ) (most records lines : ℕ) : 
   pub is : keptOf doc (roomOf (length t)) ≡ got k
   pub records-are : records ≡ size (k .forest)
   pub lines-are : lines ≡ length (k .lines)
-  pub table : t′ ≡ wrote t 0 (k .forest)
+  pub table : t′ ≡ wrote t 0 0 (k .forest)
   pub listed : lines ≤ most → ls′ ≡ over ls 0 (lineWords (k .lines))
   pub unlisted : most < lines → ls′ ≡ ls
-  pub fits : 8 * records ≤ length t
+  pub fits : 9 * records ≤ length t
   pub small : lines ≤ depthLimit
 
 abbrev pub GatheredIs : List ℕ → List ℕ → List ℕ → List ℕ → List ℕ → ℕ → Gathered → Type 0

@@ -40,7 +40,7 @@ noted-all c (m ∷ ms) l h =
 -- ---- the table's records
 
 -- All records of a table side by side: the root.
-abbrev pub table-side : (d : ℕ) (t : List ℕ) (i : IsTable d t) → Side d t 0 (length t / 8)
+abbrev pub table-side : (d : ℕ) (t : List ℕ) (i : IsTable d t) → Side d t 0 (length t / 9)
 table-side d t i = record {
   forest = node (i .head) (i .inner) none;
   element = false;
@@ -50,7 +50,7 @@ table-side d t i = record {
 }
 
 -- None of them stands too deep.
-pub table-fine : (d : ℕ) (t : List ℕ) (r : Depth) → ((d′ : ℕ) (g : Side d′ t 0 (length t / 8)) → depthOut r ≡ shallow depthLimit 0 (g .forest)) → r ≡ Fine
+pub table-fine : (d : ℕ) (t : List ℕ) (r : Depth) → ((d′ : ℕ) (g : Side d′ t 0 (length t / 9)) → depthOut r ≡ shallow depthLimit 0 (g .forest)) → r ≡ Fine
     → (i : IsTable d t) → shallow depthLimit 0 (node (i .head) (i .inner) none) ≡ got tt
 table-fine d t r e f i = sym (e d (table-side d t i)) ∙ ap depthOut f
 
@@ -61,7 +61,7 @@ pub room-counted : {ms k k′ : List ℕ} {r room : ℕ} → Walks ms 0 k r k′
 room-counted w h = let c = w .counted in omega arith
 
 -- There is a word for every record, and no more tags match than there are records.
-pub room-each : (doc t : List ℕ) (i : IsTable (length doc) t) (ss : List Step) {room : ℕ} → length t / 8 ≤ room → length (matches (valueOf doc (i .head) (i .inner)) ss) ≤ room
+pub room-each : (doc t : List ℕ) (i : IsTable (length doc) t) (ss : List Step) {room : ℕ} → length t / 9 ≤ room → length (matches (valueOf doc (i .head) (i .inner)) ss) ≤ room
 unfolding matches
 room-each doc t i ss h =
     let entries : eqb (i .head .kind) 9 ≡ false = rw (i .compound) in

@@ -51,7 +51,7 @@ levels-by (suc k) t from end (node h inner later) s e l =
     )
 
 -- There are no more records than the table has words.
-pub levels-are : (d : ℕ) (t : List ℕ) (from end : ℕ) (s : Side d t from end) → 8 * from ≤ length t → levelsBy (length t) t from end ≡ levels (s .forest)
+pub levels-are : (d : ℕ) (t : List ℕ) (from end : ℕ) (s : Side d t from end) → 9 * from ≤ length t → levelsBy (length t) t from end ≡ levels (s .forest)
 levels-are d t from end s l =
     let room = sits-room t from (s .forest) (s .sits) l in
     levels-by (length t) t from end (s .forest) (s .sits) (s .ends) (omega arith)

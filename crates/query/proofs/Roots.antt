@@ -60,7 +60,7 @@ module _ (doc t : List ℕ) (i : IsTable (length doc) t) where
 
   module _ (q : List ℕ) {plan : List ℕ} {m set : ℕ} (reaches : Reaches q plan m [] set) {l : List ℕ} {r : ℕ} {l′ : List ℕ} (v : Walks (hit (has set 0) 0) 0 l r l′) where
     -- What the walk over the records in it may rely on.
-    pub root-ready : shallow depthLimit 0 (node (i .head) (i .inner) none) ≡ got tt → length t ≤ 8 * recordLimit → Walkable doc t q plan 0 set r
+    pub root-ready : shallow depthLimit 0 (node (i .head) (i .inner) none) ≡ got tt → length t ≤ 9 * recordLimit → Walkable doc t q plan 0 set r
     root-ready fine few =
         let one = one-more (has set 0) 0 v in
         record {

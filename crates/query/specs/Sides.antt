@@ -41,7 +41,7 @@ levelsBelow t n = levelsBy (length t) t (n + 1) (word t n 7)
 pub record Walkable (doc t q plan : List ℕ) (n set count : ℕ) : Type 0 where
   pub side : Held (length doc) t n
   pub own : RecordIn doc t n
-  pub few : length t ≤ 8 * recordLimit
+  pub few : length t ≤ 9 * recordLimit
   pub bounded : levelsBelow t n ≤ depthLimit
   pub total : ℕ
   pub path : List Hop

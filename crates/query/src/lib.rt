@@ -39,7 +39,7 @@ enum Depth {
 
 // Refusal 7: the first container, among the records from `from` up to `end` and those in them, where only `left` may stand within each other.
 fn first_deep(table: &[u32], from: usize, end: usize, left: usize) -> Depth
-    requires { ⌜ ((d : ℕ) × (Side d (now table) from end)) × (8 * end ≤ length (now table)) ⌝ }
+    requires { ⌜ ((d : ℕ) × (Side d (now table) from end)) × (9 * end ≤ length (now table)) ⌝ }
     ensures { λ r. ⌜ ((d : ℕ) (g : Side d (now (table .entry)) from end) → depthOut r ≡ shallow left from (g .forest)) ⌝ }
 {
     let mut i = from;
@@ -121,7 +121,7 @@ fn visit_all(
 
 // How many tags of a table match; their numbers are written into the list as far as it has room.
 fn walk(doc: &[u8], table: &[u32], q: &[u8], query: Query, list: &mut [u32]) -> usize
-    requires { ⌜ ((i : IsTable (length (now doc)) (now table)) × (shallow depthLimit 0 (node (i .head) (i .inner) none) ≡ got tt)) × (length (now table) ≤ 8 * recordLimit) × (QueryIn (now q) query) ⌝ }
+    requires { ⌜ ((i : IsTable (length (now doc)) (now table)) × (shallow depthLimit 0 (node (i .head) (i .inner) none) ≡ got tt)) × (length (now table) ≤ 9 * recordLimit) × (QueryIn (now q) query) ⌝ }
     ensures { λ r. ⌜ ((i : IsTable (length (now (doc .entry))) (now (table .entry))) → Walks (matches (valueOf (now (doc .entry)) (i .head) (i .inner)) (stepsFrom (now (q .entry)) query 0)) 0 (now (list .entry)) r (now (list .exit))) ⌝ }
 {
     let mut plan = [0u32; reach::PLAN];
@@ -140,7 +140,7 @@ fn walk(doc: &[u8], table: &[u32], q: &[u8], query: Query, list: &mut [u32]) -> 
 // the true count. The list is written only where the count is known to fit: it has a word for every record, or the matches were counted
 // before, in a walk whose list is not the caller's.
 fn ask(doc: &[u8], table: &[u32], q: &[u8], list: &mut [u32]) -> Found
-    requires { ⌜ (IsTable (length (now doc)) (now table)) × (length (now table) ≤ 8 * recordLimit) ⌝ }
+    requires { ⌜ (IsTable (length (now doc)) (now table)) × (length (now table) ≤ 9 * recordLimit) ⌝ }
     ensures { λ r. ⌜ ((i : IsTable (length (now (doc .entry))) (now (table .entry))) → Finds (within (length (now (list .entry))) (asked (now (doc .entry)) (now (q .entry)) (i .head) (i .inner))) (now (list .entry)) (foundCount r) (now (list .exit))) ⌝ }
 {
     match first_deep(table, 0, table.len() / table::WORDS, form::DEPTH) {

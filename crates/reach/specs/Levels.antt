@@ -18,5 +18,5 @@ hopTo doc t parent c i = hopOf (word t parent 0) i (nameOf doc t c)
 
 -- Record c stands in the table, and its name in the document.
 pub record RecordIn (doc t : List ℕ) (c : ℕ) : Type 0 where
-  pub row : 8 * c + 8 ≤ length t
+  pub row : 9 * c + 9 ≤ length t
   pub name : word t c 1 + word t c 2 ≤ length doc

@@ -34,28 +34,28 @@ pub fixed-no : (doc : List ℕ) (kind at w : ℕ) → kind < 7 → w ≡ widthOf
 fixed-no doc kind at w h e l = leaf-fixed doc kind at h ∙ ap (λ x. bytesAt doc x 0 at) (sym e) ∙ bytes-no doc w 0 at l
 
 -- a container's own record, written before those in it
-pub held-table : (n : ℕ) {doc : List ℕ} {cap : ℕ} {o : Out Inside} {at′ n′ count inner at : ℕ} {t t₁ : List ℕ}
-    (s : Filled doc cap o at′ n′ count inner at (n + 1) t t₁)
+pub held-table : (above n : ℕ) {doc : List ℕ} {cap : ℕ} {o : Out Inside} {at′ n′ count inner at : ℕ} {t t₁ : List ℕ}
+    (s : Filled doc cap o at′ n′ count inner at n (n + 1) t t₁)
     {r : Record} {kind name len : ℕ} {t₂ : List ℕ}
-    → r ≡ containerOf kind name len count inner n′
-    → t₂ ≡ over t₁ (8 * n) (recordWords r)
-    → 8 * n + 8 ≤ length t
-    → t₂ ≡ wrote t n (node (heldOne kind name len (s .x) .head) (s .x .forest) none)
-held-table n {t} s {kind} {name} {len} e f l =
-    f ∙ rw (e, s .table, s .count-is, s .kind-is, s .n-is) (wrote-head t n (heldOne kind name len (s .x) .head) (s .x .forest) l)
+    → r ≡ containerOf kind name len count inner n′ above
+    → t₂ ≡ over t₁ (9 * n) (recordWords r)
+    → 9 * n + 9 ≤ length t
+    → t₂ ≡ wrote t above n (node (heldOne kind name len (s .x) .head) (s .x .forest) none)
+held-table above n {t} s {kind} {name} {len} e f l =
+    f ∙ rw (e, s .table, s .count-is, s .kind-is, s .n-is) (wrote-head t above n (heldOne kind name len (s .x) .head) (s .x .forest) l)
 
 -- a step that goes on from a place goes on from 0
-pub stepped-from : (r : Step) (doc : List ℕ) (cap : ℕ) (o : Out One) (at n : ℕ) (t t′ : List ℕ) → Stepped doc cap o at n t t′ r → Stepped doc cap o 0 n t t′ r
-stepped-from (Step.Next a i) doc cap o at n t t′ s =
+pub stepped-from : (r : Step) (doc : List ℕ) (cap : ℕ) (o : Out One) (at above n : ℕ) (t t′ : List ℕ) → Stepped doc cap o at above n t t′ r → Stepped doc cap o 0 above n t t′ r
+stepped-from (Step.Next a i) doc cap o at above n t t′ s =
     record { x = s .x; is = s .is; at-is = s .at-is; n-is = s .n-is; table = s .table; on = omega arith; at-le = s .at-le; n-le = s .n-le }
-stepped-from (Step.No m p) doc cap o at n t t′ s = s
+stepped-from (Step.No m p) doc cap o at above n t t′ s = s
 
 -- the two public answers
 pub refused : (doc t t₁ : List ℕ) {t₂ : List ℕ} {m p : ℕ} → reading doc t ≡ no m p → length t₁ ≡ length t → t₂ ≡ replicate (length t₁) 0
     → ReadIs doc t (readOut (Answer.Refused m p)) t₂
 refused doc t t₁ e l c = record { answer-is = rw e refl; table-is = rw e (c ∙ ap (λ n. replicate n 0) l) }
 
-pub accepted : (doc t : List ℕ) {cap at n : ℕ} {t′ : List ℕ} → Next doc cap (reading doc t) at n 0 0 t t′ → ReadIs doc t (readOut (Answer.Accepted at n)) t′
+pub accepted : (doc t : List ℕ) {cap at n : ℕ} {t′ : List ℕ} → Next doc cap (reading doc t) at n 0 0 0 t t′ → ReadIs doc t (readOut (Answer.Accepted at n)) t′
 accepted doc t s = record { answer-is = rw (s .is, s .at-is, s .n-is) refl; table-is = rw (s .is) (s .table) }
 
 -- ---- a refusal, unless a name is repeated before it
@@ -74,23 +74,23 @@ pub spoiled-no : (o : Out (Unit {0})) (b : Bool) (here n p : ℕ) (r : Ran) → 
 spoiled-no o b here n p (Ran.No m q) e h = rw e h
 spoiled-no o b here n p (Ran.Done a i c) e h = h
 
-pub settled-went : (r : Ran) (doc : List ℕ) (cap : ℕ) (whole : Out Run) (at n : ℕ) (t t′ : List ℕ) (o o′ : Out (Unit {0})) (m p : ℕ)
-    → Settled o m p r → whole ≡ (o′ >> no m p) → o′ ≡ o → Kept n t t′ → Went doc cap whole at n t t′ r
-settled-went (Ran.No k q) doc cap whole at n t t′ o o′ m p h w e g = (w ∙ ap (λ u. _>>_ {A = Unit {0}} {B = Run} u (no m p)) e ∙ h, g)
-settled-went (Ran.Done a i c) doc cap whole at n t t′ o o′ m p h w e g = absurd h
+pub settled-went : (r : Ran) (doc : List ℕ) (cap : ℕ) (whole : Out Run) (at above n : ℕ) (t t′ : List ℕ) (o o′ : Out (Unit {0})) (m p : ℕ)
+    → Settled o m p r → whole ≡ (o′ >> no m p) → o′ ≡ o → Kept n t t′ → Went doc cap whole at above n t t′ r
+settled-went (Ran.No k q) doc cap whole at above n t t′ o o′ m p h w e g = (w ∙ ap (λ u. _>>_ {A = Unit {0}} {B = Run} u (no m p)) e ∙ h, g)
+settled-went (Ran.Done a i c) doc cap whole at above n t t′ o o′ m p h w e g = absurd h
 
-pub spoiled-went : (r : Ran) (doc : List ℕ) (cap : ℕ) (whole : Out Run) (at n : ℕ) (t t′ : List ℕ) (o o′ : Out (Unit {0})) (b b′ : Bool) (here m p : ℕ)
-    → Spoiled o b here m p r → whole ≡ (o′ >> (guard (not b′) 6 here >> no m p)) → o′ ≡ o → b′ ≡ b → Kept n t t′ → Went doc cap whole at n t t′ r
-spoiled-went (Ran.No k q) doc cap whole at n t t′ o o′ b b′ here m p h w e f g =
+pub spoiled-went : (r : Ran) (doc : List ℕ) (cap : ℕ) (whole : Out Run) (at above n : ℕ) (t t′ : List ℕ) (o o′ : Out (Unit {0})) (b b′ : Bool) (here m p : ℕ)
+    → Spoiled o b here m p r → whole ≡ (o′ >> (guard (not b′) 6 here >> no m p)) → o′ ≡ o → b′ ≡ b → Kept n t t′ → Went doc cap whole at above n t t′ r
+spoiled-went (Ran.No k q) doc cap whole at above n t t′ o o′ b b′ here m p h w e f g =
     (w ∙ (λ i. _>>_ {A = Unit {0}} {B = Run} (e i) (guard (not (f i)) 6 here >> no m p)) ∙ h, g)
-spoiled-went (Ran.Done a i c) doc cap whole at n t t′ o o′ b b′ here m p h w e f g = absurd h
+spoiled-went (Ran.Done a i c) doc cap whole at above n t t′ o o′ b b′ here m p h w e f g = absurd h
 
-pub finished-went : (r : Ran) (doc : List ℕ) (cap : ℕ) (whole : Out Run) (from n : ℕ) (t t′ : List ℕ) (o o′ : Out (Unit {0})) (at next count : ℕ) (acc : Forest)
+pub finished-went : (r : Ran) (doc : List ℕ) (cap : ℕ) (whole : Out Run) (from above n : ℕ) (t t′ : List ℕ) (o o′ : Out (Unit {0})) (at next count : ℕ) (acc : Forest)
     → Finished o at next count r → whole ≡ (o′ >> got (record { forest = acc; next = at })) → o′ ≡ o → Kept n t t′
-    → next ≡ n + size acc → count ≡ width acc → t′ ≡ wrote t n acc → from ≤ at → at ≤ length doc → next ≤ cap → Went doc cap whole from n t t′ r
-finished-went (Ran.No k q) doc cap whole from n t t′ o o′ at next count acc h w e g ni ci ti on al nl =
+    → next ≡ n + size acc → count ≡ width acc → t′ ≡ wrote t above n acc → from ≤ at → at ≤ length doc → next ≤ cap → Went doc cap whole from above n t t′ r
+finished-went (Ran.No k q) doc cap whole from above n t t′ o o′ at next count acc h w e g ni ci ti on al nl =
     (w ∙ ap (λ u. _>>_ {A = Unit {0}} {B = Run} u (got (record { forest = acc; next = at }))) (e ∙ h), g)
-finished-went (Ran.Done a i c) doc cap whole from n t t′ o o′ at next count acc h w e g ni ci ti on al nl = record {
+finished-went (Ran.Done a i c) doc cap whole from above n t t′ o o′ at next count acc h w e g ni ci ti on al nl = record {
   x = record { forest = acc; next = at };
   is = w ∙ ap (λ u. _>>_ {A = Unit {0}} {B = Run} u (got (record { forest = acc; next = at }))) (e ∙ h .0);
   at-is = h .1;
@@ -102,5 +102,5 @@ finished-went (Ran.Done a i c) doc cap whole from n t t′ o o′ at next count 
   n-le = omega (arith, nl, h .2);
 }
 
-pub stepped-no : (r : Step) (doc : List ℕ) (cap : ℕ) (o : Out One) (at n : ℕ) (t t′ : List ℕ) (m p : ℕ) → r ≡ Step.No m p → Stepped doc cap o at n t t′ r → (o ≡ no m p) × Kept n t t′
-stepped-no r doc cap o at n t t′ m p e h = rw e at h
+pub stepped-no : (r : Step) (doc : List ℕ) (cap : ℕ) (o : Out One) (at above n : ℕ) (t t′ : List ℕ) (m p : ℕ) → r ≡ Step.No m p → Stepped doc cap o at above n t t′ r → (o ≡ no m p) × Kept n t t′
+stepped-no r doc cap o at above n t t′ m p e h = rw e at h

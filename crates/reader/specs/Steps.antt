@@ -21,79 +21,80 @@ readOut (Answer.Accepted c n) = got (record { consumed = c; records = n })
 readOut (Answer.Refused n p) = no n p
 
 -- what the functions below the public one require
-pub record Ready (doc table : List ℕ) (cap at n : ℕ) : Type 0 where
+pub record Ready (doc table : List ℕ) (cap at above n : ℕ) : Type 0 where
   pub doc-le : length doc ≤ 16777216
   pub at-le : at ≤ length doc
   pub cap-le : cap ≤ 1048576
-  pub fits : 8 * cap ≤ length table
+  pub fits : 9 * cap ≤ length table
   pub n-le : n ≤ cap
+  pub above-le : above ≤ n
 
 -- and of a payload
-pub record Named (doc table : List ℕ) (cap at n kind name len : ℕ) : Type 0 where
-  pub ready : Ready doc table cap at n
+pub record Named (doc table : List ℕ) (cap at above n kind name len : ℕ) : Type 0 where
+  pub ready : Ready doc table cap at above n
   pub kind-le : kind ≤ 12
   pub name-lt : name < 2 ^ 32
   pub len-lt : len < 2 ^ 32
 
 -- the record x was read and is written from record n on
-pub record Next (doc : List ℕ) (cap : ℕ) (o : Out One) (at′ n′ : ℕ) (at n : ℕ) (t t′ : List ℕ) : Type 0 where
+pub record Next (doc : List ℕ) (cap : ℕ) (o : Out One) (at′ n′ : ℕ) (at above n : ℕ) (t t′ : List ℕ) : Type 0 where
   pub x : One
   pub is : o ≡ got x
   pub at-is : at′ ≡ x .next
   pub n-is : n′ ≡ n + 1 + size (x .inner)
-  pub table : t′ ≡ wrote t n (node (x .head) (x .inner) none)
+  pub table : t′ ≡ wrote t above n (node (x .head) (x .inner) none)
   pub on : at ≤ at′
   pub at-le : at′ ≤ length doc
   pub n-le : n′ ≤ cap
 
 -- the words before record n are kept
 abbrev pub Kept : ℕ → List ℕ → List ℕ → Type 0
-Kept n t t′ = take (8 * n) t′ ≡ take (8 * n) t
+Kept n t t′ = take (9 * n) t′ ≡ take (9 * n) t
 
 -- what `node` leaves, by its answer: the definition's answer is o
-abbrev pub Stepped : List ℕ → ℕ → Out One → ℕ → ℕ → List ℕ → List ℕ → Step → Type 0
-Stepped doc cap o at n t t′ (Step.Next at′ n′) = Next doc cap o at′ n′ at n t t′
-Stepped doc cap o at n t t′ (Step.No m p) = (o ≡ no m p) × Kept n t t′
+abbrev pub Stepped : List ℕ → ℕ → Out One → ℕ → ℕ → ℕ → List ℕ → List ℕ → Step → Type 0
+Stepped doc cap o at above n t t′ (Step.Next at′ n′) = Next doc cap o at′ n′ at above n t t′
+Stepped doc cap o at above n t t′ (Step.No m p) = (o ≡ no m p) × Kept n t t′
 
 -- the records x in a container were read and are written from record n on
-pub record Filled (doc : List ℕ) (cap : ℕ) (o : Out Inside) (at′ n′ count kind : ℕ) (at n : ℕ) (t t′ : List ℕ) : Type 0 where
+pub record Filled (doc : List ℕ) (cap : ℕ) (o : Out Inside) (at′ n′ count kind : ℕ) (at above n : ℕ) (t t′ : List ℕ) : Type 0 where
   pub x : Inside
   pub is : o ≡ got x
   pub at-is : at′ ≡ x .next
   pub n-is : n′ ≡ n + size (x .forest)
   pub count-is : count ≡ x .count
   pub kind-is : kind ≡ x .kind
-  pub table : t′ ≡ wrote t n (x .forest)
+  pub table : t′ ≡ wrote t above n (x .forest)
   pub on : at ≤ at′
   pub at-le : at′ ≤ length doc
   pub n-le : n′ ≤ cap
   pub count-lt : count < 2 ^ 32
 
-abbrev pub Held : List ℕ → ℕ → Out Inside → ℕ → ℕ → List ℕ → List ℕ → Kids → Type 0
-Held doc cap o at n t t′ (Kids.Done at′ n′ count kind) = Filled doc cap o at′ n′ count kind at n t t′
-Held doc cap o at n t t′ (Kids.No m p) = (o ≡ no m p) × Kept n t t′
+abbrev pub Held : List ℕ → ℕ → Out Inside → ℕ → ℕ → ℕ → List ℕ → List ℕ → Kids → Type 0
+Held doc cap o at above n t t′ (Kids.Done at′ n′ count kind) = Filled doc cap o at′ n′ count kind at above n t t′
+Held doc cap o at above n t t′ (Kids.No m p) = (o ≡ no m p) × Kept n t t′
 
 -- the records x were read one after the other and are written from record n on
-pub record Gone (doc : List ℕ) (cap : ℕ) (o : Out Run) (at′ n′ count : ℕ) (at n : ℕ) (t t′ : List ℕ) : Type 0 where
+pub record Gone (doc : List ℕ) (cap : ℕ) (o : Out Run) (at′ n′ count : ℕ) (at above n : ℕ) (t t′ : List ℕ) : Type 0 where
   pub x : Run
   pub is : o ≡ got x
   pub at-is : at′ ≡ x .next
   pub n-is : n′ ≡ n + size (x .forest)
   pub count-is : count ≡ width (x .forest)
-  pub table : t′ ≡ wrote t n (x .forest)
+  pub table : t′ ≡ wrote t above n (x .forest)
   pub on : at ≤ at′
   pub at-le : at′ ≤ length doc
   pub n-le : n′ ≤ cap
 
-abbrev pub Went : List ℕ → ℕ → Out Run → ℕ → ℕ → List ℕ → List ℕ → Ran → Type 0
-Went doc cap o at n t t′ (Ran.Done at′ n′ count) = Gone doc cap o at′ n′ count at n t t′
-Went doc cap o at n t t′ (Ran.No m p) = (o ≡ no m p) × Kept n t t′
+abbrev pub Went : List ℕ → ℕ → Out Run → ℕ → ℕ → ℕ → List ℕ → List ℕ → Ran → Type 0
+Went doc cap o at above n t t′ (Ran.Done at′ n′ count) = Gone doc cap o at′ n′ count at above n t t′
+Went doc cap o at above n t t′ (Ran.No m p) = (o ≡ no m p) × Kept n t t′
 
 -- what the functions that ask for a repeated name require
 pub record Known (doc t : List ℕ) (first next : ℕ) : Type 0 where
   pub family : Family doc t first next
   pub holds : Holds (length doc) t first next
-  pub fits : 8 * next ≤ length t
+  pub fits : 9 * next ≤ length t
 
 -- a refusal, unless a name is repeated before it: o says whether one is
 abbrev pub Settled : Out (Unit {0}) → ℕ → ℕ → Ran → Type 0

@@ -54,10 +54,11 @@ fn fixed(
     at: usize,
     table: &mut [u32],
     cap: usize,
+    above: usize,
     ix: usize,
 ) -> Step
-    requires { ⌜ (Named (now doc) (now table) cap at ix kind name «name_len») × (ix < cap) × (kind < 7) ⌝ }
-    ensures { λ r. ⌜ Stepped (now (doc .entry)) cap (leafOne (now (doc .entry)) kind name «name_len» at) at ix (now (table .entry)) (now (table .exit)) r ⌝ }
+    requires { ⌜ (Named (now doc) (now table) cap at above ix kind name «name_len») × (ix < cap) × (kind < 7) ⌝ }
+    ensures { λ r. ⌜ Stepped (now (doc .entry)) cap (leafOne (now (doc .entry)) kind name «name_len» at) at above ix (now (table .entry)) (now (table .exit)) r ⌝ }
 {
     let width = fields::width_of(kind);
     if doc.len() - at < width {
@@ -69,7 +70,7 @@ fn fixed(
     table::put(
         table,
         ix,
-        table::leaf(wide(kind), name, name_len, at, width, 0, ix + 1),
+        table::leaf(wide(kind), name, name_len, at, width, 0, ix + 1, above),
     );
     Step::Next {
         at: at + width,
@@ -86,10 +87,11 @@ fn leaf(
     at: usize,
     table: &mut [u32],
     cap: usize,
+    above: usize,
     ix: usize,
 ) -> Step
-    requires { ⌜ (Named (now doc) (now table) cap at ix kind name «name_len») × (ix < cap) ⌝ }
-    ensures { λ r. ⌜ Stepped (now (doc .entry)) cap (leafOne (now (doc .entry)) kind name «name_len» at) at ix (now (table .entry)) (now (table .exit)) r ⌝ }
+    requires { ⌜ (Named (now doc) (now table) cap at above ix kind name «name_len») × (ix < cap) ⌝ }
+    ensures { λ r. ⌜ Stepped (now (doc .entry)) cap (leafOne (now (doc .entry)) kind name «name_len» at) at above ix (now (table .entry)) (now (table .exit)) r ⌝ }
 {
     match fields::leaf_at(doc, kind, at) {
         Part::No { number, place } => Step::No { number, place },
@@ -102,7 +104,7 @@ fn leaf(
             table::put(
                 table,
                 ix,
-                table::leaf(wide(kind), name, name_len, start, len, count, ix + 1),
+                table::leaf(wide(kind), name, name_len, start, len, count, ix + 1, above),
             );
             Step::Next {
                 at: next,
@@ -122,10 +124,11 @@ fn node(
     depth: usize,
     table: &mut [u32],
     cap: usize,
+    above: usize,
     ix: usize,
 ) -> Step
-    requires { ⌜ Named (now doc) (now table) cap at ix kind name «name_len» ⌝ }
-    ensures { λ r. ⌜ Stepped (now (doc .entry)) cap (payloadBy (now (doc .entry)) cap (insideAt (now (doc .entry)) cap depth) kind name «name_len» at ix) at ix (now (table .entry)) (now (table .exit)) r ⌝ }
+    requires { ⌜ Named (now doc) (now table) cap at above ix kind name «name_len» ⌝ }
+    ensures { λ r. ⌜ Stepped (now (doc .entry)) cap (payloadBy (now (doc .entry)) cap (insideAt (now (doc .entry)) cap depth) kind name «name_len» at ix) at above ix (now (table .entry)) (now (table .exit)) r ⌝ }
 {
     if cap <= ix {
         return Step::No {
@@ -134,9 +137,9 @@ fn node(
         };
     }
     if kind < 7 {
-        return fixed(doc, kind, name, name_len, at, table, cap, ix);
+        return fixed(doc, kind, name, name_len, at, table, cap, above, ix);
     }
-    larger(doc, kind, name, name_len, at, depth, table, cap, ix)
+    larger(doc, kind, name, name_len, at, depth, table, cap, above, ix)
 }
 
 // The same where there is room, of any kind: a call for those that are not small.
@@ -149,15 +152,16 @@ fn larger(
     depth: usize,
     table: &mut [u32],
     cap: usize,
+    above: usize,
     ix: usize,
 ) -> Step
-    requires { ⌜ (Named (now doc) (now table) cap at ix kind name «name_len») × (ix < cap) ⌝ }
-    ensures { λ r. ⌜ Stepped (now (doc .entry)) cap (payloadBy (now (doc .entry)) cap (insideAt (now (doc .entry)) cap depth) kind name «name_len» at ix) at ix (now (table .entry)) (now (table .exit)) r ⌝ }
+    requires { ⌜ (Named (now doc) (now table) cap at above ix kind name «name_len») × (ix < cap) ⌝ }
+    ensures { λ r. ⌜ Stepped (now (doc .entry)) cap (payloadBy (now (doc .entry)) cap (insideAt (now (doc .entry)) cap depth) kind name «name_len» at ix) at above ix (now (table .entry)) (now (table .exit)) r ⌝ }
 {
     if !fields::is_container(kind) {
-        return leaf(doc, kind, name, name_len, at, table, cap, ix);
+        return leaf(doc, kind, name, name_len, at, table, cap, above, ix);
     }
-    match inside(doc, kind, at, depth, table, cap, ix + 1) {
+    match inside(doc, kind, at, depth, table, cap, ix, ix + 1) {
         Kids::No { number, place } => Step::No { number, place },
         Kids::Done {
             at: next,
@@ -168,7 +172,7 @@ fn larger(
             table::put(
                 table,
                 ix,
-                table::container(wide(kind), name, name_len, count, wide(inner), end),
+                table::container(wide(kind), name, name_len, count, wide(inner), end, above),
             );
             Step::Next { at: next, ix: end }
         }
@@ -183,10 +187,11 @@ fn inside(
     depth: usize,
     table: &mut [u32],
     cap: usize,
+    above: usize,
     ix: usize,
 ) -> Kids
-    requires { ⌜ Ready (now doc) (now table) cap at ix ⌝ }
-    ensures { λ r. ⌜ Held (now (doc .entry)) cap (insideAt (now (doc .entry)) cap depth kind at ix) at ix (now (table .entry)) (now (table .exit)) r ⌝ }
+    requires { ⌜ Ready (now doc) (now table) cap at above ix ⌝ }
+    ensures { λ r. ⌜ Held (now (doc .entry)) cap (insideAt (now (doc .entry)) cap depth kind at ix) at above ix (now (table .entry)) (now (table .exit)) r ⌝ }
 {
     if depth == 0 {
         return Kids::No {
@@ -195,9 +200,9 @@ fn inside(
         };
     }
     if kind == 9 {
-        return list(doc, at, depth - 1, table, cap, ix);
+        return list(doc, at, depth - 1, table, cap, above, ix);
     }
-    match entries(doc, at, depth - 1, table, cap, ix) {
+    match entries(doc, at, depth - 1, table, cap, above, ix) {
         Ran::No { number, place } => Kids::No { number, place },
         Ran::Done {
             at: next,
@@ -213,9 +218,17 @@ fn inside(
 }
 
 // A list's head and elements, each of which may hold depth containers.
-fn list(doc: &[u8], at: usize, depth: usize, table: &mut [u32], cap: usize, ix: usize) -> Kids
-    requires { ⌜ Ready (now doc) (now table) cap at ix ⌝ }
-    ensures { λ r. ⌜ Held (now (doc .entry)) cap (listAt (now (doc .entry)) (payloadBy (now (doc .entry)) cap (insideAt (now (doc .entry)) cap depth)) at ix) at ix (now (table .entry)) (now (table .exit)) r ⌝ }
+fn list(
+    doc: &[u8],
+    at: usize,
+    depth: usize,
+    table: &mut [u32],
+    cap: usize,
+    above: usize,
+    ix: usize,
+) -> Kids
+    requires { ⌜ Ready (now doc) (now table) cap at above ix ⌝ }
+    ensures { λ r. ⌜ Held (now (doc .entry)) cap (listAt (now (doc .entry)) (payloadBy (now (doc .entry)) cap (insideAt (now (doc .entry)) cap depth)) at ix) at above ix (now (table .entry)) (now (table .exit)) r ⌝ }
 {
     match fields::list_head(doc, at) {
         Start::No { number, place } => Kids::No { number, place },
@@ -227,6 +240,7 @@ fn list(doc: &[u8], at: usize, depth: usize, table: &mut [u32], cap: usize, ix: 
             depth,
             table,
             cap,
+            above,
             ix,
         ) {
             Ran::No { number, place } => Kids::No { number, place },
@@ -253,16 +267,17 @@ fn elements(
     depth: usize,
     table: &mut [u32],
     cap: usize,
+    above: usize,
     ix: usize,
 ) -> Ran
-    requires { ⌜ (Ready (now doc) (now table) cap at ix) × (kind ≤ 12) ⌝ }
-    ensures { λ r. ⌜ Went (now (doc .entry)) cap (elementsOf (now (doc .entry)) (payloadBy (now (doc .entry)) cap (insideAt (now (doc .entry)) cap depth)) count kind at ix) at ix (now (table .entry)) (now (table .exit)) r ⌝ }
+    requires { ⌜ (Ready (now doc) (now table) cap at above ix) × (kind ≤ 12) ⌝ }
+    ensures { λ r. ⌜ Went (now (doc .entry)) cap (elementsOf (now (doc .entry)) (payloadBy (now (doc .entry)) cap (insideAt (now (doc .entry)) cap depth)) count kind at ix) at above ix (now (table .entry)) (now (table .exit)) r ⌝ }
 {
     let mut here = at;
     let mut next = ix;
     let mut left = count;
     while 0 < left {
-        match node(doc, kind, 0, 0, here, depth, table, cap, next) {
+        match node(doc, kind, 0, 0, here, depth, table, cap, above, next) {
             Step::No { number, place } => return Ran::No { number, place },
             Step::Next { at: a, ix: i } => {
                 here = a;
@@ -332,9 +347,17 @@ fn spoiled(
 }
 
 // The entries up to the end byte.
-fn entries(doc: &[u8], at: usize, depth: usize, table: &mut [u32], cap: usize, ix: usize) -> Ran
-    requires { ⌜ Ready (now doc) (now table) cap at ix ⌝ }
-    ensures { λ r. ⌜ Went (now (doc .entry)) cap (entriesOf (now (doc .entry)) (payloadBy (now (doc .entry)) cap (insideAt (now (doc .entry)) cap depth)) (suc (length (now (doc .entry)))) none at ix) at ix (now (table .entry)) (now (table .exit)) r ⌝ }
+fn entries(
+    doc: &[u8],
+    at: usize,
+    depth: usize,
+    table: &mut [u32],
+    cap: usize,
+    above: usize,
+    ix: usize,
+) -> Ran
+    requires { ⌜ Ready (now doc) (now table) cap at above ix ⌝ }
+    ensures { λ r. ⌜ Went (now (doc .entry)) cap (entriesOf (now (doc .entry)) (payloadBy (now (doc .entry)) cap (insideAt (now (doc .entry)) cap depth)) (suc (length (now (doc .entry)))) none at ix) at above ix (now (table .entry)) (now (table .exit)) r ⌝ }
 {
     let mut here = at;
     let mut next = ix;
@@ -348,7 +371,7 @@ fn entries(doc: &[u8], at: usize, depth: usize, table: &mut [u32], cap: usize, i
                 start,
                 len,
                 next: from,
-            } => match node(doc, kind, start, len, from, depth, table, cap, next) {
+            } => match node(doc, kind, start, len, from, depth, table, cap, above, next) {
                 Step::No { number, place } => {
                     return spoiled(doc, table, ix, next, start, len, here, number, place);
                 }
@@ -375,8 +398,8 @@ fn room(n: usize) -> usize
 
 // The root's payload at `at`, as record 0: room, then what it holds.
 fn root(doc: &[u8], name: usize, name_len: usize, at: usize, table: &mut [u32]) -> Step
-    requires { ⌜ Named (now doc) (now table) (roomOf (length (now table))) at 0 10 name «name_len» ⌝ }
-    ensures { λ r. ⌜ Stepped (now (doc .entry)) (roomOf (length (now (table .entry)))) (payloadBy (now (doc .entry)) (roomOf (length (now (table .entry)))) (insideAt (now (doc .entry)) (roomOf (length (now (table .entry)))) 512) 10 name «name_len» at 0) at 0 (now (table .entry)) (now (table .exit)) r ⌝ }
+    requires { ⌜ Named (now doc) (now table) (roomOf (length (now table))) at 0 0 10 name «name_len» ⌝ }
+    ensures { λ r. ⌜ Stepped (now (doc .entry)) (roomOf (length (now (table .entry)))) (payloadBy (now (doc .entry)) (roomOf (length (now (table .entry)))) (insideAt (now (doc .entry)) (roomOf (length (now (table .entry)))) 512) 10 name «name_len» at 0) at 0 0 (now (table .entry)) (now (table .exit)) r ⌝ }
 {
     let cap = room(table.len());
     if cap == 0 {
@@ -385,12 +408,12 @@ fn root(doc: &[u8], name: usize, name_len: usize, at: usize, table: &mut [u32]) 
             place: at,
         };
     }
-    larger(doc, 10, name, name_len, at, form::DEPTH, table, cap, 0)
+    larger(doc, 10, name, name_len, at, form::DEPTH, table, cap, 0, 0)
 }
 
 // A whole document, from record 0 on.
 fn document(doc: &[u8], table: &mut [u32]) -> Step
-    ensures { λ r. ⌜ Stepped (now (doc .entry)) (roomOf (length (now (table .entry)))) (documentAt (now (doc .entry)) (roomOf (length (now (table .entry))))) 0 0 (now (table .entry)) (now (table .exit)) r ⌝ }
+    ensures { λ r. ⌜ Stepped (now (doc .entry)) (roomOf (length (now (table .entry)))) (documentAt (now (doc .entry)) (roomOf (length (now (table .entry))))) 0 0 0 (now (table .entry)) (now (table .exit)) r ⌝ }
 {
     if form::DOCUMENT < doc.len() {
         return Step::No {

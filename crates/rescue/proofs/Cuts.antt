@@ -35,25 +35,25 @@ table-laid : (doc : List ℕ) (room : ℕ) (k : Kept) (w : Whole doc room k) →
 table-laid doc room k w = (λ i. layout (valueOf doc (w .table-head i) (w .table-inner i))) ∙ ap (λ f. layout (documentOf doc f)) (sym (w .is))
 
 -- The writer, given the words of the records kept, gives the layout of the document that they stand for, or 13.
-pub laid-is : (doc t w w′ o o′ : List ℕ) (records : ℕ) (answer : Out ℕ) → Bytes doc → GatheredIn doc t records → w ≡ take (8 * records) t
+pub laid-is : (doc t w w′ o o′ : List ℕ) (records : ℕ) (answer : Out ℕ) → Bytes doc → GatheredIn doc t records → w ≡ take (9 * records) t
     → WroteIs doc w w′ o answer o′ → LaidIs doc t o answer o′
 laid-is doc t w w′ o o′ records answer bytes g e h k is =
     let same : g .k ≡ k = cc (g .is, is) in
     let few = room-le (length t) in
     let whole = rescued-lawful doc bytes (roomOf (length t)) k few is in
-    let words = e ∙ g .words-are ∙ ap (λ (k : Kept). flat 0 (k .forest)) same ∙ ap (flat 0) (whole .is) in
+    let words = e ∙ g .words-are ∙ ap (λ (k : Kept). flat 0 0 (k .forest)) same ∙ ap (flat 0 0) (whole .is) in
     let gives = subst (λ u. WriteIs doc u o answer o′) words (h .is) .fit (whole .small) (whole .table) in
     subst (λ v. Gives v o answer o′)
     ((λ i. written doc (whole .table-head i) (whole .table-inner i) (length o)) ∙ rescued-written doc bytes (roomOf (length t)) k few is whole (length o))
     gives
 
 -- They form a table that has room, where the output has a byte for each of the document and of the lines.
-pub roomy-fits : (doc t w o : List ℕ) (records : ℕ) → Bytes doc → Roomy doc t records o → w ≡ take (8 * records) t → Fits doc w o
+pub roomy-fits : (doc t w o : List ℕ) (records : ℕ) → Bytes doc → Roomy doc t records o → w ≡ take (9 * records) t → Fits doc w o
 roomy-fits doc t w o records bytes g e =
     let k = g .gathered .k in
     let is = g .gathered .is in
     let whole = rescued-lawful doc bytes (roomOf (length t)) k (room-le (length t)) is in
-    let words = e ∙ g .gathered .words-are ∙ ap (flat 0) (whole .is) in
+    let words = e ∙ g .gathered .words-are ∙ ap (flat 0 0) (whole .is) in
     let long = ap length (table-laid doc (roomOf (length t)) k whole) in
     subst (λ u. Fits doc u o) (sym words)
     (record {
@@ -62,12 +62,12 @@ roomy-fits doc t w o records bytes g e =
     })
 
 -- What is put of them is the layout of what is kept.
-pub put-is : (doc t w o o′ : List ℕ) (records r : ℕ) → Bytes doc → GatheredIn doc t records → w ≡ take (8 * records) t
+pub put-is : (doc t w o o′ : List ℕ) (records r : ℕ) → Bytes doc → GatheredIn doc t records → w ≡ take (9 * records) t
     → PutIs doc w o o′ r → KeptPut doc t o o′ r
 put-is doc t w o o′ records r bytes g e h k is =
     let same : g .k ≡ k = cc (g .is, is) in
     let whole = rescued-lawful doc bytes (roomOf (length t)) k (room-le (length t)) is in
-    let words = e ∙ g .words-are ∙ ap (λ (k : Kept). flat 0 (k .forest)) same ∙ ap (flat 0) (whole .is) in
+    let words = e ∙ g .words-are ∙ ap (λ (k : Kept). flat 0 0 (k .forest)) same ∙ ap (flat 0 0) (whole .is) in
     let puts = subst (λ u. PutIs doc u o o′ r) words h (whole .table) in
     let laid = table-laid doc (roomOf (length t)) k whole in
     (omega (arith, puts .next, ap length laid), puts .is ∙ ap (over o 0) laid)
@@ -182,15 +182,15 @@ module _ (doc t o c : List ℕ) (records n : ℕ) (g : TightAsked doc t records 
 module _ (doc t t′ c d : List ℕ) (most n l : ℕ) (g : KeptIn doc t t′ c d most n l) where
   -- The table is as long as it was.
   same-table : length t′ ≡ length t
-  same-table = ap length (g .table) ∙ wrote-length t 0 (g .k .forest) (omega (arith, g .fits, g .records-are))
+  same-table = ap length (g .table) ∙ wrote-length t 0 0 (g .k .forest) (omega (arith, g .fits, g .records-are))
 
   -- The records gathered, as the layout wants them.
   gathered-in : GatheredIn doc t′ n
   unfolding wrote over
   gathered-in =
       let f = g .k .forest in
-      let words : 8 * n ≡ length (flat 0 f) = ap (λ n. 8 * n) (g .records-are) ∙ sym (flat-length 0 f) in
-      let first : take (length (flat 0 f)) (wrote t 0 f) ≡ flat 0 f = take-append-seam (flat 0 f) (drop (0 + length (flat 0 f)) t) in
+      let words : 9 * n ≡ length (flat 0 0 f) = ap (λ n. 9 * n) (g .records-are) ∙ sym (flat-length 0 0 f) in
+      let first : take (length (flat 0 0 f)) (wrote t 0 0 f) ≡ flat 0 0 f = take-append-seam (flat 0 0 f) (drop (0 + length (flat 0 0 f)) t) in
       record {
         k = g .k;
         is = ap (λ n. keptOf doc (roomOf n)) same-table ∙ g .is;

@@ -24,8 +24,8 @@ rescueOut (Answer.Refused n p c) = failed n p c
 pub record GatheredIn (doc t : List ℕ) (records : ℕ) : Type 0 where
   pub k : Kept
   pub is : keptOf doc (roomOf (length t)) ≡ got k
-  pub words-are : take (8 * records) t ≡ flat 0 (k .forest)
-  pub fits : 8 * records ≤ length t
+  pub words-are : take (9 * records) t ≡ flat 0 0 (k .forest)
+  pub fits : 9 * records ≤ length t
 
 -- The layout of what is kept, where there is room for it (13), and the output with it.
 abbrev pub LaidIs : List ℕ → List ℕ → List ℕ → Out ℕ → List ℕ → Type 0

@@ -63,7 +63,7 @@ module _ (doc t : List ℕ) (bytes : (i : ℕ) → getD doc i 0 < 256) (U : ℕ 
   twin-same : (a b : ℕ) → U a → U b → num (nameOf doc t a) ≡ num (nameOf doc t b) → same (nameOf doc t a) (nameOf doc t b) ≡ true
   unfolding nameOf
   twin-same a b ua ub e =
-      let q = num-same doc bytes (getD t (8 * a + 1) 0) (getD t (8 * a + 2) 0) (getD t (8 * b + 1) 0) (getD t (8 * b + 2) 0) (fit a ua .within) (fit b ub .within) e in
+      let q = num-same doc bytes (getD t (9 * a + 1) 0) (getD t (9 * a + 2) 0) (getD t (9 * b + 1) 0) (getD t (9 * b + 2) 0) (fit a ua .within) (fit b ub .within) e in
       rw q (same-self (nameOf doc t b))
 
   Says : Found → Type 0

@@ -112,7 +112,7 @@ pub wiped-start : (t : List ℕ) (from : ℕ) → Wiped t t from from
 unfolding Blank
 wiped-start t from = record { frame = agree-self t (λ z. (from ≤ z) × (z < from)); zero = λ z a b. absurd (omega arith) }
 
-pub wiped-next : (t₀ : List ℕ) (from : ℕ) (t : List ℕ) (k : ℕ) (t′ : List ℕ) → Wiped t₀ t from k → from ≤ k → 8 * k + 8 ≤ length t → t′ ≡ linked t k 0 → Wiped t₀ t′ from (k + 1)
+pub wiped-next : (t₀ : List ℕ) (from : ℕ) (t : List ℕ) (k : ℕ) (t′ : List ℕ) → Wiped t₀ t from k → from ≤ k → 9 * k + 9 ≤ length t → t′ ≡ linked t k 0 → Wiped t₀ t′ from (k + 1)
 unfolding Blank
 wiped-next t₀ from t k t′ w l h e = rw e (record {
   frame = agree-trans t₀ t (linked t k 0) (λ z. (from ≤ z) × (z < k)) (λ z. z ≡ k) (λ z. (from ≤ z) × (z < k + 1)) (w .frame) (linked-agree t k 0)
@@ -161,7 +161,7 @@ passed-next doc t i from k p e n j a b = go (eqb j k) refl
     go false f = p j a (omega (arith, b, eqb-false j k f))
 
 module _ (doc t : List ℕ) (from to : ℕ) (cs : Cells doc t from to) (k : ℕ) (a : from ≤ k) (b : k < to) where
-  pub probe-room : 8 * k + 8 ≤ length t
+  pub probe-room : 9 * k + 9 ≤ length t
   unfolding Cells
   probe-room = cs k a b .0
 
@@ -314,7 +314,7 @@ module _ (doc t₀ : List ℕ) (first stop last class : ℕ) (r : Ready doc t₀
         names-same : (w : ℕ) → Mem w (siblings t₀ stop stop first) → num (nameOf doc t₀ w) ≡ num (nameOf doc t₀ i) → nameOf doc t₀ w ≡ nameOf doc t₀ i
         unfolding nameOf
         names-same w m e =
-            num-same doc bytes (getD t₀ (8 * w + 1) 0) (getD t₀ (8 * w + 2) 0) (getD t₀ (8 * i + 1) 0) (getD t₀ (8 * i + 2) 0)
+            num-same doc bytes (getD t₀ (9 * w + 1) 0) (getD t₀ (9 * w + 2) 0) (getD t₀ (9 * i + 1) 0) (getD t₀ (9 * i + 2) 0)
             (r .family .fit w m .within) (r .family .fit i here .within) e
 
         alone : Again doc t₀ (λ w. Mem w (siblings t₀ stop stop first)) i → markAt doc t₀ i % 2 ≡ class → ⊥
@@ -331,7 +331,7 @@ module _ (doc t₀ : List ℕ) (first stop last class : ℕ) (r : Ready doc t₀
                 (ap (λ y. num (nameOf doc t y)) (s .is) ∙ ap num (name-same (a .w)) ∙ a .twins ∙ sym (ap num (name-same i)))
             go s g false u = s .filled k (omega (arith, g, o .low)) (ltb-false (s .k) k u) (o .empty)
 
-        room : 8 * k + 8 ≤ length t
+        room : 9 * k + 9 ≤ length t
         room = omega (arith, r .room, f .frame .len, o .high)
 
         full : (j : ℕ) → (j ≡ k) ⊎ (link t j ≡ 0 → ⊥) → link (linked t k i) j ≡ 0 → ⊥

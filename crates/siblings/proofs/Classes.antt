@@ -46,7 +46,7 @@ module _ (doc t : List ℕ) (first stop : ℕ) (fam : Family doc t first stop) w
   fresh-alone bytes i f a =
       f (a .w) (a .there) (a .earlier)
       (ap classOf
-      (num-same doc bytes (getD t (8 * a .w + 1) 0) (getD t (8 * a .w + 2) 0) (getD t (8 * i + 1) 0) (getD t (8 * i + 2) 0)
+      (num-same doc bytes (getD t (9 * a .w + 1) 0) (getD t (9 * a .w + 2) 0) (getD t (9 * i + 1) 0) (getD t (9 * i + 2) 0)
       (fam .fit (a .w) (a .there) .within) (fam .fit i (a .here) .within) (a .twins)))
 
   -- the classes of the records before record i are marked

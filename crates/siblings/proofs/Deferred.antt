@@ -113,32 +113,32 @@ module _ (doc : List ℕ) (read : Reader) (whole : Out Run) (fuel : ℕ) (acc : 
             (sym (assoc (namesOnce doc none acc) (got tt) (after (acc ⊕ node (x .head) (x .inner) none) rest)))
 
 -- with what is written
-pub record Going (doc : List ℕ) (whole left : Out Run) (acc : Forest) (t₀ t : List ℕ) (n₀ n done : ℕ) : Type 0 where
+pub record Going (doc : List ℕ) (whole left : Out Run) (acc : Forest) (t₀ t : List ℕ) (above n₀ n done : ℕ) : Type 0 where
   pub deferred : Deferred doc whole left acc
   pub n-is : n ≡ n₀ + size acc
   pub done-is : done ≡ width acc
-  pub table : t ≡ wrote t₀ n₀ acc
+  pub table : t ≡ wrote t₀ above n₀ acc
   pub names : NamesIn (length doc) acc
   pub free : Free acc
 
-pub going-start : (doc : List ℕ) (whole : Out Run) (t : List ℕ) (n : ℕ) → Going doc whole whole none t t n n 0
+pub going-start : (doc : List ℕ) (whole : Out Run) (t : List ℕ) (above n : ℕ) → Going doc whole whole none t t above n n 0
 unfolding size width
-going-start doc whole t n =
-    record { deferred = deferred-start doc whole; n-is = omega arith; done-is = refl; table = sym (wrote-none t n); names = names-none (length doc); free = free-none }
+going-start doc whole t above n =
+    record { deferred = deferred-start doc whole; n-is = omega arith; done-is = refl; table = sym (wrote-none t above n); names = names-none (length doc); free = free-none }
 
-module _ {doc : List ℕ} {whole left : Out Run} {acc : Forest} {t₀ t : List ℕ} {n₀ n done : ℕ} (g : Going doc whole left acc t₀ t n₀ n done) where
-  pub going-length : 8 * n ≤ length t₀ → length t ≡ length t₀
-  going-length h = rw (g .table) (wrote-length t₀ n₀ acc (rw (← g .n-is) h))
+module _ {doc : List ℕ} {whole left : Out Run} {acc : Forest} {t₀ t : List ℕ} {above n₀ n done : ℕ} (g : Going doc whole left acc t₀ t above n₀ n done) where
+  pub going-length : 9 * n ≤ length t₀ → length t ≡ length t₀
+  going-length h = rw (g .table) (wrote-length t₀ above n₀ acc (rw (← g .n-is) h))
 
   pub going-next : (x : One) (rest : Out Run) (t′ : List ℕ) (n′ done′ : ℕ) → Deferred doc whole rest (acc ⊕ node (x .head) (x .inner) none)
-      → t′ ≡ wrote t n (node (x .head) (x .inner) none) → n′ ≡ n + 1 + size (x .inner) → done′ ≡ done + 1 → 8 * n ≤ length t₀
+      → t′ ≡ wrote t above n (node (x .head) (x .inner) none) → n′ ≡ n + 1 + size (x .inner) → done′ ≡ done + 1 → 9 * n ≤ length t₀
       → x .head .name + x .head .name-length ≤ length doc → spare (x .head) ≡ 0
-      → Going doc whole rest (acc ⊕ node (x .head) (x .inner) none) t₀ t′ n₀ n′ done′
+      → Going doc whole rest (acc ⊕ node (x .head) (x .inner) none) t₀ t′ above n₀ n′ done′
   going-next x rest t′ n′ done′ d w i q h nm fr = record {
     deferred = d;
     n-is = omega (arith, g .n-is, size-append acc (node (x .head) (x .inner) none), size-one (x .head) (x .inner));
     done-is = omega (arith, g .done-is, width-append acc (node (x .head) (x .inner) none), width-one (x .head) (x .inner));
-    table = w ∙ rw (g .table, g .n-is) (wrote-next t₀ n₀ acc (node (x .head) (x .inner) none) (rw (← g .n-is) h));
+    table = w ∙ rw (g .table, g .n-is) (wrote-next t₀ above n₀ acc (node (x .head) (x .inner) none) (rw (← g .n-is) h));
     names = names-more (length doc) acc (x .head) (x .inner) (g .names) nm;
     free = free-more acc (x .head) (x .inner) (g .free) fr;
   }

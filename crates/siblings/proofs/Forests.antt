@@ -52,7 +52,7 @@ has-more doc n (node g i later) h inner =
 
 module _ (doc t : List ℕ) (first stop : ℕ) (o : Holds (length doc) t first stop) where
   module _ (done : Forest) (h : Head) (inner later : Forest) (i : ℕ) (e : o .acc ≡ done ⊕ node h inner later) (s : i ≡ first + size done) where
-    word : (k : ℕ) → k < 8 → getD t (8 * i + k) 0 ≡ getD (words h (i + 1 + size inner)) k 0
+    word : (k : ℕ) → k < 9 → getD t (9 * i + k) 0 ≡ getD (words h (i + 1 + size inner) (o .parent)) k 0
     word = words-at (length doc) t first stop o done h inner later i e s
 
     end : endOf t i ≡ i + 1 + size inner
@@ -62,8 +62,8 @@ module _ (doc t : List ℕ) (first stop : ℕ) (o : Holds (length doc) t first s
     unfolding nameOf
     name-is = rw (word 1 (omega arith), word 2 (omega arith)) refl
 
-    kind-is : getD t (8 * i) 0 ≡ h .kind
-    kind-is = ap (λ p. getD t p 0) (let q : 8 * i ≡ 8 * i + 0 = omega arith in q) ∙ word 0 (omega arith)
+    kind-is : getD t (9 * i) 0 ≡ h .kind
+    kind-is = ap (λ p. getD t p 0) (let q : 9 * i ≡ 9 * i + 0 = omega arith in q) ∙ word 0 (omega arith)
 
     below : i < stop
     unfolding size
@@ -81,11 +81,11 @@ module _ (doc t : List ℕ) (first stop : ℕ) (o : Holds (length doc) t first s
     unfolding link slotOf
     free-link z = rw (slotOf, kind-is) (go (holds (h .kind)) z)
       where
-        go : (b : Bool) → _≡_ {A = ℕ} (elim b [ true ↦ h .start | false ↦ h .list-kind ]) 0 → getD t (elim b [ true ↦ 8 * i + 3 | false ↦ 8 * i + 6 ]) 0 ≡ 0
+        go : (b : Bool) → _≡_ {A = ℕ} (elim b [ true ↦ h .start | false ↦ h .list-kind ]) 0 → getD t (elim b [ true ↦ 9 * i + 3 | false ↦ 9 * i + 6 ]) 0 ≡ 0
         go true q = word 3 (omega arith) ∙ q
         go false q = word 6 (omega arith) ∙ q
 
-    fits : stop < 4294967296 → 8 * stop ≤ length t → h .name + h .name-length ≤ length doc → Fit doc t i
+    fits : stop < 4294967296 → 9 * stop ≤ length t → h .name + h .name-length ≤ length doc → Fit doc t i
     fits u v w = record {
       room = omega (arith, below, v);
       within = omega (arith, word 1 (omega arith), word 2 (omega arith), w);
@@ -123,7 +123,7 @@ module _ (doc t : List ℕ) (first stop : ℕ) (o : Holds (length doc) t first s
   every P f r z m = each P f (o .acc) none first refl (omega arith) (o .names) r z (subst (λ l. Mem z l) all m)
 
   -- the requires of `first_repeat`
-  pub family-of : Free (o .acc) → stop < 4294967296 → 8 * stop ≤ length t → Family doc t first stop
+  pub family-of : Free (o .acc) → stop < 4294967296 → 9 * stop ≤ length t → Family doc t first stop
   family-of r u v = record {
     small = u;
     fit = every (λ z. Fit doc t z) (λ done h inner later i e s w q. fits done h inner later i e s u v w) r;
@@ -176,9 +176,9 @@ module _ (doc t : List ℕ) (first stop : ℕ) (o : Holds (length doc) t first s
   once-of = once (o .acc) none first refl (omega arith) ∙ ap (refusalOf t) (sym repeat-of)
 
 -- the place that the code answers
-pub place-is : (doc t t′ : List ℕ) (first stop k w r : ℕ) → firstRepeat doc t first stop ≡ Found.At k → t′ ≡ t → w ≡ getD t′ (8 * k + 1) 0 → r ≡ w - 3
+pub place-is : (doc t t′ : List ℕ) (first stop k w r : ℕ) → firstRepeat doc t first stop ≡ Found.At k → t′ ≡ t → w ≡ getD t′ (9 * k + 1) 0 → r ≡ w - 3
     → placeOut (Found.At r) ≡ refusalOf t (firstRepeat doc t first stop)
-place-is doc t t′ first stop k w r e f g h = rw e (ap (λ x. no 6 x) (h ∙ ap (λ x. x - 3) (g ∙ ap (λ l. getD l (8 * k + 1) 0) f)))
+place-is doc t t′ first stop k w r e f g h = rw e (ap (λ x. no 6 x) (h ∙ ap (λ x. x - 3) (g ∙ ap (λ l. getD l (9 * k + 1) 0) f)))
 
 pub place-none : (doc t : List ℕ) (first stop : ℕ) → firstRepeat doc t first stop ≡ Found.Nothing → placeOut Found.Nothing ≡ refusalOf t (firstRepeat doc t first stop)
 place-none doc t first stop e = rw e refl

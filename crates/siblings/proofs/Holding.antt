@@ -20,37 +20,37 @@ use Rattle.form.proofs.Table.{size-none, size-append, append-append, flat-lengt
 -- ---- the names in a table
 
 -- a word of a record in a table
-flat-words : (m : ℕ) (h : Head) (inner later : Forest) (d : List ℕ)
-    → flat m (node h inner later) ++ d ≡ words h (m + 1 + size inner) ++ ((flat (m + 1) inner ++ flat (m + 1 + size inner) later) ++ d)
+flat-words : (p m : ℕ) (h : Head) (inner later : Forest) (d : List ℕ)
+    → flat p m (node h inner later) ++ d ≡ words h (m + 1 + size inner) p ++ ((flat m (m + 1) inner ++ flat p (m + 1 + size inner) later) ++ d)
 unfolding flat
-flat-words m h inner later d = refl
+flat-words p m h inner later d = refl
 
-pub wrote-word : (t : List ℕ) (n : ℕ) (f : Forest) (h : Head) (inner later : Forest) → 8 * n ≤ length t → (k : ℕ) → k < 8
-    → getD (wrote t n (f ⊕ node h inner later)) (8 * (n + size f) + k) 0 ≡ getD (words h (n + size f + 1 + size inner)) k 0
+pub wrote-word : (t : List ℕ) (p n : ℕ) (f : Forest) (h : Head) (inner later : Forest) → 9 * n ≤ length t → (k : ℕ) → k < 9
+    → getD (wrote t p n (f ⊕ node h inner later)) (9 * (n + size f) + k) 0 ≡ getD (words h (n + size f + 1 + size inner) p) k 0
 unfolding wrote over
-wrote-word t n f h inner later fits k l =
-    let e : 8 * (n + size f) + k ≡ length (take (8 * n) t) + (length (flat n f) + k) = omega (arith, length-take-le (8 * n) t fits, flat-length n f) in
+wrote-word t p n f h inner later fits k l =
+    let e : 9 * (n + size f) + k ≡ length (take (9 * n) t) + (length (flat p n f) + k) = omega (arith, length-take-le (9 * n) t fits, flat-length p n f) in
     let m = n + size f in
-    let g = flat m (node h inner later) in
-    let d = drop (8 * n + length (flat n f ++ g)) t in
-    let r = (flat (m + 1) inner ++ flat (m + 1 + size inner) later) ++ d in
+    let g = flat p m (node h inner later) in
+    let d = drop (9 * n + length (flat p n f ++ g)) t in
+    let r = (flat m (m + 1) inner ++ flat p (m + 1 + size inner) later) ++ d in
     rw (
-      flat-append n f (node h inner later),
+      flat-append p n f (node h inner later),
       e,
-      getD-append-add (take (8 * n) t) ((flat n f ++ g) ++ d) (length (flat n f) + k) 0,
-      append-assoc (flat n f) g d,
-      getD-append-add (flat n f) (g ++ d) k 0,
-      flat-words m h inner later d,
-      List·getD-append (words h (m + 1 + size inner)) r 0 k l,
+      getD-append-add (take (9 * n) t) ((flat p n f ++ g) ++ d) (length (flat p n f) + k) 0,
+      append-assoc (flat p n f) g d,
+      getD-append-add (flat p n f) (g ++ d) k 0,
+      flat-words p m h inner later d,
+      List·getD-append (words h (m + 1 + size inner) p) r 0 k l,
     )
     refl
 
 pub words-at : (bytes : ℕ) (t : List ℕ) (n to : ℕ) (o : Holds bytes t n to) (done : Forest) (h : Head) (inner later : Forest) (i : ℕ)
-    → o .acc ≡ done ⊕ node h inner later → i ≡ n + size done → (k : ℕ) → k < 8 → getD t (8 * i + k) 0 ≡ getD (words h (i + 1 + size inner)) k 0
+    → o .acc ≡ done ⊕ node h inner later → i ≡ n + size done → (k : ℕ) → k < 9 → getD t (9 * i + k) 0 ≡ getD (words h (i + 1 + size inner) (o .parent)) k 0
 words-at bytes t n to o done h inner later i e s k b =
     rw (o .is, e)
-    (subst (λ j. getD (wrote (o .base) n (done ⊕ node h inner later)) (8 * j + k) 0 ≡ getD (words h (j + 1 + size inner)) k 0) (sym s)
-    (wrote-word (o .base) n done h inner later (omega (arith, o .fits, o .to)) k b))
+    (subst (λ j. getD (wrote (o .base) (o .parent) n (done ⊕ node h inner later)) (9 * j + k) 0 ≡ getD (words h (j + 1 + size inner) (o .parent)) k 0) (sym s)
+    (wrote-word (o .base) (o .parent) n done h inner later (omega (arith, o .fits, o .to)) k b))
 
 -- a record among those side by side, where some are left
 pub record At (bytes : ℕ) (t : List ℕ) (i to : ℕ) (acc done : Forest) : Type 0 where
@@ -58,9 +58,9 @@ pub record At (bytes : ℕ) (t : List ℕ) (i to : ℕ) (acc done : Forest) : Ty
   pub inner : Forest
   pub later : Forest
   pub split : acc ≡ (done ⊕ node head inner none) ⊕ later
-  pub name : getD t (8 * i + 1) 0 ≡ head .name
-  pub len : getD t (8 * i + 2) 0 ≡ head .name-length
-  pub end : getD t (8 * i + 7) 0 ≡ i + 1 + size inner
+  pub name : getD t (9 * i + 1) 0 ≡ head .name
+  pub len : getD t (9 * i + 2) 0 ≡ head .name-length
+  pub end : getD t (9 * i + 7) 0 ≡ i + 1 + size inner
   pub within : head .name + head .name-length ≤ bytes
   pub rest : NamesIn bytes later
 
@@ -81,7 +81,7 @@ at-record bytes t n to o done (node h inner later) i e s l w = record {
   rest = w .1;
 }
   where
-    word : (k : ℕ) → k < 8 → getD t (8 * i + k) 0 ≡ getD (words h (i + 1 + size inner)) k 0
+    word : (k : ℕ) → k < 9 → getD t (9 * i + k) 0 ≡ getD (words h (i + 1 + size inner) (o .parent)) k 0
     word = words-at bytes t n to o done h inner later i e s
 
 -- ---- one turn of the search
@@ -92,13 +92,13 @@ module _ (doc t : List ℕ) (i to : ℕ) (name : List ℕ) where
   among-none zero h = refl
   among-none (suc fuel) h = rw (among, le-ltb i to h) refl
 
-  pub among-hit : (fuel : ℕ) → 0 < fuel → i < to → same (part doc (getD t (8 * i + 1) 0) (getD t (8 * i + 2) 0)) name ≡ true → among doc t fuel i to name ≡ true
+  pub among-hit : (fuel : ℕ) → 0 < fuel → i < to → same (part doc (getD t (9 * i + 1) 0) (getD t (9 * i + 2) 0)) name ≡ true → among doc t fuel i to name ≡ true
   unfolding among
   among-hit zero h l e = absurd (omega arith)
   among-hit (suc fuel) h l e = rw (among, lt-ltb i to l, e) refl
 
-  pub among-miss : (fuel : ℕ) → 0 < fuel → i < to → same (part doc (getD t (8 * i + 1) 0) (getD t (8 * i + 2) 0)) name ≡ false
-      → among doc t fuel i to name ≡ among doc t (fuel - 1) (getD t (8 * i + 7) 0) to name
+  pub among-miss : (fuel : ℕ) → 0 < fuel → i < to → same (part doc (getD t (9 * i + 1) 0) (getD t (9 * i + 2) 0)) name ≡ false
+      → among doc t fuel i to name ≡ among doc t (fuel - 1) (getD t (9 * i + 7) 0) to name
   unfolding among
   among-miss zero h l e = absurd (omega arith)
   among-miss (suc fuel) h l e = rw (sub-one (suc fuel), among, lt-ltb i to l, e) refl
@@ -110,19 +110,19 @@ module _ (doc t : List ℕ) (n to : ℕ) (o : Holds (length doc) t n to) (name :
   search-from none done fuel i e s l = among-none doc t i to name fuel (omega (arith, o .to, ap size e, size-append done none))
   search-from (node h inner later) done fuel i e s l =
       go (same (part doc (h .name) (h .name-length)) name) refl
-      (search-from later (done ⊕ node h inner none) (fuel - 1) (getD t (8 * i + 7) 0) (e ∙ sym (append-append done (node h inner none) later))
+      (search-from later (done ⊕ node h inner none) (fuel - 1) (getD t (9 * i + 7) 0) (e ∙ sym (append-append done (node h inner none) later))
       (omega (arith, word 7 (omega arith), size-append done (node h inner none))) (omega (arith, word 7 (omega arith), below)))
     where
-      word : (k : ℕ) → k < 8 → getD t (8 * i + k) 0 ≡ getD (words h (i + 1 + size inner)) k 0
+      word : (k : ℕ) → k < 9 → getD t (9 * i + k) 0 ≡ getD (words h (i + 1 + size inner) (o .parent)) k 0
       word = words-at (length doc) t n to o done h inner later i e s
 
       below : i < to
       below = omega (arith, o .to, ap size e, size-append done (node h inner later))
 
-      here : same (part doc (getD t (8 * i + 1) 0) (getD t (8 * i + 2) 0)) name ≡ same (part doc (h .name) (h .name-length)) name
+      here : same (part doc (getD t (9 * i + 1) 0) (getD t (9 * i + 2) 0)) name ≡ same (part doc (h .name) (h .name-length)) name
       here = rw (word 1 (omega arith), word 2 (omega arith)) refl
 
-      go : (b : Bool) → same (part doc (h .name) (h .name-length)) name ≡ b → among doc t (fuel - 1) (getD t (8 * i + 7) 0) to name ≡ hasName doc name later
+      go : (b : Bool) → same (part doc (h .name) (h .name-length)) name ≡ b → among doc t (fuel - 1) (getD t (9 * i + 7) 0) to name ≡ hasName doc name later
           → among doc t fuel i to name ≡ (same (part doc (h .name) (h .name-length)) name || hasName doc name later)
       go true f rest = among-hit doc t i to name fuel (omega (arith, l, below)) below (here ∙ f) ∙ sym (rw f refl)
       go false f rest = among-miss doc t i to name fuel (omega (arith, l, below)) below (here ∙ f) ∙ rest ∙ sym (rw f refl)
@@ -166,16 +166,16 @@ module _ {doc t : List ℕ} {from to : ℕ} {name : List ℕ} {i : ℕ} (s : See
     at : At (length doc) t i to (s .o .acc) (s .done)
     at = at-record (length doc) t from to (s .o) (s .done) (s .rest) i (s .split) (s .i-is) l (s .names)
 
-    pub seek-within : getD t (8 * i + 1) 0 + getD t (8 * i + 2) 0 ≤ length doc
+    pub seek-within : getD t (9 * i + 1) 0 + getD t (9 * i + 2) 0 ≤ length doc
     seek-within = omega (arith, at .name, at .len, at .within)
 
-    pub seek-on : i < getD t (8 * i + 7) 0
+    pub seek-on : i < getD t (9 * i + 7) 0
     seek-on = omega (arith, at .end)
 
-    pub seek-hit : same (part doc (getD t (8 * i + 1) 0) (getD t (8 * i + 2) 0)) name ≡ true → among doc t (suc to) from to name ≡ true
+    pub seek-hit : same (part doc (getD t (9 * i + 1) 0) (getD t (9 * i + 2) 0)) name ≡ true → among doc t (suc to) from to name ≡ true
     seek-hit e = s .is ∙ among-hit doc t i to name (s .fuel) (omega (arith, s .enough)) l e
 
-    pub seek-next : same (part doc (getD t (8 * i + 1) 0) (getD t (8 * i + 2) 0)) name ≡ false → Seek doc t from to name (getD t (8 * i + 7) 0)
+    pub seek-next : same (part doc (getD t (9 * i + 1) 0) (getD t (9 * i + 2) 0)) name ≡ false → Seek doc t from to name (getD t (9 * i + 7) 0)
     unfolding size
     seek-next e = record {
       o = s .o;

@@ -18,17 +18,17 @@ use Rattle.form.proofs.Answer.{bind-got, guard-got}
 use Rattle.siblings.specs.Forests.{spare, Free}
 
 -- the words before the records written
-pub wrote-kept : (t : List ℕ) (n : ℕ) (f : Forest) → 8 * n ≤ length t → take (8 * n) (wrote t n f) ≡ take (8 * n) t
+pub wrote-kept : (t : List ℕ) (p n : ℕ) (f : Forest) → 9 * n ≤ length t → take (9 * n) (wrote t p n f) ≡ take (9 * n) t
 unfolding wrote over
-wrote-kept t n f h = take-at (take (8 * n) t) (flat n f ++ drop (8 * n + length (flat n f)) t) (8 * n) (length-take-le (8 * n) t h)
+wrote-kept t p n f h = take-at (take (9 * n) t) (flat p n f ++ drop (9 * n + length (flat p n f)) t) (9 * n) (length-take-le (9 * n) t h)
 
 -- and so the words before those
-pub kept-less : (t t′ : List ℕ) (m n : ℕ) → m ≤ n → take (8 * n) t′ ≡ take (8 * n) t → take (8 * m) t′ ≡ take (8 * m) t
-kept-less t t′ m n h e = sym (take-take (8 * m) (8 * n) t′ (omega arith)) ∙ ap (take (8 * m)) e ∙ take-take (8 * m) (8 * n) t (omega arith)
+pub kept-less : (t t′ : List ℕ) (m n : ℕ) → m ≤ n → take (9 * n) t′ ≡ take (9 * n) t → take (9 * m) t′ ≡ take (9 * m) t
+kept-less t t′ m n h e = sym (take-take (9 * m) (9 * n) t′ (omega arith)) ∙ ap (take (9 * m)) e ∙ take-take (9 * m) (9 * n) t (omega arith)
 
 -- records were written from record n on, and then the words before record n′ kept: those before n are
-pub kept-from : (t t₁ t₂ : List ℕ) (n n′ : ℕ) (f : Forest) → t₁ ≡ wrote t n f → n′ ≡ n + size f → 8 * n ≤ length t → take (8 * n′) t₂ ≡ take (8 * n′) t₁ → take (8 * n) t₂ ≡ take (8 * n) t
-kept-from t t₁ t₂ n n′ f w i h e = kept-less t₁ t₂ n n′ (omega arith) e ∙ ap (take (8 * n)) w ∙ wrote-kept t n f h
+pub kept-from : (t t₁ t₂ : List ℕ) (p n n′ : ℕ) (f : Forest) → t₁ ≡ wrote t p n f → n′ ≡ n + size f → 9 * n ≤ length t → take (9 * n′) t₂ ≡ take (9 * n′) t₁ → take (9 * n) t₂ ≡ take (9 * n) t
+kept-from t t₁ t₂ p n n′ f w i h e = kept-less t₁ t₂ n n′ (omega arith) e ∙ ap (take (9 * n)) w ∙ wrote-kept t p n f h
 
 -- a list whose front is that of one written over is written over itself
 over-at : (t t′ base : List ℕ) (i j : ℕ) (ws : List ℕ) → t ≡ over base i ws → j ≡ i + length ws → j ≤ length base → take j t′ ≡ take j t → t′ ≡ over t′ i ws
@@ -55,24 +55,25 @@ over-at t t′ base i j ws w p h e =
     head : take i t′ ≡ take i base
     head = sym (take-take i j t′ (omega arith)) ∙ ap (take i) front ∙ take-at (take i base) ws i la
 
-pub kept-wrote : (t t′ base : List ℕ) (n n′ : ℕ) (f : Forest) → t ≡ wrote base n f → n′ ≡ n + size f → 8 * n′ ≤ length base → take (8 * n′) t′ ≡ take (8 * n′) t → t′ ≡ wrote t′ n f
+pub kept-wrote : (t t′ base : List ℕ) (p n n′ : ℕ) (f : Forest) → t ≡ wrote base p n f → n′ ≡ n + size f → 9 * n′ ≤ length base → take (9 * n′) t′ ≡ take (9 * n′) t → t′ ≡ wrote t′ p n f
 unfolding wrote
-kept-wrote t t′ base n n′ f w i h e = over-at t t′ base (8 * n) (8 * n′) (flat n f) w (omega (arith, i, flat-length n f)) h e
+kept-wrote t t′ base p n n′ f w i h e = over-at t t′ base (9 * n) (9 * n′) (flat p n f) w (omega (arith, i, flat-length p n f)) h e
 
 -- records that stand in the words kept
-pub holds-kept : (bytes : ℕ) (t t′ : List ℕ) (n n′ : ℕ) → Holds bytes t n n′ → length t′ ≡ length t → take (8 * n′) t′ ≡ take (8 * n′) t → Holds bytes t′ n n′
+pub holds-kept : (bytes : ℕ) (t t′ : List ℕ) (n n′ : ℕ) → Holds bytes t n n′ → length t′ ≡ length t → take (9 * n′) t′ ≡ take (9 * n′) t → Holds bytes t′ n n′
 unfolding wrote
 holds-kept bytes t t′ n n′ o len e = record {
   acc = o .acc;
   base = t′;
+  parent = o .parent;
   is = there;
   to = o .to;
-  fits = omega (arith, o .fits, len, ap length (o .is), wrote-length (o .base) n (o .acc) (omega (arith, o .fits, o .to)));
+  fits = omega (arith, o .fits, len, ap length (o .is), wrote-length (o .base) (o .parent) n (o .acc) (omega (arith, o .fits, o .to)));
   names = o .names;
 }
   where
-    there : t′ ≡ wrote t′ n (o .acc)
-    there = over-at t t′ (o .base) (8 * n) (8 * n′) (flat n (o .acc)) (o .is) (omega (arith, o .to, flat-length n (o .acc))) (o .fits) e
+    there : t′ ≡ wrote t′ (o .parent) n (o .acc)
+    there = over-at t t′ (o .base) (9 * n) (9 * n′) (flat (o .parent) n (o .acc)) (o .is) (omega (arith, o .to, flat-length (o .parent) n (o .acc))) (o .fits) e
 
 -- ---- the words for links
 

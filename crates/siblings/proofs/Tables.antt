@@ -15,45 +15,45 @@ use Rattle.siblings.specs.Names.{nameOf, endOf}
 use Rattle.siblings.specs.Links.{num, rank, slotOf, link, linked, Mem, walk, past, Agree, Fit}
 use Rattle.siblings.proofs.Walks.{walk-ext}
 
-pub slot-range : (t : List ℕ) (i : ℕ) → (8 * i + 3 ≤ slotOf t i) × (slotOf t i ≤ 8 * i + 6)
+pub slot-range : (t : List ℕ) (i : ℕ) → (9 * i + 3 ≤ slotOf t i) × (slotOf t i ≤ 9 * i + 6)
 unfolding slotOf
-slot-range t i = go (eqb (getD t (8 * i) 0) 9 || eqb (getD t (8 * i) 0) 10)
+slot-range t i = go (eqb (getD t (9 * i) 0) 9 || eqb (getD t (9 * i) 0) 10)
   where
-    go : (b : Bool) → (8 * i + 3 ≤ elim b [ true ↦ 8 * i + 3 | false ↦ 8 * i + 6 ]) × (elim b [ true ↦ 8 * i + 3 | false ↦ 8 * i + 6 ] ≤ 8 * i + 6)
+    go : (b : Bool) → (9 * i + 3 ≤ elim b [ true ↦ 9 * i + 3 | false ↦ 9 * i + 6 ]) × (elim b [ true ↦ 9 * i + 3 | false ↦ 9 * i + 6 ] ≤ 9 * i + 6)
     go true = (omega arith, omega arith)
     go false = (omega arith, omega arith)
 
-pub slot-held : (t : List ℕ) (i : ℕ) → getD t (8 * i) 0 ≡ 9 → 8 * i + 3 ≡ slotOf t i
+pub slot-held : (t : List ℕ) (i : ℕ) → getD t (9 * i) 0 ≡ 9 → 9 * i + 3 ≡ slotOf t i
 unfolding slotOf
-slot-held t i h = rw (slotOf, eq-eqb (getD t (8 * i) 0) 9 h) refl
+slot-held t i h = rw (slotOf, eq-eqb (getD t (9 * i) 0) 9 h) refl
 
-pub slot-held2 : (t : List ℕ) (i : ℕ) → (getD t (8 * i) 0 ≡ 9 → ⊥) → getD t (8 * i) 0 ≡ 10 → 8 * i + 3 ≡ slotOf t i
+pub slot-held2 : (t : List ℕ) (i : ℕ) → (getD t (9 * i) 0 ≡ 9 → ⊥) → getD t (9 * i) 0 ≡ 10 → 9 * i + 3 ≡ slotOf t i
 unfolding slotOf
-slot-held2 t i n h = rw (slotOf, ne-eqb (getD t (8 * i) 0) 9 n, eq-eqb (getD t (8 * i) 0) 10 h) refl
+slot-held2 t i n h = rw (slotOf, ne-eqb (getD t (9 * i) 0) 9 n, eq-eqb (getD t (9 * i) 0) 10 h) refl
 
-pub slot-plain : (t : List ℕ) (i : ℕ) → (getD t (8 * i) 0 ≡ 9 → ⊥) → (getD t (8 * i) 0 ≡ 10 → ⊥) → 8 * i + 6 ≡ slotOf t i
+pub slot-plain : (t : List ℕ) (i : ℕ) → (getD t (9 * i) 0 ≡ 9 → ⊥) → (getD t (9 * i) 0 ≡ 10 → ⊥) → 9 * i + 6 ≡ slotOf t i
 unfolding slotOf
-slot-plain t i n h = rw (slotOf, ne-eqb (getD t (8 * i) 0) 9 n, ne-eqb (getD t (8 * i) 0) 10 h) refl
+slot-plain t i n h = rw (slotOf, ne-eqb (getD t (9 * i) 0) 9 n, ne-eqb (getD t (9 * i) 0) 10 h) refl
 
 -- a record's kind, as the code reads it
-pub kind-is : (t : List ℕ) (i r : ℕ) → r ≡ getD t (8 * i + 0) 0 → getD t (8 * i) 0 ≡ r
-kind-is t i r e = ap (λ k. getD t k 0) (let q : 8 * i ≡ 8 * i + 0 = omega arith in q) ∙ sym e
+pub kind-is : (t : List ℕ) (i r : ℕ) → r ≡ getD t (9 * i + 0) 0 → getD t (9 * i) 0 ≡ r
+kind-is t i r e = ap (λ k. getD t k 0) (let q : 9 * i ≡ 9 * i + 0 = omega arith in q) ∙ sym e
 
 -- ---- tables that agree but for links
 
 module _ (t₀ t : List ℕ) (U : ℕ → Type 0) (g : Agree t₀ t U) where
-  low : (j k : ℕ) → k ≤ 2 → getD t (8 * j + k) 0 ≡ getD t₀ (8 * j + k) 0
-  low j k h = g .at (8 * j + k) (λ i u e. omega (arith, slot-range t₀ i))
+  low : (j k : ℕ) → k ≤ 2 → getD t (9 * j + k) 0 ≡ getD t₀ (9 * j + k) 0
+  low j k h = g .at (9 * j + k) (λ i u e. omega (arith, slot-range t₀ i))
 
   pub agree-end : (j : ℕ) → endOf t j ≡ endOf t₀ j
-  agree-end j = g .at (8 * j + 7) (λ i u e. omega (arith, slot-range t₀ i))
+  agree-end j = g .at (9 * j + 7) (λ i u e. omega (arith, slot-range t₀ i))
 
-  kind : (j : ℕ) → getD t (8 * j) 0 ≡ getD t₀ (8 * j) 0
-  kind j = g .at (8 * j) (λ i u e. omega (arith, slot-range t₀ i))
+  kind : (j : ℕ) → getD t (9 * j) 0 ≡ getD t₀ (9 * j) 0
+  kind j = g .at (9 * j) (λ i u e. omega (arith, slot-range t₀ i))
 
   pub agree-slot : (j : ℕ) → slotOf t j ≡ slotOf t₀ j
   unfolding slotOf
-  agree-slot j = ap {B = ℕ} (λ k. elim (eqb k 9 || eqb k 10) [ true ↦ 8 * j + 3 | false ↦ 8 * j + 6 ]) (kind j)
+  agree-slot j = ap {B = ℕ} (λ k. elim (eqb k 9 || eqb k 10) [ true ↦ 9 * j + 3 | false ↦ 9 * j + 6 ]) (kind j)
 
   pub agree-name : (doc : List ℕ) (j : ℕ) → nameOf doc t j ≡ nameOf doc t₀ j
   unfolding nameOf
@@ -105,11 +105,11 @@ module _ (t : List ℕ) (i v : ℕ) where
   pub linked-other : (j : ℕ) → (j ≡ i → ⊥) → link (linked t i v) j ≡ link t j
   linked-other j n = agree-link t (linked t i v) (λ z. z ≡ i) linked-agree j n
 
-  slot-set : 8 * i + 8 ≤ length t → getD (linked t i v) (slotOf t i) 0 ≡ v
+  slot-set : 9 * i + 9 ≤ length t → getD (linked t i v) (slotOf t i) 0 ≡ v
   unfolding linked
   slot-set h = getD-set-same t (slotOf t i) v 0 (omega (arith, slot-range t i))
 
-  pub linked-same : 8 * i + 8 ≤ length t → link (linked t i v) i ≡ v
+  pub linked-same : 9 * i + 9 ≤ length t → link (linked t i v) i ≡ v
   unfolding link
   linked-same h = rw (agree-slot t (linked t i v) (λ z. z ≡ i) linked-agree i) (slot-set h)
 
@@ -119,7 +119,7 @@ module _ (t : List ℕ) (i v : ℕ) where
       sym (walk-ext (link t) (link (linked t i v)) n a (λ z m. sym (linked-other z (λ e. h (subst (λ w. Mem w (walk (link t) a n)) e m)))))
 
 -- a link set back to what it was
-pub agree-back : (t₀ t : List ℕ) (U X : ℕ → Type 0) (i v : ℕ) → Agree t₀ t U → ((z : ℕ) → U z → (z ≡ i) ⊎ X z) → link t₀ i ≡ v → 8 * i + 8 ≤ length t₀ → Agree t₀ (linked t i v) X
+pub agree-back : (t₀ t : List ℕ) (U X : ℕ → Type 0) (i v : ℕ) → Agree t₀ t U → ((z : ℕ) → U z → (z ≡ i) ⊎ X z) → link t₀ i ≡ v → 9 * i + 9 ≤ length t₀ → Agree t₀ (linked t i v) X
 unfolding linked link
 agree-back t₀ t U X i v g s e h = record {
   len = length-set t (slotOf t i) v ∙ g .len;

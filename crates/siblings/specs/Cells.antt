@@ -88,7 +88,7 @@ pub record Wiped (t t′ : List ℕ) (from to : ℕ) : Type 0 where
 
 -- a cell is in the table, and a record that stands in it too
 unfoldable pub Cells : List ℕ → List ℕ → ℕ → ℕ → Type 0
-Cells doc t from to = (k : ℕ) → from ≤ k → k < to → (8 * k + 8 ≤ length t) × ((link t k ≡ 0 → ⊥) → Fit doc t (link t k))
+Cells doc t from to = (k : ℕ) → from ≤ k → k < to → (9 * k + 9 ≤ length t) × ((link t k ≡ 0 → ⊥) → Fit doc t (link t k))
 
 -- the cells from `from` up to k hold records of other names
 unfoldable pub Passed : List ℕ → List ℕ → ℕ → ℕ → ℕ → Type 0
@@ -162,4 +162,4 @@ pub record Ready (doc t : List ℕ) (first stop last : ℕ) : Type 0 where
   pub some : 0 < first
   pub wide : first < last
   pub small : last < 4294967296
-  pub room : 8 * last ≤ length t
+  pub room : 9 * last ≤ length t

@@ -1,12 +1,11 @@
 -- The same on records as a tree: what a reader that has written them can show, and the answer in its terms.
 -- Assumes nothing.
-use Prim.Native.Nat.{ℕ, _+_, _-_, _*_}
+use Prim.Native.Nat.{ℕ, _+_, _-_}
 use mathlib.Core.List.{List}
 use mathlib.Core.Bool.{Bool, true, false, not}
-use lib.ListN.{getD}
 use Rattle.form.specs.Answer.{Out, got, no, _>>_, guard}
 use mathlib.Core.Path.{_≡_}
-use Rattle.form.specs.Table.{Head, Forest, none, node, size, _⊕_, holds}
+use Rattle.form.specs.Table.{Head, Forest, none, node, size, _⊕_, word, holds}
 use Rattle.form.specs.Spans.{part}
 use Rattle.form.specs.Reading.{hasName}
 use Rattle.siblings.specs.declared.Found.{Found}
@@ -39,7 +38,7 @@ namesOnce doc seen (node h inner later) =
 
 -- the refusal that an answer of `first_repeat` is
 abbrev pub refusalOf : List ℕ → Found → Out (Unit {0})
-refusalOf t (Found.At k) = no 6 (getD t (8 * k + 1) 0 - 3)
+refusalOf t (Found.At k) = no 6 (word t k 1 - 3)
 refusalOf t Found.Nothing = got tt
 
 -- the refusal that a place is

@@ -4,9 +4,9 @@ use Prim.Native.Nat.{ℕ, zero, suc, _+_, _*_, _≤_}
 use mathlib.Core.List.{List}
 use mathlib.Core.Bool.{Bool, true, false, _||_}
 use mathlib.Core.Path.{_≡_}
-use lib.ListN.{length, getD}
+use lib.ListN.{length}
 use lib.Dec.{ltb}
-use Rattle.form.specs.Table.{Forest, none, node, size, wrote}
+use Rattle.form.specs.Table.{Forest, none, node, size, word, wrote}
 use Rattle.form.specs.Spans.{same, part}
 
 -- whether a record from i up to `to`, side by side, has the name: each record's last word is the number of the next. The first number is
@@ -15,7 +15,7 @@ unfoldable pub among : List ℕ → List ℕ → ℕ → ℕ → ℕ → List �
 among doc t zero i to name = false
 among doc t (suc fuel) i to name =
     elim (ltb i to) [
-      | true ↦ same (part doc (getD t (8 * i + 1) 0) (getD t (8 * i + 2) 0)) name || among doc t fuel (getD t (8 * i + 7) 0) to name
+      | true ↦ same (part doc (word t i 1) (word t i 2)) name || among doc t fuel (word t i 7) to name
       | false ↦ false
     ]
 
@@ -28,7 +28,8 @@ NamesIn n (node h inner later) = (h .name + h .name-length ≤ n) × NamesIn n l
 pub record Holds (bytes : ℕ) (t : List ℕ) (n n′ : ℕ) : Type 0 where
   pub acc : Forest
   pub base : List ℕ
-  pub is : t ≡ wrote base n acc
+  pub parent : ℕ
+  pub is : t ≡ wrote base parent n acc
   pub to : n′ ≡ n + size acc
-  pub fits : 8 * n′ ≤ length base
+  pub fits : 9 * n′ ≤ length base
   pub names : NamesIn bytes acc

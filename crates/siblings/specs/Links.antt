@@ -8,6 +8,7 @@ use mathlib.Core.Logic.{_⊎_}
 use lib.ListN.{length, getD, set}
 use lib.Dec.{eqb}
 use Rattle.form.specs.Numbers.{bigEndian}
+use Rattle.form.specs.Table.{word}
 use Rattle.siblings.specs.Names.{nameOf}
 
 -- four bytes as a number
@@ -28,9 +29,9 @@ rank doc t i = 4294967296 * num (nameOf doc t i) + i
 
 -- the word of a record that is 0 in a table: a container's payload start, another's list kind
 unfoldable pub slotOf : List ℕ → ℕ → ℕ
-slotOf t i = elim (eqb (getD t (8 * i) 0) 9 || eqb (getD t (8 * i) 0) 10) [
-  | true ↦ 8 * i + 3
-  | false ↦ 8 * i + 6
+slotOf t i = elim (eqb (getD t (9 * i) 0) 9 || eqb (getD t (9 * i) 0) 10) [
+  | true ↦ 9 * i + 3
+  | false ↦ 9 * i + 6
 ]
 
 -- what a record is linked to
@@ -78,6 +79,6 @@ pub record Agree (t₀ t : List ℕ) (U : ℕ → Type 0) : Type 0 where
 
 -- a record stands in the table and its name in the document
 pub record Fit (doc t : List ℕ) (i : ℕ) : Type 0 where
-  pub room : 8 * i + 8 ≤ length t
-  pub within : getD t (8 * i + 1) 0 + getD t (8 * i + 2) 0 ≤ length doc
+  pub room : 9 * i + 9 ≤ length t
+  pub within : word t i 1 + word t i 2 ≤ length doc
   pub small : i < 4294967296

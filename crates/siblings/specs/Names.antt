@@ -1,20 +1,20 @@
 -- The definition: the first of the records side by side whose name an earlier one has, which is refused with number 6.
 -- Assumes nothing.
-use Prim.Native.Nat.{ℕ, zero, suc, _+_, _*_}
+use Prim.Native.Nat.{ℕ, zero, suc}
 use mathlib.Core.List.{List, [], _∷_}
 use mathlib.Core.Bool.{Bool, true, false, _||_}
-use lib.ListN.{getD}
 use lib.Dec.{ltb}
+use Rattle.form.specs.Table.{word}
 use Rattle.form.specs.Spans.{same, part}
 use Rattle.siblings.specs.declared.Found.{Found}
 
 -- a record's name
 unfoldable pub nameOf : List ℕ → List ℕ → ℕ → List ℕ
-nameOf doc t i = part doc (getD t (8 * i + 1) 0) (getD t (8 * i + 2) 0)
+nameOf doc t i = part doc (word t i 1) (word t i 2)
 
 -- the number of the record after a record and those in it
 abbrev pub endOf : List ℕ → ℕ → ℕ
-endOf t i = getD t (8 * i + 7) 0
+endOf t i = word t i 7
 
 -- the records side by side, from i up to stop. The first number is enough where it is above the records left
 unfoldable pub siblings : List ℕ → ℕ → ℕ → ℕ → List ℕ

@@ -190,7 +190,7 @@ fn pick(doc: &[u8], table: &[u32], x: usize, p: usize, y: usize, q: usize, up: b
 
 // The word of a record that is 0 in a table: a container's payload start, another's list kind.
 fn slot(table: &[u32], i: usize) -> usize
-    requires { ⌜ 8 * i + 8 ≤ length (now table) ⌝ }
+    requires { ⌜ 9 * i + 9 ≤ length (now table) ⌝ }
     ensures { λ r. ⌜ r ≡ slotOf (now (table .entry)) i ⌝ }
 {
     let kind = table::word(table, i, table::KIND);
@@ -205,7 +205,7 @@ fn slot(table: &[u32], i: usize) -> usize
 
 // Links record i to another, and answers what it was linked to.
 fn relink(table: &mut [u32], i: usize, to: usize) -> usize
-    requires { ⌜ (8 * i + 8 ≤ length (now table)) × (to < 4294967296) ⌝ }
+    requires { ⌜ (9 * i + 9 ≤ length (now table)) × (to < 4294967296) ⌝ }
     ensures { λ r. ⌜ (r ≡ link (now (table .entry)) i) × (now (table .exit) ≡ linked (now (table .entry)) i to) ⌝ }
 {
     let s = slot(table, i);
@@ -305,7 +305,7 @@ fn lower(doc: &[u8], table: &[u32], x: usize, y: usize, low: usize) -> usize
 
 // How many records stand side by side from `first` up to `stop`.
 fn count(table: &[u32], first: usize, stop: usize) -> usize
-    requires { ⌜ ((z : ℕ) → Mem z (siblings (now table) stop stop first) → (8 * z + 8 ≤ length (now table)) × (z < endOf (now table) z)) × (stop < 4294967296) ⌝ }
+    requires { ⌜ ((z : ℕ) → Mem z (siblings (now table) stop stop first) → (9 * z + 9 ≤ length (now table)) × (z < endOf (now table) z)) × (stop < 4294967296) ⌝ }
     ensures { λ r. ⌜ r ≡ length (siblings (now (table .entry)) stop stop first) ⌝ }
 {
     let mut n: usize = 0;
@@ -482,7 +482,7 @@ fn mark(doc: &[u8], table: &[u32], i: usize) -> usize
 
 // What a record is linked to.
 fn cell(table: &[u32], i: usize) -> usize
-    requires { ⌜ 8 * i + 8 ≤ length (now table) ⌝ }
+    requires { ⌜ 9 * i + 9 ≤ length (now table) ⌝ }
     ensures { λ r. ⌜ r ≡ link (now (table .entry)) i ⌝ }
 {
     wide(table[slot(table, i)])
@@ -490,7 +490,7 @@ fn cell(table: &[u32], i: usize) -> usize
 
 // Whether the links of the records from `from` up to `to` are 0.
 fn blank(table: &[u32], from: usize, to: usize) -> bool
-    requires { ⌜ 8 * to ≤ length (now table) ⌝ }
+    requires { ⌜ 9 * to ≤ length (now table) ⌝ }
     ensures { λ r. ⌜ Blanked (now (table .entry)) from to r ⌝ }
 {
     let mut k = from;
@@ -505,7 +505,7 @@ fn blank(table: &[u32], from: usize, to: usize) -> bool
 
 // Sets them to 0.
 fn wipe(table: &mut [u32], from: usize, to: usize)
-    requires { ⌜ (from ≤ to) × (8 * to ≤ length (now table)) ⌝ }
+    requires { ⌜ (from ≤ to) × (9 * to ≤ length (now table)) ⌝ }
     ensures { λ _. ⌜ Wiped (now (table .entry)) (now (table .exit)) from to ⌝ }
 {
     let mut k = from;
@@ -681,7 +681,7 @@ fn scattered(doc: &[u8], table: &mut [u32], first: usize, stop: usize, n: usize)
     if last - first < 32 {
         return Sought::Unknown;
     }
-    if table.len() / 8 < last {
+    if table.len() / table::WORDS < last {
         return Sought::Unknown;
     }
     if blank(table, first, last) {
@@ -796,7 +796,7 @@ fn same_name(doc: &[u8], a: usize, n: usize, b: usize, m: usize) -> bool
 
 // Whether one of the records side by side, from record `from` up to `to`, has the name that stands in a span.
 pub fn has_name(doc: &[u8], table: &[u32], from: usize, to: usize, start: usize, len: usize) -> bool
-    requires { ⌜ (Holds (length (now doc)) (now table) from to) × (8 * to ≤ length (now table)) × (start + len ≤ length (now doc)) ⌝ }
+    requires { ⌜ (Holds (length (now doc)) (now table) from to) × (9 * to ≤ length (now table)) × (start + len ≤ length (now doc)) ⌝ }
     ensures { λ r. ⌜ r ≡ amongOf (now (doc .entry)) (now (table .entry)) (suc to) from to (part (now (doc .entry)) start len) ⌝ }
 {
     let mut i = from;

@@ -1,4 +1,4 @@
--- Laws for the code that reads lines back: line feeds counted, digits and the words that they are, and a good line known by its 65 bytes.
+-- Laws for the code that reads lines back: line feeds counted, digits and the words that they are, and a good line known by its 73 bytes.
 -- Assumes nothing.
 use Prim.Native.Nat.{ℕ, zero, suc, _+_, _-_, _*_, _%_, _^_, _≤_, _<_}
 use mathlib.Core.Path.{_≡_, refl, sym, ap, _∙_, subst}
@@ -206,22 +206,22 @@ word-put t s i k h =
     (subst (λ j. set (over t i (wordsOf k s)) (i + j) (hexValue (part s (8 * k) 8)) ≡ over t i (wordsOf k s ++ (hexValue (part s (8 * k) 8) ∷ []))) n
     (over-next t i (wordsOf k s) (hexValue (part s (8 * k) 8)) (rw n h)))
 
--- ---- a good line, known by its 65 bytes
+-- ---- a good line, known by its 73 bytes
 
 pub record Front (s : List ℕ) : Type 0 where
-  pub long : 65 ≤ length s
-  pub fed : getD s 64 0 ≡ 10
-  pub digits : allDigits (take 64 s) ≡ true
+  pub long : 73 ≤ length s
+  pub fed : getD s 72 0 ≡ 10
+  pub digits : allDigits (take 72 s) ≡ true
 
 -- A good line stands there in full.
-good-front : (s : List ℕ) (f : First s) → isLine 8 (f .line) ≡ true → Front s
+good-front : (s : List ℕ) (f : First s) → isLine 9 (f .line) ≡ true → Front s
 good-front s f good =
-    let b = f .behind (good-ended 8 (f .line) good) in
-    let n : length (f .line .bytes) ≡ 64 = good-long 8 (f .line) good in
+    let b = f .behind (good-ended 9 (f .line) good) in
+    let n : length (f .line .bytes) ≡ 72 = good-long 9 (f .line) good in
     rw (b .front) (record {
       long = simp length-append (omega arith);
-      fed = getD-at (f .line .bytes) 10 (b .rest) 0 64 n;
-      digits = rw (take-at (f .line .bytes) (10 ∷ b .rest) 64 n) (good-digits 8 (f .line) good);
+      fed = getD-at (f .line .bytes) 10 (b .rest) 0 72 n;
+      digits = rw (take-at (f .line .bytes) (10 ∷ b .rest) 72 n) (good-digits 9 (f .line) good);
     })
 
 -- Bytes that begin otherwise begin with a bad line.
@@ -233,7 +233,7 @@ bad-line (b ∷ s) h n =
       line = f .line;
       later = f .later;
       lines-are = f .lines-are;
-      told = by-test (isLine 8 (f .line)) (λ good. n (good-front (b ∷ s) f good));
+      told = by-test (isLine 9 (f .line)) (λ good. n (good-front (b ∷ s) f good));
       front = λ e. absurd (let z : _≡_ {A = ℕ} 0 1 = cc in omega arith);
     }
   where
@@ -243,13 +243,13 @@ bad-line (b ∷ s) h n =
 
 pub good-line : (s : List ℕ) → Front s → FirstLine s true
 good-line s f =
-    let l : TextLine = record { bytes = take 64 s; ended = true } in
-    let split : s ≡ take 64 s ++ (10 ∷ drop 65 s) = split-at s 64 0 (f .long) ∙ ap (λ x. take 64 s ++ (x ∷ drop 65 s)) (f .fed) in
+    let l : TextLine = record { bytes = take 72 s; ended = true } in
+    let split : s ≡ take 72 s ++ (10 ∷ drop 73 s) = split-at s 72 0 (f .long) ∙ ap (λ x. take 72 s ++ (x ∷ drop 73 s)) (f .fed) in
     record {
       line = l;
-      later = linesIn (drop 65 s);
-      lines-are = ap linesIn split ∙ digits-line (take 64 s) (drop 65 s) (f .digits);
-      told = sym (is-good 8 l refl (length-take-le 64 s (omega (arith, f .long))) (f .digits));
+      later = linesIn (drop 73 s);
+      lines-are = ap linesIn split ∙ digits-line (take 72 s) (drop 73 s) (f .digits);
+      told = sym (is-good 9 l refl (length-take-le 72 s (omega (arith, f .long))) (f .digits));
       front = λ _. record { long = f .long; digits = f .digits; bytes-are = refl; goes-on = refl };
     }
 
@@ -270,28 +270,28 @@ module _ (s : List ℕ) (at : ℕ) where
     eqb-true (getD s at 0) 10 (and-right (ltb at (length s)) (eqb (getD s at 0) 10) e),
   )
 
--- The same of the bytes from a place on, as the code asks: the line feed behind 64 of them, then those 64.
+-- The same of the bytes from a place on, as the code asks: the line feed behind 72 of them, then those 72.
 module _ (s : List ℕ) (at : ℕ) (h : at < length s) where
   left-long : length (drop at s) ≡ length s - at
   left-long = length-drop at s
 
-  pub unfed-line : fedAt s (at + 64) ≡ false → FirstLine (drop at s) false
+  pub unfed-line : fedAt s (at + 72) ≡ false → FirstLine (drop at s) false
   unfed-line e =
       bad-line (drop at s) (rw left-long (omega arith))
       (λ f.
-      let long : 65 ≤ length s - at = rw left-long at (f .long) in
-      let byte : getD s (at + 64) 0 ≡ 10 = sym (getD-drop at s 64 0) ∙ f .fed in
-      let fed : fedAt s (at + 64) ≡ true = sym (fed-byte s (at + 64) (omega arith)) ∙ eq-eqb (getD s (at + 64) 0) 10 byte in
+      let long : 73 ≤ length s - at = rw left-long at (f .long) in
+      let byte : getD s (at + 72) 0 ≡ 10 = sym (getD-drop at s 72 0) ∙ f .fed in
+      let fed : fedAt s (at + 72) ≡ true = sym (fed-byte s (at + 72) (omega arith)) ∙ eq-eqb (getD s (at + 72) 0) 10 byte in
       absurd (let z : _≡_ {A = ℕ} 0 1 = cc in omega arith))
 
-  pub told-line : fedAt s (at + 64) ≡ true → FirstLine (drop at s) (allDigits (part s at 64))
-  told-line e = by-digits (allDigits (part s at 64)) refl
+  pub told-line : fedAt s (at + 72) ≡ true → FirstLine (drop at s) (allDigits (part s at 72))
+  told-line e = by-digits (allDigits (part s at 72)) refl
     where
-      there : (at + 64 < length s) × (getD s (at + 64) 0 ≡ 10)
-      there = fed-there s (at + 64) e
+      there : (at + 72 < length s) × (getD s (at + 72) 0 ≡ 10)
+      there = fed-there s (at + 72) e
 
-      by-digits : (t : Bool) → allDigits (part s at 64) ≡ t → FirstLine (drop at s) t
+      by-digits : (t : Bool) → allDigits (part s at 72) ≡ t → FirstLine (drop at s) t
       by-digits true d =
-          good-line (drop at s) (record { long = rw left-long (omega (arith, there .0)); fed = getD-drop at s 64 0 ∙ there .1; digits = d })
+          good-line (drop at s) (record { long = rw left-long (omega (arith, there .0)); fed = getD-drop at s 72 0 ∙ there .1; digits = d })
       by-digits false d =
           bad-line (drop at s) (rw left-long (omega arith)) (λ f. absurd (let z : _≡_ {A = ℕ} 0 1 = cc (f .digits) in omega arith))

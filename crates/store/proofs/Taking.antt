@@ -19,18 +19,18 @@ use Rattle.store.specs.Steps.{answerOut, FirstLine, Put, TakenIs}
 
 -- What the lines s give, with the room of a table t.
 abbrev whole : List ℕ → List ℕ → Out (List ℕ)
-whole s t = eachLine 8 (length t / 8) 1 (linesIn s)
+whole s t = eachLine 9 (length t / 9) 1 (linesIn s)
 
 -- The same from line n on, with the words before it.
 abbrev onwards : List ℕ → List ℕ → List ℕ → ℕ → Out (List ℕ)
-onwards s t ws n = eachLine 8 (length t / 8) (n + 1) (linesIn (drop (65 * n) s)) >>= λ vs. got (ws ++ vs)
+onwards s t ws n = eachLine 9 (length t / 9) (n + 1) (linesIn (drop (73 * n) s)) >>= λ vs. got (ws ++ vs)
 
 -- After n lines: their words stand in the table, and the answer is what the other lines add to them.
 pub record Sofar (s t₀ t : List ℕ) (n : ℕ) : Type 0 where
   pub ws : List ℕ
-  pub long : length ws ≡ 8 * n
-  pub room : 8 * n ≤ length t₀
-  pub begun : 65 * n ≤ length s
+  pub long : length ws ≡ 9 * n
+  pub room : 9 * n ≤ length t₀
+  pub begun : 73 * n ≤ length s
   pub table : t ≡ over t₀ 0 ws
   pub is : whole s t₀ ≡ onwards s t₀ ws n
 
@@ -62,59 +62,59 @@ module _ (s t₀ t : List ℕ) (n : ℕ) (f : Sofar s t₀ t n) where
   sofar-length = ap length (f .table) ∙ over-length t₀ 0 (f .ws) (omega (arith, f .long, f .room))
 
   -- The other lines are refused, and so are all.
-  rest-no : (m p : ℕ) → eachLine 8 (length t₀ / 8) (n + 1) (linesIn (drop (65 * n) s)) ≡ no m p → TakenIs s t₀ (no m p) t
+  rest-no : (m p : ℕ) → eachLine 9 (length t₀ / 9) (n + 1) (linesIn (drop (73 * n) s)) ≡ no m p → TakenIs s t₀ (no m p) t
   rest-no m p e = taken-no s t₀ t m p (f .is ∙ ap (λ o. o >>= λ vs. got (f .ws ++ vs)) e) sofar-length
 
   -- The next line is bad (29), or good and without room (8); or there is none, and all are taken.
-  pub sofar-bad : FirstLine (drop (65 * n) s) false → TakenIs s t₀ (no 29 (n + 1)) t
-  sofar-bad l = rest-no 29 (n + 1) (rw (l .lines-are) (each-bad 8 (length t₀ / 8) (n + 1) (l .line) (l .later) (sym (l .told))))
+  pub sofar-bad : FirstLine (drop (73 * n) s) false → TakenIs s t₀ (no 29 (n + 1)) t
+  sofar-bad l = rest-no 29 (n + 1) (rw (l .lines-are) (each-bad 9 (length t₀ / 9) (n + 1) (l .line) (l .later) (sym (l .told))))
 
-  pub sofar-full : FirstLine (drop (65 * n) s) true → length t₀ / 8 ≤ n → TakenIs s t₀ (no 8 (n + 1)) t
-  sofar-full l h = rest-no 8 (n + 1) (rw (l .lines-are) (each-full 8 (length t₀ / 8) (n + 1) (l .line) (l .later) (sym (l .told)) (omega arith)))
+  pub sofar-full : FirstLine (drop (73 * n) s) true → length t₀ / 9 ≤ n → TakenIs s t₀ (no 8 (n + 1)) t
+  sofar-full l h = rest-no 8 (n + 1) (rw (l .lines-are) (each-full 9 (length t₀ / 9) (n + 1) (l .line) (l .later) (sym (l .told)) (omega arith)))
 
-  pub sofar-end : length s ≤ 65 * n → TakenIs s t₀ (got n) t
+  pub sofar-end : length s ≤ 73 * n → TakenIs s t₀ (got n) t
   sofar-end h =
       let e : whole s t₀ ≡ got (f .ws) =
-      f .is ∙ rw (drop-of-length-le s h, no-lines, each-none 8 (length t₀ / 8) (n + 1)) (ap got (append-nil (f .ws))) in
+      f .is ∙ rw (drop-of-length-le s h, no-lines, each-none 9 (length t₀ / 9) (n + 1)) (ap got (append-nil (f .ws))) in
       record { answer-is = ap got (omega (arith, f .long)) ∙ ap recordsOf (sym e); put = rw e (f .table) }
 
-  module _ (l : FirstLine (drop (65 * n) s) true) where
-    -- A good line takes 65 bytes.
-    pub line-there : 65 * n + 65 ≤ length s
+  module _ (l : FirstLine (drop (73 * n) s) true) where
+    -- A good line takes 73 bytes.
+    pub line-there : 73 * n + 73 ≤ length s
     line-there =
-        let long : 65 ≤ length (drop (65 * n) s) = l .front refl .long in
-        omega (arith, length-drop (65 * n) s, f .begun)
+        let long : 73 ≤ length (drop (73 * n) s) = l .front refl .long in
+        omega (arith, length-drop (73 * n) s, f .begun)
 
     -- What stands behind it.
-    behind-line : l .later ≡ linesIn (drop (65 * (n + 1)) s)
+    behind-line : l .later ≡ linesIn (drop (73 * (n + 1)) s)
     behind-line =
-        let e : 65 * (n + 1) ≡ 65 * n + 65 = omega arith in
-        l .front refl .goes-on ∙ ap linesIn (drop-drop 65 (65 * n) s ∙ ap (λ i. drop i s) (sym e))
+        let e : 73 * (n + 1) ≡ 73 * n + 73 = omega arith in
+        l .front refl .goes-on ∙ ap linesIn (drop-drop 73 (73 * n) s ∙ ap (λ i. drop i s) (sym e))
 
     -- The rest is the line's words and what stands behind it.
-    rest-next : n < length t₀ / 8 → eachLine 8 (length t₀ / 8) (n + 1) (linesIn (drop (65 * n) s)) ≡ onwards s t₀ (wordsOf 8 (part s (65 * n) 64)) (n + 1)
+    rest-next : n < length t₀ / 9 → eachLine 9 (length t₀ / 9) (n + 1) (linesIn (drop (73 * n) s)) ≡ onwards s t₀ (wordsOf 9 (part s (73 * n) 72)) (n + 1)
     rest-next h =
-        ap (eachLine 8 (length t₀ / 8) (n + 1)) (l .lines-are)
-        ∙ each-good 8 (length t₀ / 8) (n + 1) (l .line) (l .later) (sym (l .told)) (omega arith)
+        ap (eachLine 9 (length t₀ / 9) (n + 1)) (l .lines-are)
+        ∙ each-good 9 (length t₀ / 9) (n + 1) (l .line) (l .later) (sym (l .told)) (omega arith)
         ∙ rw (l .front refl .bytes-are, behind-line) refl
 
-    pub sofar-next : n < length t₀ / 8 → (t′ : List ℕ) → t′ ≡ over t (8 * n) (wordsOf 8 (part s (65 * n) 64)) → Sofar s t₀ t′ (n + 1)
+    pub sofar-next : n < length t₀ / 9 → (t′ : List ℕ) → t′ ≡ over t (9 * n) (wordsOf 9 (part s (73 * n) 72)) → Sofar s t₀ t′ (n + 1)
     sofar-next h t′ e =
-        let us = wordsOf 8 (part s (65 * n) 64) in
-        let at : 0 + length (f .ws) ≡ 8 * n = omega (arith, f .long) in
+        let us = wordsOf 9 (part s (73 * n) 72) in
+        let at : 0 + length (f .ws) ≡ 9 * n = omega (arith, f .long) in
         record {
           ws = f .ws ++ us;
-          long = length-append (f .ws) us ∙ omega (arith, f .long, words-length 8 (part s (65 * n) 64));
+          long = length-append (f .ws) us ∙ omega (arith, f .long, words-length 9 (part s (73 * n) 72));
           room = omega arith;
           begun = omega (arith, line-there);
           table =
               e
-              ∙ ap (λ x. over x (8 * n) us) (f .table)
+              ∙ ap (λ x. over x (9 * n) us) (f .table)
               ∙ subst (λ i. over (over t₀ 0 (f .ws)) i us ≡ over t₀ 0 (f .ws ++ us)) at (over-over t₀ 0 (f .ws) (omega (arith, f .long, f .room)) us);
           is =
               f .is
               ∙ ap (λ o. o >>= λ vs. got (f .ws ++ vs)) (rest-next h)
-              ∙ then-more (eachLine 8 (length t₀ / 8) (n + 1 + 1) (linesIn (drop (65 * (n + 1)) s))) us (f .ws);
+              ∙ then-more (eachLine 9 (length t₀ / 9) (n + 1 + 1) (linesIn (drop (73 * (n + 1)) s))) us (f .ws);
         }
 
 -- ---- all lines, within the limit
@@ -137,7 +137,7 @@ pub taken-many : (s t t′ : List ℕ) (n : ℕ) → TakenIs s t (got n) t′ �
 taken-many s t t′ n k = go (whole s t) refl (k .answer-is)
   where
     go : (o : Out (List ℕ)) → whole s t ≡ o → got n ≡ recordsOf o → length (linesIn s) ≡ n
-    go (got ws) e a = let counted : n ≡ length ws / 8 = cc in omega (arith, accepted-long 8 (length t / 8) (linesIn s) 1 ws e)
+    go (got ws) e a = let counted : n ≡ length ws / 9 = cc in omega (arith, accepted-long 9 (length t / 9) (linesIn s) 1 ws e)
     go (no m p) e a = absurd (got-no a)
 
 module _ (s t : List ℕ) where

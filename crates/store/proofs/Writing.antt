@@ -85,17 +85,17 @@ module _ (t : List ℕ) (at k : ℕ) (o₀ : List ℕ) (i : ℕ) (o : List ℕ) 
   feed-behind h fits = rw (so-far, place h) (over-next o₀ i (wordDigits (part t at k)) 10 (rw (place h) at fits))
 
 -- Where the lines of i records of t stand, the next record's is put.
-pub line-behind : (t : List ℕ) (i : ℕ) (o₀ o : List ℕ) → o ≡ over o₀ 0 (linesOf 8 i t) → 8 * i ≤ length t → 65 * i ≤ length o₀
-    → over o (65 * i) (lineOf (part t (8 * i) 8)) ≡ over o₀ 0 (linesOf 8 (i + 1) t)
+pub line-behind : (t : List ℕ) (i : ℕ) (o₀ o : List ℕ) → o ≡ over o₀ 0 (linesOf 9 i t) → 9 * i ≤ length t → 73 * i ≤ length o₀
+    → over o (73 * i) (lineOf (part t (9 * i) 9)) ≡ over o₀ 0 (linesOf 9 (i + 1) t)
 line-behind t i o₀ o so-far h fits =
-    rw (so-far, put-behind o₀ 0 (linesOf 8 i t) (65 * i) (lineOf (part t (8 * i) 8)) (omega (arith, lines-length i t h)) fits)
+    rw (so-far, put-behind o₀ 0 (linesOf 9 i t) (73 * i) (lineOf (part t (9 * i) 9)) (omega (arith, lines-length i t h)) fits)
     (rw (add-one i) (ap (over o₀ 0) (sym (lines-next i t))))
 
 -- ---- the answer, by the verdict on the words
 
 -- How many bytes the lines of a table have.
-lines-long : (t : List ℕ) → length (tableLines t) ≡ 65 * (length t / 8)
-lines-long t = lines-length (length t / 8) t (omega arith)
+lines-long : (t : List ℕ) → length (tableLines t) ≡ 73 * (length t / 9)
+lines-long t = lines-length (length t / 9) t (omega arith)
 
 module _ (d : ℕ) (t : List ℕ) {r : Verdict} (v : VerdictIs d t r) where
   -- Words of that verdict are within the limits and form a table.
@@ -122,11 +122,11 @@ module _ (d : ℕ) (t : List ℕ) {r : Verdict} (v : VerdictIs d t r) where
         record { large = λ n. absurd (n (h .0)); unfit = λ w n. absurd (n (h .1)); fit = λ w i. g }
 
     -- The output is too short for its lines (13).
-    pub lines-full : r ≡ Verdict.Table → length o < 65 * (length t / 8) → WriteLinesIs d t o (no outputFull 0) o
+    pub lines-full : r ≡ Verdict.Table → length o < 73 * (length t / 9) → WriteLinesIs d t o (no outputFull 0) o
     lines-full e h = lines-fit e (rw (storing-full t (length o) (rw (lines-long t) h)) (record { answer-is = refl; output-is = refl }))
 
     -- Its lines are put.
-    pub lines-put : {o′ : List ℕ} → r ≡ Verdict.Table → 65 * (length t / 8) ≤ length o → o′ ≡ over o 0 (tableLines t)
-        → WriteLinesIs d t o (got (65 * (length t / 8))) o′
+    pub lines-put : {o′ : List ℕ} → r ≡ Verdict.Table → 73 * (length t / 9) ≤ length o → o′ ≡ over o 0 (tableLines t)
+        → WriteLinesIs d t o (got (73 * (length t / 9))) o′
     lines-put e h p =
         lines-fit e (rw (storing-fits t (length o) (rw (lines-long t) h)) (record { answer-is = ap got (sym (lines-long t)); output-is = p }))

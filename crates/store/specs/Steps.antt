@@ -25,19 +25,19 @@ feeds (b ∷ bs) = pick (eqb b lineFeed) 1 0 + feeds bs
 unfoldable pub fedAt : List ℕ → ℕ → Bool
 fedAt s at = ltb at (length s) && eqb (getD s at 0) lineFeed
 
--- A good line at the front of some bytes takes 65 of them.
+-- A good line at the front of some bytes takes 73 of them.
 pub record GoodLine (s : List ℕ) (line : TextLine) (later : List TextLine) : Type 0 where
-  pub long : 65 ≤ length s
-  pub digits : allDigits (take 64 s) ≡ true
-  pub bytes-are : line .bytes ≡ take 64 s
-  pub goes-on : later ≡ linesIn (drop 65 s)
+  pub long : 73 ≤ length s
+  pub digits : allDigits (take 72 s) ≡ true
+  pub bytes-are : line .bytes ≡ take 72 s
+  pub goes-on : later ≡ linesIn (drop 73 s)
 
 -- The first of the lines that bytes are, and whether it is good.
 pub record FirstLine (s : List ℕ) (good : Bool) : Type 0 where
   pub line : TextLine
   pub later : List TextLine
   pub lines-are : linesIn s ≡ line ∷ later
-  pub told : good ≡ isLine 8 line
+  pub told : good ≡ isLine 9 line
   pub front : good ≡ true → GoodLine s line later
 
 -- The table after line by line: the words read from 0 on and the rest as it was; after a refusal only its length is told.
@@ -47,5 +47,5 @@ Put (no n p) t t′ = length t′ ≡ length t
 
 -- What taking lines one by one answers, and leaves in the table.
 pub record TakenIs (s t : List ℕ) (answer : Out ℕ) (t′ : List ℕ) : Type 0 where
-  pub answer-is : answer ≡ recordsOf (eachLine 8 (length t / 8) 1 (linesIn s))
-  pub put : Put (eachLine 8 (length t / 8) 1 (linesIn s)) t t′
+  pub answer-is : answer ≡ recordsOf (eachLine 9 (length t / 9) 1 (linesIn s))
+  pub put : Put (eachLine 9 (length t / 9) 1 (linesIn s)) t t′

@@ -1,5 +1,5 @@
-// Request [6]: a table stored as lines of lowercase hexadecimal, one record a line, and read back. A line has 65 bytes: eight words of eight
-// digits, and a line feed. After good lines the next begins at a known place, so none is searched for.
+// Request [6]: a table stored as lines of lowercase hexadecimal, one record a line, and read back. A line has 73 bytes: nine words ([7]) of
+// eight digits, and a line feed. After good lines the next begins at a known place, so none is searched for.
 ghost use mathlib.Core.Path.{_≡_};
 ghost use mathlib.Core.Bool.{true};
 ghost use Prim.Native.Nat.{_+_, _*_, _≤_, _<_};
@@ -8,6 +8,14 @@ ghost use Rattle.form.specs.Spans.{part, over};
 ghost use Rattle.form.specs.Stored.{hexDigit, hexDigits, lineOf, linesOf, linesIn, digitOf, allDigits, hexValue, wordsOf, WriteLinesIs, ReadLinesIs};
 ghost use Rattle.store.specs.Steps.{answerOut, feeds, fedAt, FirstLine, TakenIs};
 use table::Verdict;
+
+// The digits of a word, and those of a record.
+const WORD_DIGITS: usize = 8;
+
+const DIGITS: usize = WORD_DIGITS * table::WORDS;
+
+// The bytes of a line.
+const LINE: usize = DIGITS + 1;
 
 // The answer: how many bytes were written, or how many records read; or the number and the place of the refusal.
 pub enum Answer {
@@ -32,7 +40,7 @@ fn put_word(out: &mut [u8], at: usize, word: u32)
     ensures { λ _. ⌜ now (out .exit) ≡ over (now (out .entry)) at (hexDigits 8 word) ⌝ }
 {
     let mut i: usize = 0;
-    while i < 8 {
+    while i < WORD_DIGITS {
         out[at + i] = digit(((word >> (28 - 4 * i)) % 16) as u8);
         i += 1;
     }
@@ -40,21 +48,21 @@ fn put_word(out: &mut [u8], at: usize, word: u32)
 
 // The line of record n put in its place.
 fn put_line(table: &[u32], n: usize, out: &mut [u8])
-    requires { ⌜ (8 * n + 8 ≤ length (now table)) × (65 * n + 65 ≤ length (now out)) ⌝ }
-    ensures { λ _. ⌜ now (out .exit) ≡ over (now (out .entry)) (65 * n) (lineOf (part (now (table .entry)) (8 * n) 8)) ⌝ }
+    requires { ⌜ (9 * n + 9 ≤ length (now table)) × (73 * n + 73 ≤ length (now out)) ⌝ }
+    ensures { λ _. ⌜ now (out .exit) ≡ over (now (out .entry)) (73 * n) (lineOf (part (now (table .entry)) (9 * n) 9)) ⌝ }
 {
     let mut k: usize = 0;
-    while k < 8 {
-        put_word(out, 65 * n + 8 * k, table[8 * n + k]);
+    while k < table::WORDS {
+        put_word(out, LINE * n + WORD_DIGITS * k, table[table::WORDS * n + k]);
         k += 1;
     }
-    out[65 * n + 64] = b'\n';
+    out[LINE * n + DIGITS] = b'\n';
 }
 
 // The lines of n records put from 0 on.
 fn put_lines(table: &[u32], n: usize, out: &mut [u8])
-    requires { ⌜ (8 * n ≤ length (now table)) × (65 * n ≤ length (now out)) ⌝ }
-    ensures { λ _. ⌜ now (out .exit) ≡ over (now (out .entry)) 0 (linesOf 8 n (now (table .entry))) ⌝ }
+    requires { ⌜ (9 * n ≤ length (now table)) × (73 * n ≤ length (now out)) ⌝ }
+    ensures { λ _. ⌜ now (out .exit) ≡ over (now (out .entry)) 0 (linesOf 9 n (now (table .entry))) ⌝ }
 {
     let mut i: usize = 0;
     while i < n {
@@ -77,15 +85,15 @@ pub fn write_lines(doc_len: usize, table: &[u32], out: &mut [u8]) -> Answer
             place: 0,
         },
         Verdict::Table => {
-            let n = table.len() / 8;
-            if out.len() < 65 * n {
+            let n = table.len() / table::WORDS;
+            if out.len() < LINE * n {
                 return Answer::Refused {
                     number: form::OUTPUT_FULL,
                     place: 0,
                 };
             }
             put_lines(table, n, out);
-            Answer::Done { count: 65 * n }
+            Answer::Done { count: LINE * n }
         }
     }
 }
@@ -141,14 +149,14 @@ fn digit_of(b: u8) -> u8
     16
 }
 
-// Whether 64 digits stand at `at`. The largest value is kept and all are looked at, so that the compiler takes many at once.
+// Whether a record's digits stand at `at`. The largest value is kept and all are looked at, so that the compiler takes many at once.
 fn digits_at(lines: &[u8], at: usize) -> bool
-    requires { ⌜ at + 64 ≤ length (now lines) ⌝ }
-    ensures { λ r. ⌜ r ≡ allDigits (part (now (lines .entry)) at 64) ⌝ }
+    requires { ⌜ at + 72 ≤ length (now lines) ⌝ }
+    ensures { λ r. ⌜ r ≡ allDigits (part (now (lines .entry)) at 72) ⌝ }
 {
     let mut largest: u8 = 0;
     let mut k: usize = 0;
-    while k < 64 {
+    while k < DIGITS {
         let value = digit_of(lines[at + k]);
         if largest < value {
             largest = value;
@@ -173,7 +181,7 @@ fn is_line(lines: &[u8], at: usize) -> bool
     requires { ⌜ at < length (now lines) ⌝ }
     ensures { λ r. ⌜ FirstLine (drop at (now (lines .entry))) r ⌝ }
 {
-    if fed(lines, at + 64) {
+    if fed(lines, at + DIGITS) {
         return digits_at(lines, at);
     }
     false
@@ -197,21 +205,21 @@ fn word_at(lines: &[u8], at: usize) -> u32
 {
     let mut n: u32 = 0;
     let mut i: usize = 0;
-    while i < 8 {
+    while i < WORD_DIGITS {
         n += (value_of(lines[at + i]) as u32) << (28 - 4 * i);
         i += 1;
     }
     n
 }
 
-// The words of the good line at 65 n put into record n.
+// The words of good line n, from 0, put into record n.
 fn take_line(lines: &[u8], n: usize, table: &mut [u32])
-    requires { ⌜ (65 * n + 64 ≤ length (now lines)) × (8 * n + 8 ≤ length (now table)) × (allDigits (part (now lines) (65 * n) 64) ≡ true) ⌝ }
-    ensures { λ _. ⌜ now (table .exit) ≡ over (now (table .entry)) (8 * n) (wordsOf 8 (part (now (lines .entry)) (65 * n) 64)) ⌝ }
+    requires { ⌜ (73 * n + 72 ≤ length (now lines)) × (9 * n + 9 ≤ length (now table)) × (allDigits (part (now lines) (73 * n) 72) ≡ true) ⌝ }
+    ensures { λ _. ⌜ now (table .exit) ≡ over (now (table .entry)) (9 * n) (wordsOf 9 (part (now (lines .entry)) (73 * n) 72)) ⌝ }
 {
     let mut k: usize = 0;
-    while k < 8 {
-        table[8 * n + k] = word_at(lines, 65 * n + 8 * k);
+    while k < table::WORDS {
+        table[table::WORDS * n + k] = word_at(lines, LINE * n + WORD_DIGITS * k);
         k += 1;
     }
 }
@@ -220,10 +228,10 @@ fn take_line(lines: &[u8], n: usize, table: &mut [u32])
 fn take_lines(lines: &[u8], table: &mut [u32]) -> Answer
     ensures { λ r. ⌜ TakenIs (now (lines .entry)) (now (table .entry)) (answerOut r) (now (table .exit)) ⌝ }
 {
-    let room = table.len() / 8;
+    let room = table.len() / table::WORDS;
     let mut n: usize = 0;
-    while 65 * n < lines.len() {
-        if !is_line(lines, 65 * n) {
+    while LINE * n < lines.len() {
+        if !is_line(lines, LINE * n) {
             return Answer::Refused {
                 number: form::BAD_LINE,
                 place: n + 1,

@@ -9,36 +9,36 @@ use Rattle.form.specs.Table.{word}
 use Rattle.form.specs.Rows.{ChildIs, Chain, stop, hop}
 
 -- A chain from a record that is a child.
-record Unhopped (t : List ℕ) (l : Bool) (e j : ℕ) : Type 0 where
-  child : ChildIs t l e j
+record Unhopped (t : List ℕ) (l : Bool) (q e j : ℕ) : Type 0 where
+  child : ChildIs t l q e j
   left : ℕ
-  rest : Chain t l e (word t j 7) left
+  rest : Chain t l q e (word t j 7) left
 
 -- A chain that is not at its end begins with a child.
-unhop : (t : List ℕ) (l : Bool) (e : ℕ) {j m : ℕ} → Chain t l e j m → j < e → Unhopped t l e j
-unhop t l e stop h = absurd (omega arith)
-unhop t l e (hop {c = c} child ch) h = record { child = child; left = c; rest = ch }
+unhop : (t : List ℕ) (l : Bool) (q e : ℕ) {j m : ℕ} → Chain t l q e j m → j < e → Unhopped t l q e j
+unhop t l q e stop h = absurd (omega arith)
+unhop t l q e (hop {c = c} child ch) h = record { child = child; left = c; rest = ch }
 
 -- After c hops, at record j: a chain from here on is one from the start with c children more, and a chain from the start comes here.
-pub record Hopped (t : List ℕ) (l : Bool) (e from j c : ℕ) : Type 0 where
+pub record Hopped (t : List ℕ) (l : Bool) (q e from j c : ℕ) : Type 0 where
   pub high : j ≤ e
   pub few : from + c ≤ j
-  pub ahead : (m : ℕ) → Chain t l e j m → Chain t l e from (c + m)
-  pub back : (m : ℕ) → Chain t l e from m → (k : ℕ) × Chain t l e j k
+  pub ahead : (m : ℕ) → Chain t l q e j m → Chain t l q e from (c + m)
+  pub back : (m : ℕ) → Chain t l q e from m → (k : ℕ) × Chain t l q e j k
 
-module _ (t : List ℕ) (l : Bool) (e from : ℕ) where
+module _ (t : List ℕ) (l : Bool) (q e from : ℕ) where
   -- At the start.
-  pub hop-none : from ≤ e → Hopped t l e from from 0
+  pub hop-none : from ≤ e → Hopped t l q e from from 0
   hop-none h = record {
     high = h;
     few = omega arith;
-    ahead = λ m ch. (let z : 0 + m ≡ m = omega arith in subst (λ (x : ℕ). Chain t l e from x) (sym z) ch);
+    ahead = λ m ch. (let z : 0 + m ≡ m = omega arith in subst (λ (x : ℕ). Chain t l q e from x) (sym z) ch);
     back = λ m ch. (m, ch);
   }
 
-  module _ (j c : ℕ) (inv : Hopped t l e from j c) where
+  module _ (j c : ℕ) (inv : Hopped t l q e from j c) where
     -- One hop on.
-    pub hop-more : j < e → ChildIs t l e j → (n : ℕ) → n ≡ word t j 7 → Hopped t l e from n (c + 1)
+    pub hop-more : j < e → ChildIs t l q e j → (n : ℕ) → n ≡ word t j 7 → Hopped t l q e from n (c + 1)
     hop-more h child n p =
         let few = inv .few in
         let on = child .on in
@@ -48,21 +48,21 @@ module _ (t : List ℕ) (l : Bool) (e from : ℕ) where
           few = omega arith;
           ahead = λ m ch.
               (let z : c + suc m ≡ c + 1 + m = omega arith in
-              subst (λ (x : ℕ). Chain t l e from x) z (inv .ahead (suc m) (hop {j = j} child (subst (λ (x : ℕ). Chain t l e x m) p ch))));
+              subst (λ (x : ℕ). Chain t l q e from x) z (inv .ahead (suc m) (hop {j = j} child (subst (λ (x : ℕ). Chain t l q e x m) p ch))));
           back = λ m ch.
               (let k = inv .back m ch in
-              let u = unhop t l e (k .1) h in
-              (u .left, subst (λ (x : ℕ). Chain t l e x (u .left)) (sym p) (u .rest)));
+              let u = unhop t l q e (k .1) h in
+              (u .left, subst (λ (x : ℕ). Chain t l q e x (u .left)) (sym p) (u .rest)));
         }
 
     -- At the end.
-    pub hop-done : e ≤ j → Chain t l e from c
+    pub hop-done : e ≤ j → Chain t l q e from c
     hop-done h =
         let high = inv .high in
         let p : e ≡ j = omega arith in
         let z : c + 0 ≡ c = omega arith in
-        subst (λ (x : ℕ). Chain t l e from x) z (inv .ahead 0 (subst (λ (x : ℕ). Chain t l e x 0) p stop))
+        subst (λ (x : ℕ). Chain t l q e from x) z (inv .ahead 0 (subst (λ (x : ℕ). Chain t l q e x 0) p stop))
 
     -- At a record that is no child.
-    pub hop-broken : j < e → (ChildIs t l e j → ⊥) → (m : ℕ) → Chain t l e from m → ⊥
-    hop-broken h f m ch = let k = inv .back m ch in f (unhop t l e (k .1) h .child)
+    pub hop-broken : j < e → (ChildIs t l q e j → ⊥) → (m : ℕ) → Chain t l q e from m → ⊥
+    hop-broken h f m ch = let k = inv .back m ch in f (unhop t l q e (k .1) h .child)

@@ -43,18 +43,18 @@ says-leb a b f g = record { yes = λ e. f (leb-true a b e); no = λ e p. let l =
 
 module _ (t : List ℕ) (n i : ℕ) where
   -- The hops through record i's children, by its kind and its end.
-  hops-here : (k e : ℕ) → k ≡ word t i 0 → e ≡ word t i 7 → (h r : Hops) → HopsAre t (eqb k 9) e (i + 1) h → h ≡ r
-      → HopsAre t (eqb (word t i 0) 9) (word t i 7) (i + 1) r
+  hops-here : (k e : ℕ) → k ≡ word t i 0 → e ≡ word t i 7 → (h r : Hops) → HopsAre t (eqb k 9) i e (i + 1) h → h ≡ r
+      → HopsAre t (eqb (word t i 0) 9) i (word t i 7) (i + 1) r
   hops-here k e p q h r hops o =
-      subst (λ (y : Hops). HopsAre t (eqb (word t i 0) 9) (word t i 7) (i + 1) y) o
-      (subst (λ (x : ℕ). HopsAre t (eqb x 9) (word t i 7) (i + 1) h) p (subst (λ (x : ℕ). HopsAre t (eqb k 9) x (i + 1) h) q hops))
+      subst (λ (y : Hops). HopsAre t (eqb (word t i 0) 9) i (word t i 7) (i + 1) y) o
+      (subst (λ (x : ℕ). HopsAre t (eqb x 9) i (word t i 7) (i + 1) h) p (subst (λ (x : ℕ). HopsAre t (eqb k 9) i x (i + 1) h) q hops))
 
-  module _ (k e : ℕ) (p : k ≡ word t i 0) (q : e ≡ word t i 7) (h : Hops) (hops : HopsAre t (eqb k 9) e (i + 1) h) where
+  module _ (k e : ℕ) (p : k ≡ word t i 0) (q : e ≡ word t i 7) (h : Hops) (hops : HopsAre t (eqb k 9) i e (i + 1) h) where
     -- The children tile the container: their number is left to compare.
     pub container-all : holds (word t i 0) ≡ true → word t i 3 ≡ 0 → word t i 4 ≡ 0 → word t i 6 ≡ listKindAt t i → word t i 7 ≤ n
         → (c : ℕ) → h ≡ Hops.All c → (m : ℕ) → m ≡ word t i 5 → Says (eqb c m) (ContainerRow t n i)
     container-all kind start long listed within c o m r =
-        let ch : Chain t (eqb (word t i 0) 9) (word t i 7) (i + 1) c = hops-here k e p q h (Hops.All c) hops o in
+        let ch : Chain t (eqb (word t i 0) 9) i (word t i 7) (i + 1) c = hops-here k e p q h (Hops.All c) hops o in
         says-eqb c m
         (λ x. record {
           kind = kind;
@@ -62,9 +62,9 @@ module _ (t : List ℕ) (n i : ℕ) where
           long = long;
           listed = listed;
           within = within;
-          tiled = subst (λ (y : ℕ). Chain t (eqb (word t i 0) 9) (word t i 7) (i + 1) y) (x ∙ r) ch;
+          tiled = subst (λ (y : ℕ). Chain t (eqb (word t i 0) 9) i (word t i 7) (i + 1) y) (x ∙ r) ch;
         })
-        (λ is. chain-one t (eqb (word t i 0) 9) (word t i 7) ch (is .tiled) ∙ sym r)
+        (λ is. chain-one t (eqb (word t i 0) 9) i (word t i 7) ch (is .tiled) ∙ sym r)
 
     -- They do not tile it.
     pub container-broken : h ≡ Hops.Broken → Says false (ContainerRow t n i)
@@ -72,7 +72,7 @@ module _ (t : List ℕ) (n i : ℕ) where
 
   -- A container ends after itself.
   pub container-on : ContainerRow t n i → i < word t i 7
-  container-on is = let l = chain-le t (eqb (word t i 0) 9) (word t i 7) (is .tiled) in omega arith
+  container-on is = let l = chain-le t (eqb (word t i 0) 9) i (word t i 7) (is .tiled) in omega arith
 
 -- ---- records by their kind
 

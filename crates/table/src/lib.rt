@@ -1,5 +1,5 @@
-// A record's words (rule 6): the one place that knows how many there are and which is which. Reader, writer and query go through
-// these functions. Then rule 7: whether words form a table.
+// A record's words (rule 6, and 02 [7] for the ninth): the one place that knows how many there are and which is which. Reader, writer
+// and query go through these functions. Then rule 7: whether words form a table.
 ghost use mathlib.Core.Path.{_≡_};
 ghost use mathlib.Core.Bool.{true};
 ghost use Prim.Native.Nat.{ℕ, _+_, _*_, _≤_, _<_, _^_};
@@ -12,7 +12,7 @@ ghost use Rattle.table.specs.Records.{recordWords, leafOf, containerOf, 
 ghost use Rattle.table.specs.Check.{VerdictIs, verdictOut, Answers, Says, HopsAre};
 
 // How many words a record has.
-pub const WORDS: usize = 8;
+pub const WORDS: usize = 9;
 
 // The place of each word within its record.
 pub const KIND: usize = 0;
@@ -31,6 +31,8 @@ pub const LIST_KIND: usize = 6;
 
 pub const END: usize = 7;
 
+pub const PARENT: usize = 8;
+
 // A record of rule 6.
 pub struct Record {
     pub kind: u32,
@@ -41,6 +43,7 @@ pub struct Record {
     pub count: u32,
     pub list_kind: u32,
     pub end: u32,
+    pub parent: u32,
 }
 
 // A word as an index.
@@ -52,18 +55,18 @@ fn wide(x: u32) -> usize
 
 // Word k of record n.
 pub fn word(table: &[u32], n: usize, k: usize) -> usize
-    requires { ⌜ (8 * n + 8 ≤ length (now table)) × (k < 8) ⌝ }
+    requires { ⌜ (9 * n + 9 ≤ length (now table)) × (k < 9) ⌝ }
     ensures { λ r. ⌜ r ≡ wordOf (now (table .entry)) n k ⌝ }
 {
-    wide(table[8 * n + k])
+    wide(table[WORDS * n + k])
 }
 
 // Writes record n.
 pub fn put(table: &mut [u32], n: usize, r: Record)
-    requires { ⌜ 8 * n + 8 ≤ length (now table) ⌝ }
-    ensures { λ _. ⌜ now (table .exit) ≡ over (now (table .entry)) (8 * n) (recordWords r) ⌝ }
+    requires { ⌜ 9 * n + 9 ≤ length (now table) ⌝ }
+    ensures { λ _. ⌜ now (table .exit) ≡ over (now (table .entry)) (9 * n) (recordWords r) ⌝ }
 {
-    let at = 8 * n;
+    let at = WORDS * n;
     table[at] = r.kind;
     table[at + 1] = r.name;
     table[at + 2] = r.name_len;
@@ -72,6 +75,7 @@ pub fn put(table: &mut [u32], n: usize, r: Record)
     table[at + 5] = r.count;
     table[at + 6] = r.list_kind;
     table[at + 7] = r.end;
+    table[at + 8] = r.parent;
 }
 
 // All words to 0: what a refused read leaves.
@@ -93,9 +97,10 @@ pub fn container(
     count: usize,
     list_kind: usize,
     end: usize,
+    parent: usize,
 ) -> Record
-    requires { ⌜ (Small kind name «name_len») × (count < 2 ^ 32) × («list_kind» < 2 ^ 32) × (end < 2 ^ 32) ⌝ }
-    ensures { λ r. ⌜ r ≡ containerOf kind name «name_len» count «list_kind» end ⌝ }
+    requires { ⌜ (Small kind name «name_len») × (count < 2 ^ 32) × («list_kind» < 2 ^ 32) × (end < 2 ^ 32) × (parent < 2 ^ 32) ⌝ }
+    ensures { λ r. ⌜ r ≡ containerOf kind name «name_len» count «list_kind» end parent ⌝ }
 {
     Record {
         kind: kind as u32,
@@ -106,6 +111,7 @@ pub fn container(
         count: count as u32,
         list_kind: list_kind as u32,
         end: end as u32,
+        parent: parent as u32,
     }
 }
 
@@ -118,9 +124,10 @@ pub fn leaf(
     len: usize,
     count: usize,
     end: usize,
+    parent: usize,
 ) -> Record
-    requires { ⌜ (Small kind name «name_len») × (start < 2 ^ 32) × (len < 2 ^ 32) × (count < 2 ^ 32) × (end < 2 ^ 32) ⌝ }
-    ensures { λ r. ⌜ r ≡ leafOf kind name «name_len» start len count end ⌝ }
+    requires { ⌜ (Small kind name «name_len») × (start < 2 ^ 32) × (len < 2 ^ 32) × (count < 2 ^ 32) × (end < 2 ^ 32) × (parent < 2 ^ 32) ⌝ }
+    ensures { λ r. ⌜ r ≡ leafOf kind name «name_len» start len count end parent ⌝ }
 {
     Record {
         kind: kind as u32,
@@ -131,6 +138,7 @@ pub fn leaf(
         count: count as u32,
         list_kind: 0,
         end: end as u32,
+        parent: parent as u32,
     }
 }
 
@@ -226,7 +234,7 @@ fn leaf_fits(kind: usize, len: usize, count: usize) -> bool
 
 // Whether record i agrees with rules 4 and 6 as one that holds no records.
 fn leaf_agrees(doc_len: usize, table: &[u32], i: usize) -> bool
-    requires { ⌜ 8 * i + 8 ≤ length (now table) ⌝ }
+    requires { ⌜ 9 * i + 9 ≤ length (now table) ⌝ }
     ensures { λ r. ⌜ Says r (LeafRow «doc_len» (now (table .entry)) i) ⌝ }
 {
     let len = word(table, i, LENGTH);
@@ -242,16 +250,20 @@ fn leaf_agrees(doc_len: usize, table: &[u32], i: usize) -> bool
     word(table, i, END) == i + 1
 }
 
-// Whether record j may be a child in a container that ends at `end`; the elements of a list have no name.
-fn child_agrees(table: &[u32], end: usize, list: bool, j: usize) -> bool
-    requires { ⌜ 8 * j + 8 ≤ length (now table) ⌝ }
-    ensures { λ r. ⌜ Says r (ChildIs (now (table .entry)) list end j) ⌝ }
+// Whether record j may be a child in container `parent`, which ends at `end`: it names it as its parent (02, [7]), and the elements of
+// a list have no name.
+fn child_agrees(table: &[u32], parent: usize, end: usize, list: bool, j: usize) -> bool
+    requires { ⌜ 9 * j + 9 ≤ length (now table) ⌝ }
+    ensures { λ r. ⌜ Says r (ChildIs (now (table .entry)) list parent end j) ⌝ }
 {
     let next = word(table, j, END);
     if next <= j {
         return false;
     }
     if end < next {
+        return false;
+    }
+    if word(table, j, PARENT) != parent {
         return false;
     }
     if !list {
@@ -263,16 +275,16 @@ fn child_agrees(table: &[u32], end: usize, list: bool, j: usize) -> bool
     word(table, j, NAME_LENGTH) == 0
 }
 
-// Hops through a container's children by their end words, from record `from` up to `end`. Where the records before it agree, no record
+// Hops through the children of `parent` by their end words, from record `from` up to `end`. Where the records before it agree, no record
 // is a child of two containers, so all hops together are no more than the records.
-fn hop_through(table: &[u32], from: usize, end: usize, list: bool) -> Hops
-    requires { ⌜ (from ≤ end) × (8 * end ≤ length (now table)) ⌝ }
-    ensures { λ r. ⌜ HopsAre (now (table .entry)) list end from r ⌝ }
+fn hop_through(table: &[u32], parent: usize, from: usize, end: usize, list: bool) -> Hops
+    requires { ⌜ (from ≤ end) × (9 * end ≤ length (now table)) ⌝ }
+    ensures { λ r. ⌜ HopsAre (now (table .entry)) list parent end from r ⌝ }
 {
     let mut j = from;
     let mut count = 0;
     while j < end {
-        if !child_agrees(table, end, list, j) {
+        if !child_agrees(table, parent, end, list, j) {
             return Hops::Broken;
         }
         count += 1;
@@ -283,7 +295,7 @@ fn hop_through(table: &[u32], from: usize, end: usize, list: bool) -> Hops
 
 // The list kind that record i of n must have.
 fn list_kind_at(table: &[u32], n: usize, i: usize) -> usize
-    requires { ⌜ (i < n) × (length (now table) ≡ 8 * n) ⌝ }
+    requires { ⌜ (i < n) × (length (now table) ≡ 9 * n) ⌝ }
     ensures { λ r. ⌜ r ≡ listKindAt (now (table .entry)) i ⌝ }
 {
     if word(table, i, KIND) != 9 {
@@ -300,7 +312,7 @@ fn list_kind_at(table: &[u32], n: usize, i: usize) -> usize
 
 // Whether record i of n, a list or a compound, agrees with rule 6, and its children tile it.
 fn container_agrees(table: &[u32], n: usize, i: usize) -> bool
-    requires { ⌜ (i < n) × (length (now table) ≡ 8 * n) × (holds (wordOf (now table) i 0) ≡ true) ⌝ }
+    requires { ⌜ (i < n) × (length (now table) ≡ 9 * n) × (holds (wordOf (now table) i 0) ≡ true) ⌝ }
     ensures { λ r. ⌜ Says r (ContainerRow (now (table .entry)) n i) ⌝ }
 {
     if word(table, i, START) != 0 {
@@ -320,7 +332,7 @@ fn container_agrees(table: &[u32], n: usize, i: usize) -> bool
         return false;
     }
     let count = word(table, i, COUNT);
-    match hop_through(table, i + 1, end, word(table, i, KIND) == 9) {
+    match hop_through(table, i, i + 1, end, word(table, i, KIND) == 9) {
         Hops::All(hops) => hops == count,
         Hops::Broken => false,
     }
@@ -328,7 +340,7 @@ fn container_agrees(table: &[u32], n: usize, i: usize) -> bool
 
 // Whether record i of n agrees with rules 4 and 6.
 fn record_agrees(doc_len: usize, table: &[u32], n: usize, i: usize) -> bool
-    requires { ⌜ (i < n) × (length (now table) ≡ 8 * n) ⌝ }
+    requires { ⌜ (i < n) × (length (now table) ≡ 9 * n) ⌝ }
     ensures { λ r. ⌜ Says r (RowIs «doc_len» (now (table .entry)) n i) ⌝ }
 {
     if !span_fits(word(table, i, NAME), word(table, i, NAME_LENGTH), doc_len) {
@@ -342,7 +354,7 @@ fn record_agrees(doc_len: usize, table: &[u32], n: usize, i: usize) -> bool
 
 // Whether each of n records agrees with rules 4 and 6; the first that does not ends the search.
 fn records_agree(doc_len: usize, table: &[u32], n: usize) -> bool
-    requires { ⌜ length (now table) ≡ 8 * n ⌝ }
+    requires { ⌜ length (now table) ≡ 9 * n ⌝ }
     ensures { λ r. ⌜ Says r ((i : ℕ) → i < n → RowIs «doc_len» (now (table .entry)) n i) ⌝ }
 {
     let mut i = 0;
@@ -377,6 +389,9 @@ pub fn is_table(doc_len: usize, table: &[u32]) -> Verdict
         return Verdict::NoTable;
     }
     if word(table, 0, END) != n {
+        return Verdict::NoTable;
+    }
+    if word(table, 0, PARENT) != 0 {
         return Verdict::NoTable;
     }
     if records_agree(doc_len, table, n) {

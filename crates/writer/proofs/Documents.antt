@@ -13,7 +13,7 @@ use Rattle.form.specs.Table.{none, node, size, word, valueOf}
 use Rattle.form.specs.Tables.{IsTable, Within}
 use Rattle.form.specs.Layout.{layout}
 use Rattle.form.specs.Writing.{judged, written, Gives}
-use Rattle.form.proofs.Tables.{table-sits, table-length, sits-first, one-tree}
+use Rattle.form.proofs.Tables.{table-sits, table-under, table-length, sits-first, one-tree}
 use Rattle.table.specs.declared.Verdict.{Verdict}
 use Rattle.table.specs.Check.{VerdictIs}
 use Rattle.writer.specs.declared.Answer.{Answer}
@@ -32,13 +32,15 @@ module _ (doc t : List ℕ) (small : Within (length doc) t) (i : IsTable (length
   unfolding size
   root-rows q = record {
     sits = table-sits (length doc) t i;
+    parent = 0;
+    under = table-under (length doc) t i;
     fair = i .fair;
     to = omega (arith, q, root-end);
     fits = omega (arith, q, root-end, table-length (length doc) t i);
   }
 
   -- There is a first record.
-  pub root-room : 8 ≤ length t
+  pub root-room : 9 ≤ length t
   root-room = omega (arith, table-length (length doc) t i)
 
   -- The root's record and those in it, as records side by side: there is one.

@@ -14,7 +14,7 @@ use Rattle.form.specs.Table.{Head, Forest, none, node, size, word, flat, wrote,
 use Rattle.form.specs.Tables.{Fair, LeafIs, ContainerIs, Within, leafFits}
 use Rattle.form.specs.Records.{Stands}
 use Rattle.form.proofs.Table.{flat-length}
-use Rattle.form.proofs.Tables.{sits-first, sits-inner, sits-later, sits-alone, sits-words, fair-name, fair-first, fair-inner, fair-later, fair-alone}
+use Rattle.form.proofs.Tables.{under-alone, under-later, under-inner, sits-first, sits-inner, sits-later, sits-alone, sits-words, fair-name, fair-first, fair-inner, fair-later, fair-alone}
 use Rattle.form.proofs.Leaves.{fits-held}
 use Rattle.form.proofs.Places.{over-part}
 use Rattle.siblings.specs.Holding.{NamesIn, Holds}
@@ -46,8 +46,8 @@ unfolding size
 rows-split doc t l n end h inner later r =
     let e = r .to in
     let b = r .fits in (
-      record { sits = sits-alone t n h inner later (r .sits); fair = fair-alone (length doc) l h inner later (r .fair); to = omega arith; fits = omega arith },
-      record { sits = sits-later t n h inner later (r .sits); fair = fair-later (length doc) l h inner later (r .fair); to = omega arith; fits = b },
+      record { sits = sits-alone t n h inner later (r .sits); parent = r .parent; under = under-alone t (r .parent) n h inner later (r .under); fair = fair-alone (length doc) l h inner later (r .fair); to = omega arith; fits = omega arith },
+      record { sits = sits-later t n h inner later (r .sits); parent = r .parent; under = under-later t (r .parent) n h inner later (r .under); fair = fair-later (length doc) l h inner later (r .fair); to = omega arith; fits = b },
       omega arith,
     )
 
@@ -72,7 +72,7 @@ no-holds : (k s c : ℕ) → leafFits k s c ≡ true → holds k ≡ true → �
 no-holds k s c e f = let z : true ≡ false = sym e ∙ fits-held k s c f in let y : _≡_ {A = ℕ} 0 1 = cc in omega arith
 
 module _ (doc t : List ℕ) (l : Bool) (n end : ℕ) (h : Head) (inner : Forest) (r : Rows doc t l n end (node h inner none)) where
-  -- Its eight words stand in the table.
+  -- Its words stand in the table.
   stands : Stands t n h (n + 1 + size inner)
   stands = sits-first t n h inner none (r .sits)
 
@@ -113,6 +113,8 @@ module _ (doc t : List ℕ) (l : Bool) (n end : ℕ) (h : Head) (inner : Forest)
   pub rows-inner : Rows doc t (eqb (h .kind) 9) (n + 1) end inner
   rows-inner = record {
     sits = sits-inner t n h inner none (r .sits);
+    parent = n;
+    under = under-inner t (r .parent) n h inner none (r .under);
     fair = fair-inner (length doc) l h inner none (r .fair);
     to = omega (arith, rows-to);
     fits = r .fits;
@@ -159,16 +161,16 @@ free-in d l (node h inner later) w = (go (w .1) (holds (h .kind)) refl, free-in 
 
 module _ (doc t : List ℕ) (l : Bool) (n end : ℕ) (f : Forest) (r : Rows doc t l n end f) where
   -- Where records stand, writing them changes nothing.
-  written : t ≡ wrote t n f
+  written : t ≡ wrote t (r .parent) n f
   unfolding wrote
   written =
-      let e : part t (8 * n) (length (flat n f)) ≡ flat n f =
-      ap (take (length (flat n f))) (sym (sits-words t n f (r .sits))) ∙ take-append-seam (flat n f) (drop (8 * (n + size f)) t) in
-      sym (ap (over t (8 * n)) (sym e) ∙ over-part t (8 * n) (length (flat n f)) (omega (arith, flat-length n f, r .to, r .fits)))
+      let e : part t (9 * n) (length (flat (r .parent) n f)) ≡ flat (r .parent) n f =
+      ap (take (length (flat (r .parent) n f))) (sym (sits-words t (r .parent) n f (r .sits) (r .under))) ∙ take-append-seam (flat (r .parent) n f) (drop (9 * (n + size f)) t) in
+      sym (ap (over t (9 * n)) (sym e) ∙ over-part t (9 * n) (length (flat (r .parent) n f)) (omega (arith, flat-length (r .parent) n f, r .to, r .fits)))
 
   -- So the table holds them.
   abbrev held : Holds (length doc) t n end
-  held = record { acc = f; base = t; is = written; to = r .to; fits = r .fits; names = names-in (length doc) l f (r .fair) }
+  held = record { acc = f; base = t; parent = r .parent; is = written; to = r .to; fits = r .fits; names = names-in (length doc) l f (r .fair) }
 
   -- What the search for a repeated name requires.
   pub rows-family : Within (length doc) t → Family doc t n end

@@ -11,7 +11,7 @@ use Rattle.form.specs.Layout.{layout}
 use Rattle.form.specs.Table.{Head, Forest, none, node, size, word, valueOf}
 use Rattle.form.specs.Tables.{Fair, Within, IsTable}
 use Rattle.form.specs.Writing.{judged, Gives, written, WriteIs}
-use Rattle.form.specs.Records.{Sits}
+use Rattle.form.specs.Records.{Sits, Under}
 use Rattle.writer.specs.declared.Answer.{Answer}
 use Rattle.writer.specs.declared.Fine.{Fine}
 use Rattle.writer.specs.declared.Size.{Size}
@@ -29,16 +29,18 @@ fineOut (Fine.No n p) = no n p
 
 -- record n stands in the table, and its spans in the document
 pub record Placed (doc t : List ℕ) (n : ℕ) : Type 0 where
-  pub room : 8 * n + 8 ≤ length t
+  pub room : 9 * n + 9 ≤ length t
   pub name : word t n 1 + word t n 2 ≤ length doc
   pub body : word t n 3 + word t n 4 ≤ length doc
 
 -- the records f stand in the table, fair, from record n up to `end`
 pub record Rows (doc t : List ℕ) (list : Bool) (n end : ℕ) (f : Forest) : Type 0 where
   pub sits : Sits t n f
+  pub parent : ℕ
+  pub under : Under t parent n f
   pub fair : Fair (length doc) list f
   pub to : end ≡ n + size f
-  pub fits : 8 * end ≤ length t
+  pub fits : 9 * end ≤ length t
 
 -- some records stand there
 pub record Some (doc t : List ℕ) (list : Bool) (n end : ℕ) : Type 0 where

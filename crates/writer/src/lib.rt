@@ -143,7 +143,7 @@ fn own_fine(
 
 // How many bytes a record's payload takes, without those of the records in it.
 fn body_size(table: &[u32], n: usize) -> usize
-    requires { ⌜ (8 * n + 8 ≤ length (now table)) × (wordOf (now table) n 4 ≤ 16777216) ⌝ }
+    requires { ⌜ (9 * n + 9 ≤ length (now table)) × (wordOf (now table) n 4 ≤ 16777216) ⌝ }
     ensures { λ r. ⌜ r ≡ bodySize (headOf (now (table .entry)) n) ⌝ }
 {
     let kind = table::word(table, n, table::KIND);
@@ -165,7 +165,7 @@ fn body_size(table: &[u32], n: usize) -> usize
 
 // How many bytes a record takes, without those of the records in it: an entry's id and name stand before its payload.
 fn own_size(table: &[u32], n: usize, list: bool) -> usize
-    requires { ⌜ (8 * n + 8 ≤ length (now table)) × (wordOf (now table) n 4 ≤ 16777216) × (wordOf (now table) n 2 ≤ 16777216) ⌝ }
+    requires { ⌜ (9 * n + 9 ≤ length (now table)) × (wordOf (now table) n 4 ≤ 16777216) × (wordOf (now table) n 2 ≤ 16777216) ⌝ }
     ensures { λ r. ⌜ r ≡ ownSize list (headOf (now (table .entry)) n) ⌝ }
 {
     let body = body_size(table, n);
@@ -279,7 +279,7 @@ fn put_name(doc: &[u8], table: &[u32], n: usize, list: bool, out: &mut [u8], at:
 
 // A string's length or an array's count (rule 4), and the place after it.
 fn put_length(table: &[u32], n: usize, out: &mut [u8], at: usize) -> usize
-    requires { ⌜ (8 * n + 8 ≤ length (now table)) × (at + length (lengthBytes (headOf (now table) n)) ≤ length (now out)) ⌝ }
+    requires { ⌜ (9 * n + 9 ≤ length (now table)) × (at + length (lengthBytes (headOf (now table) n)) ≤ length (now out)) ⌝ }
     ensures { λ r. ⌜ Puts (lengthBytes (headOf (now (table .entry)) n)) (now (out .entry)) at (now (out .exit)) r ⌝ }
 {
     let kind = table::word(table, n, table::KIND);
@@ -307,7 +307,7 @@ fn put_leaf(doc: &[u8], table: &[u32], n: usize, out: &mut [u8], at: usize) -> u
 
 // A list's id and count (rule 4), and the place after them; of an empty list five zero bytes.
 fn put_list(table: &[u32], n: usize, out: &mut [u8], at: usize) -> usize
-    requires { ⌜ (8 * n + 8 ≤ length (now table)) × (at + 5 ≤ length (now out)) ⌝ }
+    requires { ⌜ (9 * n + 9 ≤ length (now table)) × (at + 5 ≤ length (now out)) ⌝ }
     ensures { λ r. ⌜ Puts (listBytes (headOf (now (table .entry)) n)) (now (out .entry)) at (now (out .exit)) r ⌝ }
 {
     raw::put_number(out, at, 1, table::word(table, n, table::LIST_KIND) as u64);

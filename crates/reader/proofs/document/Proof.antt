@@ -35,7 +35,7 @@ root-requires c κs =
     let n = length (o .args .table .now) in
     let l : length (o .args .doc .now) ≤ 16777216 = k .before .before .before .if1 .left in
     record {
-      ready = record { doc-le = l; at-le = w .to; cap-le = room-le n; fits = room-fits n; n-le = omega arith };
+      ready = record { doc-le = l; at-le = w .to; cap-le = room-le n; fits = room-fits n; n-le = omega arith; above-le = omega arith };
       kind-le = omega arith;
       name-lt = omega (arith, w);
       len-lt = omega (arith, w);
@@ -51,7 +51,7 @@ returns-4 c =
     let n = c .before .before in
     let k = n .before .before .before .before .before .before in
     rw (document-got _ _ (k .before .before .before .if1 .left) (omega arith) (k .if3 .taken) (is (n .before .before)))
-    (stepped-from (n .root .result) _ _ _ _ _ _ _ (n .root .ensures))
+    (stepped-from (n .root .result) _ _ _ _ _ _ _ _ (n .root .ensures))
 
 returns-5 : tie.Need-returns-5
 returns-5 c = (document-kind _ _ (c .before .before .before .if1 .left) (omega arith) (c .if3 .left), refl)

@@ -12,7 +12,7 @@ use Rattle.rescue.proofs.lay.Tie as tie
 slice-aggregate-write : tie.Need-slice-aggregate-write
 slice-aggregate-write c =
     let start = c .before .before .before .before in
-    sym (length-take-le (8 * start .args .records) (start .args .table .now) (start .pre .fits))
+    sym (length-take-le (9 * start .args .records) (start .args .table .now) (start .pre .fits))
 
 returns : tie.Need-returns
 returns c =

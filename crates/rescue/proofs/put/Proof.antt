@@ -16,7 +16,7 @@ bytes-of c = c .before .before .before .before
 slice-aggregate-put : tie.Need-slice-aggregate-put
 slice-aggregate-put c =
     let start = c .before .before .before .before in
-    sym (length-take-le (8 * start .args .records) (start .args .table .now) (start .pre .gathered .fits))
+    sym (length-take-le (9 * start .args .records) (start .args .table .now) (start .pre .gathered .fits))
 
 put-requires : tie.Need-put-requires
 put-requires c κs =

@@ -34,7 +34,7 @@ abbrev On : ℕ → (lts.Claims → In 2 sort-kinds.ps → Out 2 sort-kinds.ps s
 On t F = F (word-reads.Asked, word-reads.Learnt, sort-below t, sort.Post, merge-reads.Asked, merge-reads.Learnt) (sort-at t) sort.Post
 
 module _ (t : ℕ) where
-  room : (c : On t lts.Then1) → 8 * c .before .before .before .args .at + 8 ≤ length (c .before .before .before .args .table .now)
+  room : (c : On t lts.Then1) → 9 * c .before .before .before .args .at + 9 ≤ length (c .before .before .before .args .table .now)
   room c =
       let s = c .before .before .before in
       s .pre .1 .fit (s .args .at) (walk-first _ (s .args .at) (s .args .n) (s .pre .1 .some)) .room

@@ -22,7 +22,7 @@ abbrev μ-loop : tie.MeasureT-loop
 told : (c : tie.After-same-name Inv-loop μ-loop) →
     let l = c .before .before .before .before in
     let a = l .before .before .before .args in
-    same (part (a .doc .now) (getD (a .table .now) (8 * l .loop .i + 1) 0) (getD (a .table .now) (8 * l .loop .i + 2) 0)) (part (a .doc .now) (a .start) (a .len)) ≡ c .same-name .result
+    same (part (a .doc .now) (getD (a .table .now) (9 * l .loop .i + 1) 0) (getD (a .table .now) (9 * l .loop .i + 2) 0)) (part (a .doc .now) (a .start) (a .len)) ≡ c .same-name .result
 told c = sym (rw (c .before .before .word .ensures, c .before .word2 .ensures) at (c .same-name .ensures))
 
 same-name-requires : tie.Need-same-name-requires Inv-loop μ-loop

@@ -22,7 +22,7 @@ abbrev μ-loop : tie.MeasureT-loop
 μ-loop doc table first stop seen₀ i₀ seen i = stop - i
 
 room : (c : tie.Else1 Inv-loop μ-loop)
-    → 8 * c .before .before .before .before .loop .i + 8 ≤ length (c .before .before .before .before .before .before .before .args .table .now)
+    → 9 * c .before .before .before .before .loop .i + 9 ≤ length (c .before .before .before .before .before .before .before .args .table .now)
 room c =
     let i = c .before .before .before in
     let l = i .before .loop .inv in

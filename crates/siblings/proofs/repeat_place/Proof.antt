@@ -20,7 +20,7 @@ is c = sym (c .before .before .before .before .before .first-repeat .ensures .0)
 
 room : (c : tie.After-known-told) →
     let f = c .before .before .before .before .before in
-    8 * c .before .k .given .0 .0 + 8 ≤ length (f .first-repeat .last .1 .0)
+    9 * c .before .k .given .0 .0 + 9 ≤ length (f .first-repeat .last .1 .0)
 room c =
     let f = c .before .before .before .before .before in
     let s = f .before .before .before .before in

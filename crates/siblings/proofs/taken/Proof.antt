@@ -17,7 +17,7 @@ Inv-loop doc table first stop i j₀ j = (f : Family doc table first stop) × As
 abbrev μ-loop : tie.MeasureT-loop
 μ-loop doc table first stop i j₀ j = i - j
 
-room : (c : tie.Else1 Inv-loop μ-loop) → 8 * c .before .before .before .loop .j + 8 ≤ length (c .before .before .before .before .before .before .args .table .now)
+room : (c : tie.Else1 Inv-loop μ-loop) → 9 * c .before .before .before .loop .j + 9 ≤ length (c .before .before .before .before .before .before .args .table .now)
 room c =
     let i = c .before .before in
     let l = i .before .loop .inv in

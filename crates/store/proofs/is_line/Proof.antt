@@ -1,4 +1,4 @@
--- `store::is_line` meets its contract: a good line is known by its 65 bytes, and bytes that begin otherwise begin with a bad one.
+-- `store::is_line` meets its contract: a good line is known by its 73 bytes, and bytes that begin otherwise begin with a bad one.
 -- Assumes nothing.
 use borrow.Author.Needs.{needs}
 use mathlib.Core.Path.{subst, sym, _∙_}

@@ -13,10 +13,10 @@ use Rattle.store.proofs.put_line.Statement.{statement}
 use Rattle.store.proofs.put_line.Tie as tie
 
 abbrev Inv-loop : tie.InvT-loop
-Inv-loop table n out₀ k₀ out k = (out ≡ over out₀ (65 * n) (wordDigits (part table (8 * n) k))) × (length out ≡ length out₀) × (k ≤ 8)
+Inv-loop table n out₀ k₀ out k = (out ≡ over out₀ (73 * n) (wordDigits (part table (9 * n) k))) × (length out ≡ length out₀) × (k ≤ 9)
 
 abbrev μ-loop : tie.MeasureT-loop
-μ-loop table n out₀ k₀ out k = 8 - k
+μ-loop table n out₀ k₀ out k = 9 - k
 
 loop-holds : tie.Need-loop-holds Inv-loop μ-loop
 unfolding wordDigits
@@ -31,7 +31,7 @@ loop-again c =
     let l = at-loop .loop in
     let a = at-lists .before .before .args in (
       at-put .put-word .ensures
-          ∙ word-behind (a .table .now) (8 * a .n) (l .k) (a .out .now) (65 * a .n) (l .out) (l .inv .0) (omega arith) (omega arith),
+          ∙ word-behind (a .table .now) (9 * a .n) (l .k) (a .out .now) (73 * a .n) (l .out) (l .inv .0) (omega arith) (omega arith),
       at-put .put-word .kept .0 ∙ l .inv .1,
       omega arith,
     )
@@ -43,7 +43,7 @@ returns c =
     let l = at-loop .loop in
     let a = at-lists .before .before .args in
     let all = rw (le-antisymm (l .inv .2) (c .loop-test .left)) at (l .inv .0) in
-    feed-behind (a .table .now) (8 * a .n) 8 (a .out .now) (65 * a .n) (l .out) all (omega arith) (omega arith)
+    feed-behind (a .table .now) (9 * a .n) 9 (a .out .now) (73 * a .n) (l .out) all (omega arith) (omega arith)
 
 pub put-line-spec : {M : Type 1} → statement M
 put-line-spec =

@@ -13,7 +13,7 @@ use Rattle.store.proofs.put_lines.Statement.{statement}
 use Rattle.store.proofs.put_lines.Tie as tie
 
 abbrev Inv-loop : tie.InvT-loop
-Inv-loop table n out₀ i₀ out i = (out ≡ over out₀ 0 (linesOf 8 i table)) × (length out ≡ length out₀) × (i ≤ n)
+Inv-loop table n out₀ i₀ out i = (out ≡ over out₀ 0 (linesOf 9 i table)) × (length out ≡ length out₀) × (i ≤ n)
 
 abbrev μ-loop : tie.MeasureT-loop
 μ-loop table n out₀ i₀ out i = n - i

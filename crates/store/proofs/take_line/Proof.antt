@@ -15,10 +15,10 @@ use Rattle.store.proofs.take_line.Tie as tie
 
 abbrev Inv-loop : tie.InvT-loop
 Inv-loop lines n table₀ k₀ table k =
-    (length table ≡ length table₀) × (table ≡ over table₀ (8 * n) (wordsOf k (part lines (65 * n) 64))) × (k ≤ 8)
+    (length table ≡ length table₀) × (table ≡ over table₀ (9 * n) (wordsOf k (part lines (73 * n) 72))) × (k ≤ 9)
 
 abbrev μ-loop : tie.MeasureT-loop
-μ-loop lines n table₀ k₀ table k = 8 - k
+μ-loop lines n table₀ k₀ table k = 9 - k
 
 -- Where the function starts, from its loop.
 abbrev start-of : tie.At-loop Inv-loop μ-loop → tie.Start Inv-loop μ-loop
@@ -27,17 +27,17 @@ start-of c = c .before .before .before
 loop-holds : tie.Need-loop-holds Inv-loop μ-loop
 loop-holds c =
     let start = c .before .before in
-    (refl, no-words (start .args .table .now) (8 * start .args .n) (part (start .args .lines .now) (65 * start .args .n) 64), omega arith)
+    (refl, no-words (start .args .table .now) (9 * start .args .n) (part (start .args .lines .now) (73 * start .args .n) 72), omega arith)
 
 word-at-requires : tie.Need-word-at-requires Inv-loop μ-loop
 word-at-requires c κs =
     let start = start-of (c .before) in
     let s = start .args .lines .now in
-    let at = 65 * start .args .n in
+    let at = 73 * start .args .n in
     let k = c .before .loop .k in
     let h = c .loop-test .taken in (
       omega (arith, start .pre .0, h),
-      subst (λ x. allDigits x ≡ true) (part-part s at 64 (8 * k) 8 (start .pre .0) (omega (arith, h))) (span-digits (part s at 64) (start .pre .2) (8 * k) 8),
+      subst (λ x. allDigits x ≡ true) (part-part s at 72 (8 * k) 8 (start .pre .0) (omega (arith, h))) (span-digits (part s at 72) (start .pre .2) (8 * k) 8),
     )
 
 loop-again : tie.Need-loop-again Inv-loop μ-loop
@@ -49,13 +49,13 @@ loop-again c =
     let s = start .args .lines .now in
     let t = start .args .table .now in
     let n = start .args .n in
-    let line = part s (65 * n) 64 in
+    let line = part s (73 * n) 72 in
     let word : c .word-at .result ≡ hexValue (part line (8 * l .k) 8) =
-    c .word-at .ensures ∙ ap hexValue (sym (part-part s (65 * n) 64 (8 * l .k) 8 (start .pre .0) (omega (arith, h)))) in (
+    c .word-at .ensures ∙ ap hexValue (sym (part-part s (73 * n) 72 (8 * l .k) 8 (start .pre .0) (omega (arith, h)))) in (
       simp length-set (l .inv .0),
-      ap (λ x. set x (8 * n + l .k) (c .word-at .result)) (l .inv .1)
-          ∙ ap (set (over t (8 * n) (wordsOf (l .k) line)) (8 * n + l .k)) word
-          ∙ word-put t line (8 * n) (l .k) (omega (arith, start .pre .1, h)),
+      ap (λ x. set x (9 * n + l .k) (c .word-at .result)) (l .inv .1)
+          ∙ ap (set (over t (9 * n) (wordsOf (l .k) line)) (9 * n + l .k)) word
+          ∙ word-put t line (9 * n) (l .k) (omega (arith, start .pre .1, h)),
       omega (arith, h),
     )
 
@@ -63,8 +63,8 @@ returns : tie.Need-returns Inv-loop μ-loop
 returns c =
     let l = c .before .loop in
     let start = start-of (c .before) in
-    let line = part (start .args .lines .now) (65 * start .args .n) 64 in
-    l .inv .1 ∙ ap (λ k. over (start .args .table .now) (8 * start .args .n) (wordsOf k line)) (le-antisymm (l .inv .2) (c .loop-test .left))
+    let line = part (start .args .lines .now) (73 * start .args .n) 72 in
+    l .inv .1 ∙ ap (λ k. over (start .args .table .now) (9 * start .args .n) (wordsOf k line)) (le-antisymm (l .inv .2) (c .loop-test .left))
 
 pub take-line-spec : {M : Type 1} → statement M
 take-line-spec =

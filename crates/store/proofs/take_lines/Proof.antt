@@ -15,7 +15,7 @@ abbrev Inv-loop : tie.InvT-loop
 Inv-loop lines table₀ room n₀ table n = Sofar lines table₀ table n
 
 abbrev μ-loop : tie.MeasureT-loop
-μ-loop lines table₀ room n₀ table n = length lines - 65 * n
+μ-loop lines table₀ room n₀ table n = length lines - 73 * n
 
 -- Where the function starts, from its loop.
 abbrev start-of : tie.At-loop Inv-loop μ-loop → tie.Start Inv-loop μ-loop
@@ -35,7 +35,7 @@ loop-of c = c .before .before
 
 -- The line that stands next, known to be good or bad.
 line-next : (c : tie.After-is-line Inv-loop μ-loop) (good : Bool) → c .is-line .result ≡ good
-    → FirstLine (drop (65 * c .before .before .loop .n) (start-of (c .before .before) .args .lines .now)) good
+    → FirstLine (drop (73 * c .before .before .loop .n) (start-of (c .before .before) .args .lines .now)) good
 line-next c good e = subst (FirstLine _) e (c .is-line .ensures)
 
 returns : tie.Need-returns Inv-loop μ-loop

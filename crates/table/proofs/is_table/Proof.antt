@@ -51,24 +51,37 @@ returns-7 c =
     let at-end = c .before .before in
     let at-kind = at-end .before .before in
     let at-rows = at-kind .before .before .before in
+    verdict-is _ _ Verdict.NoTable (
+      record { bytes = at-rows .before .before .if1 .left; words = at-rows .before .if2 .left },
+      λ t. c .if7 .taken (c .before .word3 .ensures ∙ table-rows _ _ _ (at-rows .if3 .left) t .top),
+    )
+
+returns-8 : tie.Need-returns-8
+returns-8 c =
+    let at-top = c .before .before in
+    let at-end = at-top .before .before in
+    let at-kind = at-end .before .before in
+    let at-rows = at-kind .before .before .before in
     verdict-is _ _ Verdict.Table (
       record { bytes = at-rows .before .before .if1 .left; words = at-rows .before .if2 .left },
       rows-table _ _ _ (at-rows .if3 .left) (record {
         some = (let n = at-kind .before .before .if4 .left in omega arith);
         compound = sym (at-kind .before .word .ensures) ∙ at-kind .if5 .left;
         whole = sym (at-end .before .word2 .ensures) ∙ at-end .if6 .left;
-        each = c .before .records-agree .ensures .yes (c .if7 .taken);
+        top = sym (at-top .before .word3 .ensures) ∙ at-top .if7 .left;
+        each = c .before .records-agree .ensures .yes (c .if8 .taken);
       }),
     )
 
-returns-8 : tie.Need-returns-8
-returns-8 c =
-    let at-end = c .before .before in
+returns-9 : tie.Need-returns-9
+returns-9 c =
+    let at-top = c .before .before in
+    let at-end = at-top .before .before in
     let at-kind = at-end .before .before in
     let at-rows = at-kind .before .before .before in
     verdict-is _ _ Verdict.NoTable (
       record { bytes = at-rows .before .before .if1 .left; words = at-rows .before .if2 .left },
-      λ t. c .before .records-agree .ensures .no (c .if7 .left) (table-rows _ _ _ (at-rows .if3 .left) t .each),
+      λ t. c .before .records-agree .ensures .no (c .if8 .left) (table-rows _ _ _ (at-rows .if3 .left) t .each),
     )
 
 pub is-table-spec : {M : Type 1} → statement M
@@ -87,4 +100,6 @@ is-table-spec =
     returns-6
     (λ c κs. search needs)
     returns-7
-    returns-8)
+    (λ c κs. search needs)
+    returns-8
+    returns-9)

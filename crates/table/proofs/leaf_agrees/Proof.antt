@@ -11,7 +11,7 @@ use Rattle.table.proofs.leaf_agrees.Tie as tie
 
 leaf-fits-requires : tie.Need-leaf-fits-requires
 leaf-fits-requires c κs =
-    omega (arith, c .word3 .ensures, c .before .before .before .shared-slice-known .given (8 * c .before .before .before .before .args .i + 5))
+    omega (arith, c .word3 .ensures, c .before .before .before .shared-slice-known .given (9 * c .before .before .before .before .args .i + 5))
 
 returns : tie.Need-returns
 returns c =

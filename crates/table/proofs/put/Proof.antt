@@ -1,4 +1,4 @@
--- `table::put` meets its contract: the eight stores are a run of stores.
+-- `table::put` meets its contract: the nine stores are a run of stores.
 -- Assumes nothing.
 use borrow.Author.Needs.{needs}
 use native.Mathlib.Omega.{arith}
@@ -13,7 +13,7 @@ use Rattle.table.proofs.put.Reads as reads
 use Rattle.table.proofs.put.Lts as lts
 
 returns : tie.Need-returns
-returns c = simp towards-suc (sets-over (recordWords (c .args .r)) (c .args .table .now) (8 * c .args .n) (c .pre))
+returns c = simp towards-suc (sets-over (recordWords (c .args .r)) (c .args .table .now) (9 * c .args .n) (c .pre))
 
 pub put-spec : {M : Type 1} → statement M
 put-spec =
@@ -22,6 +22,9 @@ put-spec =
     (λ c. search needs)
     (λ c. search needs)
     (λ c. search needs)
+    (λ c. search needs)
+    (λ c. search needs)
+    (λ c. simp length-set (omega arith))
     (λ c. search needs)
     (λ c. search needs)
     (λ c. simp length-set (omega arith))

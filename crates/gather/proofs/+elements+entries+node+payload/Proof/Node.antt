@@ -27,22 +27,22 @@ module _ (t : ℕ) where
       (asked .named, asked-room asked, at-then .if1 .taken)
 
   pub same-length : On t lts.Need-same-length
-  same-length c = c .before .before .fixed .kept .1 .1 .1 .1 .1 .0
+  same-length c = c .before .before .fixed .kept .1 .1 .1 .1 .0
 
   pub returns : On t lts.Need-returns
   returns c =
       let at-fixed = c .before .before in
       let at-then = at-fixed .before .before in
-      leaf-piece _ _ _ _ _ _ _ _ _ _ _ _ _ (at-fixed .fixed .result) (at-fixed .fixed .ensures) (small-holds _ (at-then .if1 .taken)) (start-of at-then .pre .1 .only) (omega arith)
+      leaf-piece _ _ _ _ _ _ _ _ _ _ _ _ _ _ (at-fixed .fixed .result) (at-fixed .fixed .ensures) (small-holds _ (at-then .if1 .taken)) (start-of at-then .pre .1 .only) (omega arith)
 
   pub payload-requires : On t lts.Need-payload-requires
   payload-requires c κs = (omega arith, c .before .before .before .before .before .before .pre .1)
 
   pub same-length-2 : On t lts.Need-same-length-2
-  same-length-2 c = c .before .before .before .before .payload .kept .1 .1 .1 .1 .1 .1 .0
+  same-length-2 c = c .before .before .before .before .payload .kept .1 .1 .1 .1 .1 .0
 
   pub same-length-3 : On t lts.Need-same-length-3
-  same-length-3 c = c .before .before .before .before .payload .kept .1 .1 .1 .1 .1 .1 .1 .1 .0
+  same-length-3 c = c .before .before .before .before .payload .kept .1 .1 .1 .1 .1 .1 .1 .0
 
   pub returns-2 : On t lts.Need-returns-2
   returns-2 c = c .before .before .before .before .payload .ensures

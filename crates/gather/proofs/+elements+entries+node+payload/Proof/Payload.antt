@@ -81,13 +81,13 @@ module _ (t : ℕ) where
       (asked .named, asked-room asked)
 
   pub same-length : On t lts.Need-same-length
-  same-length c = c .before .before .leaf .kept .1 .1 .1 .1 .1 .0
+  same-length c = c .before .before .leaf .kept .1 .1 .1 .1 .0
 
   pub returns : On t lts.Need-returns
   returns c =
       let at-leaf = c .before .before in
       let at-then = at-leaf .before .before in
-      leaf-piece _ _ _ _ _ _ _ _ _ _ _ _ _ (at-leaf .leaf .result) (at-leaf .leaf .ensures) (holds-not at-then) (start-of (at-then .before) .pre .1 .only) (omega arith)
+      leaf-piece _ _ _ _ _ _ _ _ _ _ _ _ _ _ (at-leaf .leaf .result) (at-leaf .leaf .ensures) (holds-not at-then) (start-of (at-then .before) .pre .1 .only) (omega arith)
 
   -- ---- a container
 
@@ -109,18 +109,18 @@ module _ (t : ℕ) where
   held-requires c κs =
       let at-entries = c .before .before .before .before .before .before in
       held-asked (compound-start (at-entries .before .before .before) .pre .1)
-      (side-small _ _ _ _ _ _ _ _ _ _ _ _ (at-entries .entries .result) (at-entries .entries .ensures))
+      (side-small _ _ _ _ _ _ _ _ _ _ _ _ _ (at-entries .entries .result) (at-entries .entries .ensures))
       (at-entries .entries .kept .1 .1 .1 .0) (at-entries .entries .kept .1 .1 .1 .1 .1 .0) (omega arith) (omega arith)
 
   pub same-length-2 : On t lts.Need-same-length-2
   same-length-2 c =
       let at-held = c .before .before .before .before in
-      at-held .held .kept .1 .1 .1 .1 .1 .1 .1 .0 ∙ entries-of at-held .entries .kept .1 .1 .1 .0
+      at-held .held .kept .1 .1 .1 .1 .1 .1 .0 ∙ entries-of at-held .entries .kept .1 .1 .1 .0
 
   pub same-length-3 : On t lts.Need-same-length-3
   same-length-3 c =
       let at-held = c .before .before .before .before in
-      at-held .held .kept .1 .1 .1 .1 .1 .1 .1 .1 .1 .0 ∙ entries-of at-held .entries .kept .1 .1 .1 .1 .1 .0
+      at-held .held .kept .1 .1 .1 .1 .1 .1 .1 .1 .0 ∙ entries-of at-held .entries .kept .1 .1 .1 .1 .1 .0
 
   pub returns-3 : On t lts.Need-returns-3
   returns-3 c =
@@ -156,18 +156,18 @@ module _ (t : ℕ) where
       let at-head = head-of at-elements in
       let within = list-head-within _ _ (head-is at-head) in
       held-asked (list-start (at-head .before .before .before) .pre .1)
-      (side-small _ _ _ _ _ _ _ _ _ _ _ _ (at-elements .elements .result) (at-elements .elements .ensures))
+      (side-small _ _ _ _ _ _ _ _ _ _ _ _ _ (at-elements .elements .result) (at-elements .elements .ensures))
       (at-elements .elements .kept .1 .1 .1 .1 .1 .0) (at-elements .elements .kept .1 .1 .1 .1 .1 .1 .1 .0) (omega (arith, within .2)) (omega arith)
 
   pub same-length-4 : On t lts.Need-same-length-4
   same-length-4 c =
       let at-held = c .before .before .before .before in
-      at-held .held2 .kept .1 .1 .1 .1 .1 .1 .1 .0 ∙ elements-of at-held .elements .kept .1 .1 .1 .1 .1 .0
+      at-held .held2 .kept .1 .1 .1 .1 .1 .1 .0 ∙ elements-of at-held .elements .kept .1 .1 .1 .1 .1 .0
 
   pub same-length-5 : On t lts.Need-same-length-5
   same-length-5 c =
       let at-held = c .before .before .before .before in
-      at-held .held2 .kept .1 .1 .1 .1 .1 .1 .1 .1 .1 .0 ∙ elements-of at-held .elements .kept .1 .1 .1 .1 .1 .1 .1 .0
+      at-held .held2 .kept .1 .1 .1 .1 .1 .1 .1 .1 .0 ∙ elements-of at-held .elements .kept .1 .1 .1 .1 .1 .1 .1 .0
 
   pub returns-5 : On t lts.Need-returns-5
   returns-5 c =

@@ -19,19 +19,19 @@ use Rattle.reader.proofs.+elements+entries+inside+larger+list+node.Proo
 abbrev pub readOf : List ℕ → ℕ → ℕ → Reader
 readOf doc cap depth = payloadBy doc cap (insideAt doc cap depth)
 
-pub record Inv (doc : List ℕ) (kind count at depth : ℕ) (t₀ : List ℕ) (cap ix : ℕ) (t : List ℕ) (here next left : ℕ) : Type 0 where
+pub record Inv (doc : List ℕ) (kind count at depth : ℕ) (t₀ : List ℕ) (cap above ix : ℕ) (t : List ℕ) (here next left : ℕ) : Type 0 where
   pub acc : Forest
-  pub sofar : Sofar (elementsOf doc (readOf doc cap depth) count kind at ix) (elementsOf doc (readOf doc cap depth) left kind here next) acc t₀ t ix next (count - left)
+  pub sofar : Sofar (elementsOf doc (readOf doc cap depth) count kind at ix) (elementsOf doc (readOf doc cap depth) left kind here next) acc t₀ t above ix next (count - left)
   pub left-le : left ≤ count
   pub on : at ≤ here
   pub at-le : here ≤ length doc
   pub n-le : next ≤ cap
 
 abbrev pub Inv-loop : lts.InvT-loop
-Inv-loop doc kind count at depth table₀ cap ix here₀ next₀ left₀ table here next left = Inv doc kind count at depth table₀ cap ix table here next left
+Inv-loop doc kind count at depth table₀ cap above ix here₀ next₀ left₀ table here next left = Inv doc kind count at depth table₀ cap above ix table here next left
 
 abbrev pub μ-loop : lts.MeasureT-loop
-μ-loop doc kind count at depth table₀ cap ix here₀ next₀ left₀ table here next left = left
+μ-loop doc kind count at depth table₀ cap above ix here₀ next₀ left₀ table here next left = left
 
 abbrev On : ℕ → (lts.Claims → In 2 kinds.ps → Out 2 kinds.ps kinds.r → lts.InvT-loop → lts.MeasureT-loop → Type 0) → Type 0
 On t F = F (node-below t, node.Post) (elements-at t) elements.Post Inv-loop μ-loop
@@ -40,7 +40,7 @@ module _ (t : ℕ) where
   pub loop-holds : On t lts.Need-loop-holds
   loop-holds c =
       let r = c .before .before .pre .1 .0 in
-      record { acc = none; sofar = sofar-start _ _ _ (omega arith); left-le = omega arith; on = omega arith; at-le = r .at-le; n-le = r .n-le }
+      record { acc = none; sofar = sofar-start _ _ _ _ (omega arith); left-le = omega arith; on = omega arith; at-le = r .at-le; n-le = r .n-le }
 
   -- at the loop's head the table is as long as it was
   same : (c : On t lts.At-loop) → length (c .loop .table) ≡ length (c .before .before .before .args .table .now)
@@ -52,7 +52,7 @@ module _ (t : ℕ) where
       let i = c .before .before .loop .inv in (
         omega arith,
         record {
-          ready = record { doc-le = p .0 .doc-le; at-le = i .at-le; cap-le = p .0 .cap-le; fits = omega (arith, same (c .before .before)); n-le = i .n-le };
+          ready = record { doc-le = p .0 .doc-le; at-le = i .at-le; cap-le = p .0 .cap-le; fits = omega (arith, same (c .before .before)); n-le = i .n-le; above-le = omega (arith, p .0 .above-le, i .sofar .n-is) };
           kind-le = p .1;
           name-lt = omega arith;
           len-lt = omega arith;
@@ -69,7 +69,7 @@ module _ (t : ℕ) where
       let n = c .before .before .before .before .before in
       let i = n .before .before .before .loop .inv in
       let s = rw (c .before .number .given .1) at (n .node .ensures) in
-      (sofar-no (i .sofar) (elements-no _ _ _ _ _ _ (n .before .before .loop-test .taken) (s .0)), kept-from _ _ _ _ _ (i .acc) (i .sofar .table) (i .sofar .n-is) (omega (arith, i .n-le, n .before .before .before .before .before .before .pre .1 .0 .fits)) (s .1))
+      (sofar-no (i .sofar) (elements-no _ _ _ _ _ _ (n .before .before .loop-test .taken) (s .0)), kept-from _ _ _ _ _ _ (i .acc) (i .sofar .table) (i .sofar .n-is) (omega (arith, i .n-le, n .before .before .before .before .before .before .pre .1 .0 .fits)) (s .1))
 
   pub loop-again : On t lts.Need-loop-again
   loop-again c =

@@ -33,21 +33,21 @@ use Rattle.reader.proofs.+elements+entries+inside+larger+list+node.Proo
 abbrev readOf : List ℕ → ℕ → ℕ → Reader
 readOf doc cap depth = payloadBy doc cap (insideAt doc cap depth)
 
-pub record Inv (doc : List ℕ) (at depth : ℕ) (t₀ : List ℕ) (cap ix : ℕ) (t : List ℕ) (here next count : ℕ) : Type 0 where
+pub record Inv (doc : List ℕ) (at depth : ℕ) (t₀ : List ℕ) (cap above ix : ℕ) (t : List ℕ) (here next count : ℕ) : Type 0 where
   pub fuel : ℕ
   pub enough : length doc < fuel + here
   pub acc : Forest
-  pub going : Going doc (entriesOf doc (readOf doc cap depth) (suc (length doc)) none at ix) (entriesOf doc (readOf doc cap depth) fuel acc here next) acc t₀ t ix next count
+  pub going : Going doc (entriesOf doc (readOf doc cap depth) (suc (length doc)) none at ix) (entriesOf doc (readOf doc cap depth) fuel acc here next) acc t₀ t above ix next count
   pub on : at ≤ here
   pub at-le : here ≤ length doc
   pub n-le : next ≤ cap
   pub count-le : count ≤ here
 
 abbrev pub Inv-loop : lts.InvT-loop
-Inv-loop doc at depth table₀ cap ix here₀ next₀ count₀ table here next count = Inv doc at depth table₀ cap ix table here next count
+Inv-loop doc at depth table₀ cap above ix here₀ next₀ count₀ table here next count = Inv doc at depth table₀ cap above ix table here next count
 
 abbrev pub μ-loop : lts.MeasureT-loop
-μ-loop doc at depth table₀ cap ix here₀ next₀ count₀ table here next count = length doc - here
+μ-loop doc at depth table₀ cap above ix here₀ next₀ count₀ table here next count = length doc - here
 
 abbrev On : ℕ → (lts.Claims → In 2 kinds.ps → Out 2 kinds.ps kinds.r → lts.InvT-loop → lts.MeasureT-loop → Type 0) → Type 0
 On t F = F (entry-at.Asked, entry-at.Learnt, settle.Asked, settle.Learnt, finish.Asked, finish.Learnt, node-below t, node.Post, spoiled.Asked, spoiled.Learnt) (entries-at t) entries.Post Inv-loop μ-loop
@@ -56,7 +56,7 @@ module _ (t : ℕ) where
   pub loop-holds : On t lts.Need-loop-holds
   loop-holds c =
       let r = c .before .before .pre .1 in
-      record { fuel = suc (length (c .before .before .args .doc .now)); enough = omega arith; acc = none; going = going-start _ _ _ _; on = omega arith; at-le = r .at-le; n-le = r .n-le; count-le = omega arith }
+      record { fuel = suc (length (c .before .before .args .doc .now)); enough = omega arith; acc = none; going = going-start _ _ _ _ _; on = omega arith; at-le = r .at-le; n-le = r .n-le; count-le = omega arith }
 
   same : (c : On t lts.At-loop) → length (c .loop .table) ≡ length (c .before .before .before .args .table .now)
   same c = going-length (c .loop .inv .going) (omega arith)
@@ -66,20 +66,20 @@ module _ (t : ℕ) where
   held c =
       let i = c .loop .inv in
       let s = c .before .before .before in
-      record { acc = i .acc; base = s .args .table .now; is = i .going .table; to = i .going .n-is; fits = omega (arith, i .n-le, s .pre .1 .fits); names = i .going .names }
+      record { acc = i .acc; base = s .args .table .now; parent = s .args .above; is = i .going .table; to = i .going .n-is; fits = omega (arith, i .n-le, s .pre .1 .fits); names = i .going .names }
 
   known : (c : On t lts.At-loop) → Known (c .before .before .before .args .doc .now) (c .loop .table) (c .before .before .before .args .ix) (c .loop .next)
   known c =
       let i = c .loop .inv in
       let s = c .before .before .before in
-      let f : 8 * c .loop .next ≤ length (c .loop .table) = omega (arith, same c, i .n-le, s .pre .1 .fits) in
+      let f : 9 * c .loop .next ≤ length (c .loop .table) = omega (arith, same c, i .n-le, s .pre .1 .fits) in
       record { family = family-of _ _ _ _ (held c) (i .going .free) (omega (arith, i .n-le, s .pre .1 .cap-le)) f; holds = held c; fits = f }
 
   kept : (c : On t lts.At-loop) → Kept (c .before .before .before .args .ix) (c .before .before .before .args .table .now) (c .loop .table)
   kept c =
       let i = c .loop .inv in
       let s = c .before .before .before in
-      ap (take (8 * s .args .ix)) (i .going .table) ∙ wrote-kept (s .args .table .now) (s .args .ix) (i .acc) (omega (arith, s .pre .1 .n-le, s .pre .1 .fits))
+      ap (take (9 * s .args .ix)) (i .going .table) ∙ wrote-kept (s .args .table .now) (s .args .above) (s .args .ix) (i .acc) (omega (arith, s .pre .1 .n-le, s .pre .1 .fits))
 
   enough : (c : On t lts.At-loop) → 0 < c .loop .inv .fuel
   enough c = omega (arith, c .loop .inv .enough, c .loop .inv .at-le)
@@ -104,9 +104,9 @@ module _ (t : ℕ) where
       let l = k .before .before .before .before in
       let s = l .before .before .before in
       let i = l .loop .inv in
-      settled-went (e .settle .result) (s .args .doc .now) (s .args .cap) _ (s .args .at) (s .args .ix) (s .args .table .now) (e .settle .last .1 .0) _ _ _ _ (e .settle .ensures .0)
+      settled-went (e .settle .result) (s .args .doc .now) (s .args .cap) _ (s .args .at) (s .args .above) (s .args .ix) (s .args .table .now) (e .settle .last .1 .0) _ _ _ _ (e .settle .ensures .0)
       (deferred-head-no _ _ _ _ _ _ _ (i .going .deferred) (enough l) _ _ (sym (k .before .before .before .entry-at .ensures) ∙ ap itemOut (k .before .number .given .1)))
-      (once-of _ _ _ _ (held l)) (ap (take (8 * s .args .ix)) (e .settle .ensures .1) ∙ kept l)
+      (once-of _ _ _ _ (held l)) (ap (take (9 * s .args .ix)) (e .settle .ensures .1) ∙ kept l)
 
   -- ---- the end byte
 
@@ -133,9 +133,9 @@ module _ (t : ℕ) where
       let l = k .before .before .before in
       let s = l .before .before .before in
       let i = l .loop .inv in
-      finished-went (e .finish .result) (s .args .doc .now) (s .args .cap) _ (s .args .at) (s .args .ix) (s .args .table .now) (e .finish .last .1 .0) _ _ _ _ _ (i .acc) (e .finish .ensures .0)
+      finished-went (e .finish .result) (s .args .doc .now) (s .args .cap) _ (s .args .at) (s .args .above) (s .args .ix) (s .args .table .now) (e .finish .last .1 .0) _ _ _ _ _ (i .acc) (e .finish .ensures .0)
       (deferred-end _ _ _ _ _ _ _ (i .going .deferred) (enough l) (is-end k))
-      (once-of _ _ _ _ (held l)) (ap (take (8 * s .args .ix)) (e .finish .ensures .1) ∙ kept l)
+      (once-of _ _ _ _ (held l)) (ap (take (9 * s .args .ix)) (e .finish .ensures .1) ∙ kept l)
       (i .going .n-is) (i .going .done-is) (e .finish .ensures .1 ∙ i .going .table) (omega (arith, i .on)) (omega (arith, entry-in _ _ (is-end k))) (i .n-le)
 
   -- ---- an entry with a name
@@ -166,7 +166,7 @@ module _ (t : ℕ) where
       let w = within e in (
         omega arith,
         record {
-          ready = record { doc-le = p .doc-le; at-le = w .1 .to; cap-le = p .cap-le; fits = omega (arith, same l, p .fits); n-le = l .loop .inv .n-le };
+          ready = record { doc-le = p .doc-le; at-le = w .1 .to; cap-le = p .cap-le; fits = omega (arith, same l, p .fits); n-le = l .loop .inv .n-le; above-le = omega (arith, p .above-le, l .loop .inv .going .n-is) };
           kind-le = w .0;
           name-lt = omega (arith, w, p);
           len-lt = omega (arith, w, p);
@@ -185,7 +185,7 @@ module _ (t : ℕ) where
       let sp = span (entry-of n) in
       (readOf (s .args .doc .now) (s .args .cap) (s .args .depth) (entry-of n .before .kind .given .0 .0) (sp .start) (sp .size) (sp .next) (l .loop .next) ≡ no (c .before .number2 .given .0 .0) (c .before .number2 .given .0 .1 .0))
       × Kept (l .loop .next) (l .loop .table) (n .node .last .1 .1 .1 .1 .1 .1 .0)
-  told c = stepped-no (node-of c .node .result) _ _ _ _ _ _ _ _ _ (c .before .number2 .given .1) (node-of c .node .ensures)
+  told c = stepped-no (node-of c .node .result) _ _ _ _ _ _ _ _ _ _ (c .before .number2 .given .1) (node-of c .node .ensures)
 
   length-of : (c : On t lts.After-known-told3) → length (node-of c .node .last .1 .1 .1 .1 .1 .1 .0) ≡ length (start-of (entry-of (node-of c)) .args .table .now)
   length-of c = let n = node-of c in n .node .kept .1 .1 .1 .1 .1 .1 .0 ∙ same (loop-of (entry-of n))
@@ -203,7 +203,8 @@ module _ (t : ℕ) where
       record {
         acc = i .acc;
         base = n .node .last .1 .1 .1 .1 .1 .1 .0;
-        is = kept-wrote _ _ _ _ _ (i .acc) (i .going .table) (i .going .n-is) (omega (arith, i .n-le, s .pre .1 .fits)) (told c .1);
+        parent = s .args .above;
+        is = kept-wrote _ _ _ _ _ _ (i .acc) (i .going .table) (i .going .n-is) (omega (arith, i .n-le, s .pre .1 .fits)) (told c .1);
         to = i .going .n-is;
         fits = omega (arith, length-of c, i .n-le, s .pre .1 .fits);
         names = i .going .names;
@@ -232,11 +233,11 @@ module _ (t : ℕ) where
       let l = loop-of n in
       let s = start-of n in
       let i = l .loop .inv in
-      spoiled-went (e .spoiled .result) (s .args .doc .now) (s .args .cap) _ (s .args .at) (s .args .ix) (s .args .table .now) (e .spoiled .last .1 .0) _ _ _ _ _ _ _ (e .spoiled .ensures .0)
+      spoiled-went (e .spoiled .result) (s .args .doc .now) (s .args .cap) _ (s .args .at) (s .args .above) (s .args .ix) (s .args .table .now) (e .spoiled .last .1 .0) _ _ _ _ _ _ _ (e .spoiled .ensures .0)
       (deferred-no _ _ _ _ _ _ _ (i .going .deferred) (enough l) _ (span n) (is n) _ _ (told k .0))
       (once-of _ _ _ _ (left k)) (sym (among-is _ _ _ _ (left k) _ _ (omega arith)))
-      (ap (take (8 * s .args .ix)) (e .spoiled .ensures .1)
-      ∙ kept-from _ _ _ _ _ (i .acc) (i .going .table) (i .going .n-is) (omega (arith, s .pre .1 .n-le, s .pre .1 .fits)) (told k .1))
+      (ap (take (9 * s .args .ix)) (e .spoiled .ensures .1)
+      ∙ kept-from _ _ _ _ _ _ (i .acc) (i .going .table) (i .going .n-is) (omega (arith, s .pre .1 .n-le, s .pre .1 .fits)) (told k .1))
 
   -- ---- one more
 

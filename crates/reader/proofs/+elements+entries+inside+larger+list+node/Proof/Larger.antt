@@ -40,7 +40,7 @@ module _ (t : ℕ) where
   inside-requires c κs =
       let p = c .before .before .before .before .before .pre .1 in
       let r = p .0 .ready in
-      (omega arith, record { doc-le = r .doc-le; at-le = r .at-le; cap-le = r .cap-le; fits = r .fits; n-le = omega (arith, p .1) })
+      (omega arith, record { doc-le = r .doc-le; at-le = r .at-le; cap-le = r .cap-le; fits = r .fits; n-le = omega (arith, p .1); above-le = omega arith })
 
   holds-is : (c : On t lts.Else1) → holds (c .before .before .before .before .args .kind) ≡ true
   holds-is c = sym (c .before .is-container .ensures) ∙ not-false _ (c .if1 .left)
@@ -82,7 +82,7 @@ module _ (t : ℕ) where
         is = payload-got _ _ _ _ _ _ _ _ (p .1) (holds-is (i .before .before)) (s .is);
         at-is = s .at-is;
         n-is = s .n-is;
-        table = held-table _ s (rw (w .wide .ensures, c .before .before .before .before .wide2 .ensures) at (c .before .before .before .container .ensures)) (c .before .before .put .ensures) (omega (arith, p .0 .ready, p .1));
+        table = held-table _ _ s (rw (w .wide .ensures, c .before .before .before .before .wide2 .ensures) at (c .before .before .before .container .ensures)) (c .before .before .put .ensures) (omega (arith, p .0 .ready, p .1));
         on = s .on;
         at-le = s .at-le;
         n-le = s .n-le;

@@ -37,7 +37,7 @@ module _ (t : ℕ) where
   elements-requires c κs =
       let r = c .before .before .before .before .before .before .before .pre .1 in
       let w = list-head-within _ _ (is (c .before)) in
-      (omega arith, (record { doc-le = r .doc-le; at-le = w .0; cap-le = r .cap-le; fits = r .fits; n-le = r .n-le }, w .1))
+      (omega arith, (record { doc-le = r .doc-le; at-le = w .0; cap-le = r .cap-le; fits = r .fits; n-le = r .n-le; above-le = r .above-le }, w .1))
 
   pub same-length : On t lts.Need-same-length
   same-length c = c .before .before .before .before .before .elements .kept .1 .1 .1 .1 .1 .0

@@ -29,7 +29,7 @@ module _ (t : ℕ) where
   placed c = let o = c .pre .1 .one in rows-placed _ _ _ _ _ (o .head) (o .inner) (o .rows)
 
   -- it has a record more than the records in it
-  more : (c : On t lts.Start) → (c .args .n < c .args .end) × (8 * c .args .end ≤ length (c .args .table .now))
+  more : (c : On t lts.Start) → (c .args .n < c .args .end) × (9 * c .args .end ≤ length (c .args .table .now))
   more c = let o = c .pre .1 .one in (omega (arith, rows-to _ _ _ _ _ (o .head) (o .inner) (o .rows)), o .rows .fits)
 
   pub put-name-requires : On t lts.Need-put-name-requires
