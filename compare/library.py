@@ -1,6 +1,8 @@
 """The proved library by way of ctypes: each function answers as compare.py prints and compares it."""
 import ctypes
 
+# The words of a record.
+WORDS = 9
 KINDS = ["end", "{", "}", "[", "]", ",", ":", ";", "string", "quoted", "byte", "short", "int", "long", "float", "double"]
 
 
@@ -8,7 +10,7 @@ class Library:
     def __init__(self, path, records=4096, room=1 << 18):
         self.lib = ctypes.CDLL(path)
         self.answer = (ctypes.c_uint64 * 8)()
-        self.table = (ctypes.c_uint32 * (8 * records))()
+        self.table = (ctypes.c_uint32 * (WORDS * records))()
         self.out = (ctypes.c_uint8 * room)()
         self.room = room
         size, data, words = ctypes.c_size_t, ctypes.c_char_p, ctypes.c_void_p
@@ -34,7 +36,7 @@ class Library:
         if a[0]:
             return self.refused()
         consumed, records = a[2], a[3]
-        self.lib.tikfazrul_write(doc, len(doc), self.table, 8 * records, self.out, self.room, a)
+        self.lib.tikfazrul_write(doc, len(doc), self.table, WORDS * records, self.out, self.room, a)
         if a[0]:
             return "write " + self.refused()
         return f"ok {consumed} {bytes(self.out[:a[2]]).hex().upper()}"

@@ -21,9 +21,10 @@
  *    6  a name twice            the id byte of the later entry (tikfazrul_write: the later record; tikfazrul_parse: the later key)
  *    7  over 512 deep           the first payload byte (tikfazrul_write, tikfazrul_query: the record; tikfazrul_parse: the opening brace)
  *    8  the table is full       the first payload byte (tikfazrul_read_lines: the line's number)
- *    9  over a limit            0: a document over 16,777,216 bytes, a table to check, to write, to store or to ask over 8,388,608 words, more
+ *    9  over a limit            0: a document over 16,777,216 bytes, a table to check, to write, to store or to ask over 9,437,184 words, more
  *                               than 1,048,576 lines, or a text over 1,048,576 bytes
- *   10  no table                0: the words form no table (tikfazrul_write, tikfazrul_write_lines, tikfazrul_query)
+ *   10  no table                0: the words form no table, for which one wrong parent is enough (tikfazrul_write, tikfazrul_write_lines,
+ *                               tikfazrul_query)
  *   11  a mixed list            the record of another kind than its list's first (tikfazrul_parse: the element's token)
  *   12  over 65,535 bytes       the record whose name or string it is (tikfazrul_parse: the token)
  *   13  the output is full      0 (tikfazrul_parse: the token whose bytes do not fit)
@@ -53,8 +54,14 @@
 extern "C" {
 #endif
 
-/* The words of a record in a table, from word 8 * n on for record n. Records stand in file order, the root first. Spans count bytes of the
- * document, without length prefixes. */
+/* The words of a record in a table, from word TIKFAZRUL_WORDS * n on for record n. Records stand in file order, the root first, and count from
+ * 0. Spans count bytes of the document, without length prefixes. A record's parent (02, [7]) is the list or the compound in which it stands, which
+ * comes before it, so that a climb ends at the root, whatever record it starts from:
+ *
+ *   while (n != 0)
+ *       n = table[TIKFAZRUL_WORDS * n + TIKFAZRUL_PARENT];
+ *
+ * That holds of every table. Words from elsewhere, as of lines that were kept, are asked by tikfazrul_is_table first whether they are one. */
 enum {
     TIKFAZRUL_KIND = 0,        /* the tag's id, 1 to 12 */
     TIKFAZRUL_NAME = 1,        /* where the name's content begins; 0 for a list's element */
@@ -64,19 +71,20 @@ enum {
     TIKFAZRUL_COUNT = 5,       /* children, or elements of an array; else 0 */
     TIKFAZRUL_LIST_KIND = 6,   /* a list's first child's kind; else 0 */
     TIKFAZRUL_END = 7,         /* the number of the first record outside the subtree */
-    TIKFAZRUL_WORDS = 8
+    TIKFAZRUL_PARENT = 8,      /* the parent's number, so 0 for the root's children; 0 in the root, which has none */
+    TIKFAZRUL_WORDS = 9
 };
 
 /* The bytes of a record's line, its line feed among them. */
-enum { TIKFAZRUL_LINE = 65 };
+enum { TIKFAZRUL_LINE = 73 };
 
 /* Reads a document into a table of records. Accepted: [2] is the number of bytes consumed, [3] the number of records, and the records' words
- * stand from table[0] on; no other word changes. Refused (1 to 9): every word of the table is 0. The table has room for table_len / 8
+ * stand from table[0] on; no other word changes. Refused (1 to 9): every word of the table is 0. The table has room for table_len / 9
  * records, 1,048,576 at the most. */
 void tikfazrul_read(const uint8_t *doc, size_t doc_len, uint32_t *table, size_t table_len, uint64_t answer[8]);
 
 /* Whether words form a table over a document of doc_len bytes: what tikfazrul_read fills in always does, and words from elsewhere may. [2] is
- * 1 if they do, else 0. Refused: 9. The document itself is not asked for: strings are not looked into. */
+ * 1 if they do, with the right parent in every record, else 0. Refused: 9. The document itself is not asked for: strings are not looked into. */
 void tikfazrul_is_table(size_t doc_len, const uint32_t *table, size_t table_len, uint64_t answer[8]);
 
 /* Writes the document that a table stands for, whose names and payloads lie in `doc`. Accepted: [2] is the number of bytes written, from
@@ -95,15 +103,15 @@ void tikfazrul_write(const uint8_t *doc, size_t doc_len, uint32_t *table, size_t
 void tikfazrul_rescue(uint32_t form, const uint8_t *doc, size_t doc_len, uint32_t *table, size_t table_len, uint8_t *out, size_t out_len,
                       uint32_t *changes, size_t changes_len, uint64_t answer[8]);
 
-/* Writes a table as lines, to be kept and read back: for each record its eight words, each as eight digits 0 to 9 and a to f with the highest
+/* Writes a table as lines, to be kept and read back: for each record its nine words, each as eight digits 0 to 9 and a to f with the highest
  * first, and a line feed; TIKFAZRUL_LINE bytes a record. The document is given by its length alone. Accepted: [2] is the number of bytes written, from
  * out[0] on; no other byte changes. Refused (9, 10, 13): the output is as it was. */
 void tikfazrul_write_lines(size_t doc_len, const uint32_t *table, size_t table_len, uint8_t *out, size_t out_len, uint64_t answer[8]);
 
 /* Reads such lines back into a table. Accepted: [2] is the number of records, whose words stand from table[0] on; no other word changes. Zero
  * bytes are accepted, as 0 records. Refused: every word of the table is 0. 9 comes first, above 1,048,576 lines, an unended one counted; then by
- * line, whose number from 1 is the place, 29 where it is anything but 64 such digits and a line feed, and 8 where there is no room: the table has
- * it for table_len / 8 records. Whether the words form a table is not asked: tikfazrul_is_table does, and so does each function that takes one. */
+ * line, whose number from 1 is the place, 29 where it is anything but 72 such digits and a line feed, and 8 where there is no room: the table has
+ * it for table_len / 9 records. Whether the words form a table is not asked: tikfazrul_is_table does, and so does each function that takes one. */
 void tikfazrul_read_lines(const uint8_t *lines, size_t lines_len, uint32_t *table, size_t table_len, uint64_t answer[8]);
 
 /* Asks which tags of a table match a query, whose names lie in `doc`. The query is steps, sixteen at the most, one after the other, and says

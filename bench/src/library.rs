@@ -5,9 +5,9 @@ mod ffi;
 pub use ffi::{check_mutf8, check_utf8, query, read, read_lines, rescue, write, write_lines, Answer};
 
 /// The words of a record.
-pub const WORDS: usize = 8;
+pub const WORDS: usize = 9;
 /// The bytes of a record's line.
-pub const LINE: usize = 65;
+pub const LINE: usize = 8 * WORDS + 1;
 /// The records that a table may have.
 pub const MOST_RECORDS: usize = 1_048_576;
 /// The bytes that a text may have.

@@ -44,7 +44,8 @@ pub fn section(bench: &mut Bench) {
 fn format_lines(words: &[u32], out: &mut String) {
     out.clear();
     for r in words.chunks_exact(WORDS) {
-        writeln!(out, "{:08x}{:08x}{:08x}{:08x}{:08x}{:08x}{:08x}{:08x}", r[0], r[1], r[2], r[3], r[4], r[5], r[6], r[7]).unwrap();
+        let [a, b, c, d, e, f, g, h, i]: [u32; WORDS] = r.try_into().unwrap();
+        writeln!(out, "{a:08x}{b:08x}{c:08x}{d:08x}{e:08x}{f:08x}{g:08x}{h:08x}{i:08x}").unwrap();
     }
 }
 
@@ -213,7 +214,7 @@ fn last_unended(n: usize) -> Vec<u8> {
 }
 
 fn hostile(bench: &mut Bench) {
-    markdown::caption("Lines that are refused, with room for a record each 65 bytes, which a refusal zeroes:");
+    markdown::caption(&format!("Lines that are refused, with room for a record each {LINE} bytes, which a refusal zeroes:"));
     markdown::head(&["lines", "refused with", "bytes", "ns a byte", "bytes", "ns a byte", "growth"]);
     for refused in REFUSED {
         let (few, many) = (refusing(&refused, refused.few), refusing(&refused, refused.many));

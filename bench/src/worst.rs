@@ -28,28 +28,30 @@ struct Words {
 }
 
 impl Words {
-    /// A compound of so many entries or a string, so many levels below the root, whose subtree ends at `end`.
-    fn put(&mut self, kind: u32, level: usize, count: usize, end: usize) {
-        self.words.extend([kind, 0, 1, 0, 0, count as u32, 0, end as u32]);
+    /// A compound of so many entries or a string, so many levels below the root, whose subtree ends at `end`, in this parent.
+    fn put(&mut self, kind: u32, level: usize, count: usize, end: usize, parent: usize) {
+        self.words.extend([kind, 0, 1, 0, 0, count as u32, 0, end as u32, parent as u32]);
         self.records += 1;
         self.far += (level >= 8) as usize;
     }
 
     /// So many compounds in each other, the first an entry of the root; the last holds n strings.
     fn column(&mut self, deep: usize, n: usize) {
-        let end = self.records + deep + n;
+        let (end, mut parent) = (self.records + deep + n, 0);
         for i in 1..=deep {
-            self.put(10, i, if i < deep { 1 } else { n }, end);
+            let record = self.records;
+            self.put(10, i, if i < deep { 1 } else { n }, end, parent);
+            parent = record;
         }
         for _ in 0..n {
-            self.put(8, deep + 1, 0, self.records + 1);
+            self.put(8, deep + 1, 0, self.records + 1, parent);
         }
     }
 
     /// One path: each compound is the one entry of the one before.
     fn path(n: usize) -> Words {
         let mut t = Words::default();
-        t.put(10, 0, 1, n);
+        t.put(10, 0, 1, n, 0);
         t.column(n - 1, 0);
         t
     }
@@ -57,9 +59,9 @@ impl Words {
     /// Strings in the root.
     fn wide(n: usize) -> Words {
         let mut t = Words::default();
-        t.put(10, 0, n - 1, n);
+        t.put(10, 0, n - 1, n, 0);
         for i in 1..n {
-            t.put(8, 1, 0, i + 1);
+            t.put(8, 1, 0, i + 1, 0);
         }
         t
     }
@@ -68,7 +70,7 @@ impl Words {
     fn nested(n: usize) -> Words {
         let mut t = Words::default();
         let columns = n / (DEPTH - 1);
-        t.put(10, 0, columns, 1 + columns * (DEPTH - 1));
+        t.put(10, 0, columns, 1 + columns * (DEPTH - 1), 0);
         for _ in 0..columns {
             t.column(DEPTH - 1, 0);
         }
@@ -78,7 +80,7 @@ impl Words {
     /// One path of 512 containers, and strings in the last of them.
     fn deepest(n: usize) -> Words {
         let mut t = Words::default();
-        t.put(10, 0, 1, n);
+        t.put(10, 0, 1, n, 0);
         t.column(DEPTH - 1, n - DEPTH);
         t
     }

@@ -41,6 +41,12 @@ static inline void *lent(size_t bytes)
     return p;
 }
 
+/* So many records of zero words. */
+static inline uint32_t *lent_records(size_t n)
+{
+    return lent(n * TIKFAZRUL_WORDS * sizeof(uint32_t));
+}
+
 /* So many words that no call leaves by chance. */
 static inline uint32_t *filled(size_t words)
 {
@@ -60,18 +66,18 @@ static inline int all(const uint32_t *t, size_t from, size_t to, uint32_t word)
 
 /* Record n of a table. */
 static inline void put(uint32_t *t, size_t n, uint32_t kind, uint32_t name, uint32_t name_len, uint32_t start, uint32_t len, uint32_t count,
-                       uint32_t list_kind, uint32_t end)
+                       uint32_t list_kind, uint32_t end, uint32_t parent)
 {
-    uint32_t words[] = {kind, name, name_len, start, len, count, list_kind, end};
-    memcpy(t + 8 * n, words, sizeof words);
+    uint32_t words[TIKFAZRUL_WORDS] = {kind, name, name_len, start, len, count, list_kind, end, parent};
+    memcpy(t + TIKFAZRUL_WORDS * n, words, sizeof words);
 }
 
-/* A table of the root and lists within it, so many containers deep, whose names and payloads are empty. */
+/* A table of the root and lists within it, so many containers deep, whose names and payloads are empty: each stands in the one before. */
 static inline uint32_t *chain(uint32_t deep)
 {
-    uint32_t *t = lent(32 * (size_t)deep);
+    uint32_t *t = lent_records(deep);
     for (uint32_t i = 0; i < deep; i++)
-        put(t, i, i ? 9 : 10, 0, 0, 0, 0, i + 1 < deep, i && i + 1 < deep ? 9 : 0, deep);
+        put(t, i, i ? 9 : 10, 0, 0, 0, 0, i + 1 < deep, i && i + 1 < deep ? 9 : 0, deep, i ? i - 1 : 0);
     return t;
 }
 

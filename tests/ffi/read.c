@@ -1,5 +1,5 @@
 /* Calls the library from C: marked documents of 01, and the limits that are too large for the other programs. See tests/ffi/run. */
-#include "expect.h"
+#include "tree.h"
 
 /* Reads, and checks the answer and every word: the records' words are `records` where given. */
 static void read_is(const char *what, const uint8_t *doc, size_t n, size_t words, uint64_t number, uint64_t place, uint64_t consumed,
@@ -13,26 +13,63 @@ static void read_is(const char *what, const uint8_t *doc, size_t n, size_t words
     if (number)
         expect("a refused read zeroes the whole table", all(t, 0, words, 0));
     else
-        expect("an accepted read changes eight words a record", all(t, 8 * count, words, 0xABABABAB));
+        expect("an accepted read changes nine words a record", all(t, TIKFAZRUL_WORDS * count, words, 0xABABABAB));
     if (records)
-        expect("the records' words", !memcmp(t, records, 32 * count));
+        expect("the records' words", !memcmp(t, records, count * TIKFAZRUL_WORDS * sizeof *t));
     free(t);
 }
 
 static void marked(void)
 {
-    static const uint32_t one[] = {10, 3, 0, 0, 0, 0, 0, 1};
-    static const uint32_t two[] = {10, 3, 1, 0, 0, 1, 0, 2, 1, 7, 1, 8, 1, 0, 0, 2};
-    read_is("0A0000 is 1 at 3", (const uint8_t *)"\x0A\0\0", 3, 80, 1, 3, 0, 0, NULL);
-    read_is("0A000000", (const uint8_t *)"\x0A\0\0\0", 4, 80, 0, 0, 4, 1, one);
-    read_is("0A00016101000162FF00", (const uint8_t *)"\x0A\0\1a\1\0\1b\xFF\0", 10, 80, 0, 0, 10, 2, two);
-    read_is("5 at 8", (const uint8_t *)"\x0A\0\0\x09\0\1l\1\xFF\xFF\xFF\xFF\0", 13, 80, 5, 8, 0, 0, NULL);
-    read_is("6 at 8", (const uint8_t *)"\x0A\0\0\1\0\1b\1\1\0\1b\2\0", 14, 80, 6, 8, 0, 0, NULL);
+    static const uint32_t one[] = {10, 3, 0, 0, 0, 0, 0, 1, 0};
+    static const uint32_t two[] = {10, 3, 1, 0, 0, 1, 0, 2, 0, 1, 7, 1, 8, 1, 0, 0, 2, 0};
+    const uint8_t *third = (const uint8_t *)"\x0A\0\1a\1\0\1b\xFF\0";
+    read_is("0A0000 is 1 at 3", (const uint8_t *)"\x0A\0\0", 3, 90, 1, 3, 0, 0, NULL);
+    read_is("0A000000", (const uint8_t *)"\x0A\0\0\0", 4, 90, 0, 0, 4, 1, one);
+    read_is("0A00016101000162FF00", third, 10, 90, 0, 0, 10, 2, two);
+    read_is("5 at 8", (const uint8_t *)"\x0A\0\0\x09\0\1l\1\xFF\xFF\xFF\xFF\0", 13, 90, 5, 8, 0, 0, NULL);
+    read_is("6 at 8", (const uint8_t *)"\x0A\0\0\1\0\1b\1\1\0\1b\2\0", 14, 90, 6, 8, 0, 0, NULL);
     read_is("no bytes, no table", NULL, 0, 0, 1, 0, 0, 0, NULL);
-    read_is("bytes after the root's end change nothing", (const uint8_t *)"\x0A\0\0\0\xFF\xFF", 6, 8, 0, 0, 4, 1, one);
-    read_is("a table of 15 words has room for one record", (const uint8_t *)"\x0A\0\1a\1\0\1b\xFF\0", 10, 15, 8, 8, 0, 0, NULL);
-    read_is("a table of 23 words has room for two", (const uint8_t *)"\x0A\0\1a\1\0\1b\xFF\0", 10, 23, 0, 0, 10, 2, two);
-    read_is("a table of 7 words has room for none", (const uint8_t *)"\x0A\0\0\0", 4, 7, 8, 3, 0, 0, NULL);
+    read_is("bytes after the root's end change nothing", (const uint8_t *)"\x0A\0\0\0\xFF\xFF", 6, 9, 0, 0, 4, 1, one);
+    read_is("a table of 16 words has room for one record", third, 10, 16, 8, 8, 0, 0, NULL);
+    read_is("and so has one of 17", third, 10, 17, 8, 8, 0, 0, NULL);
+    read_is("a table of 18 words has room for two", third, 10, 18, 0, 0, 10, 2, two);
+    read_is("and so has one of 26", third, 10, 26, 0, 0, 10, 2, two);
+    read_is("a table of 8 words has room for none", (const uint8_t *)"\x0A\0\0\0", 4, 8, 8, 3, 0, 0, NULL);
+}
+
+/* The parents of nested compounds and lists (02, [7]), and what rooms one short of them are refused with. */
+static void parents(void)
+{
+    const uint8_t *doc = (const uint8_t *)TREE;
+    expect("the ninth word is the parent's number", TIKFAZRUL_WORDS == 9 && TIKFAZRUL_PARENT == 8);
+    read_is("lists and compounds in each other", doc, TREE_BYTES, TREE_WORDS, 0, 0, 49, 11, tree);
+    read_is("with room for more", doc, TREE_BYTES, TREE_WORDS + 20, 0, 0, 49, 11, tree);
+    read_is("a word short is 8 at the last payload", doc, TREE_BYTES, TREE_WORDS - 1, 8, 44, 0, 0, NULL);
+    read_is("so is room for eleven records of eight words", doc, TREE_BYTES, 88, 8, 38, 0, 0, NULL);
+    read_is("a cut before the last end byte leaves no parent", doc, TREE_BYTES - 1, TREE_WORDS, 1, 48, 0, 0, NULL);
+}
+
+/* Compounds in each other down to the deepest level, and on the way back a byte behind each, whose parent is the one that is not yet closed. */
+static void way_back(void)
+{
+    const size_t n = 3 + 4 * 511 + 6 * 512;
+    uint8_t *d = lent(n), *p = d;
+    uint32_t *t = lent_records(1024);
+    memcpy(p, "\x0A\0\0", 3);
+    p += 3;
+    put(t, 0, 10, 3, 0, 0, 0, 2, 0, 1024, 0);
+    for (uint32_t k = 1; k < 512; k++, p += 4) {
+        memcpy(p, "\x0A\0\1x", 4);
+        put(t, k, 10, 4 * k + 2, 1, 0, 0, k < 511 ? 2 : 1, 0, 1024 - k, k - 1);
+    }
+    for (uint32_t k = 512; k-- > 0; p += 6) {
+        memcpy(p, "\1\0\1z\7\0", 6);
+        put(t, 1023 - k, 1, p - d + 3, 1, p - d + 4, 1, 0, 0, 1024 - k, k);
+    }
+    read_is("down and back through 512 compounds", d, n, 1024 * TIKFAZRUL_WORDS, 0, 0, n, 1024, t);
+    free(d);
+    free(t);
 }
 
 /* The root and so many lists within it, each the one element of the one before. */
@@ -40,6 +77,9 @@ static void depth(size_t lists, uint64_t number, uint64_t place)
 {
     size_t n = 0;
     uint8_t *d = malloc(16 + 5 * lists);
+    uint32_t *t = chain(lists + 1);
+    t[TIKFAZRUL_NAME] = 3;
+    t[TIKFAZRUL_WORDS + TIKFAZRUL_NAME] = 6;
     memcpy(d, "\x0A\0\0\x09\0\0", 6);
     n = 6;
     for (size_t i = 0; i < lists; i++) {
@@ -47,19 +87,26 @@ static void depth(size_t lists, uint64_t number, uint64_t place)
         n += 5;
     }
     d[n++] = 0;
-    read_is("depth", d, n, 8 * 1024, number, place, number ? 0 : n, number ? 0 : lists + 1, NULL);
+    read_is("depth", d, n, 1024 * TIKFAZRUL_WORDS, number, place, number ? 0 : n, number ? 0 : lists + 1, number ? NULL : t);
     free(d);
+    free(t);
 }
 
-/* A list of so many bytes in the root. */
+/* A list of so many bytes in the root: the parent of each is record 1. */
 static void records(uint32_t elements, size_t words, uint64_t number, uint64_t place)
 {
     uint8_t *d = calloc(1, 16 + elements);
+    uint32_t n = 2 + elements, *t = lent_records(n);
     memcpy(d, "\x0A\0\0\x09\0\0\1", 7);
     for (int i = 0; i < 4; i++)
         d[7 + i] = elements >> (24 - 8 * i);
-    read_is("records", d, 12 + (size_t)elements, words, number, place, number ? 0 : 12 + (uint64_t)elements, number ? 0 : 2 + (uint64_t)elements, NULL);
+    put(t, 0, 10, 3, 0, 0, 0, 1, 0, n, 0);
+    put(t, 1, 9, 6, 0, 0, 0, elements, 1, n, 0);
+    for (uint32_t i = 2; i < n; i++)
+        put(t, i, 1, 0, 0, 11 + i - 2, 1, 0, 0, i + 1, 1);
+    read_is("records", d, 10 + (size_t)n, words, number, place, number ? 0 : 10 + (uint64_t)n, number ? 0 : n, number ? NULL : t);
     free(d);
+    free(t);
 }
 
 static void bytes(size_t n, uint64_t number)
@@ -69,7 +116,7 @@ static void bytes(size_t n, uint64_t number)
     size_t elements = n - 11;
     for (int i = 0; i < 4; i++)
         d[6 + i] = elements >> (24 - 8 * i);
-    read_is("bytes", d, n, 80, number, 0, number ? 0 : n, number ? 0 : 2, NULL);
+    read_is("bytes", d, n, 90, number, 0, number ? 0 : n, number ? 0 : 2, NULL);
     free(d);
 }
 
@@ -88,13 +135,17 @@ static void strings(void)
 
 int main(void)
 {
+    const size_t most = 1048576 * TIKFAZRUL_WORDS;
     marked();
+    parents();
+    way_back();
     strings();
     depth(511, 0, 0);
     depth(512, 7, 6 + 5 * 511);
-    records(1048574, 8 * 1048576, 0, 0);
-    records(1048575, 8 * 1048576, 8, 11 + 1048574);
-    records(1048575, 8 * 1048577, 8, 11 + 1048574);
+    records(1048574, most, 0, 0);
+    records(1048574, most - 1, 8, 11 + 1048573);
+    records(1048575, most, 8, 11 + 1048574);
+    records(1048575, most + TIKFAZRUL_WORDS, 8, 11 + 1048574);
     bytes(16777216, 0);
     bytes(16777217, 9);
     return report();
