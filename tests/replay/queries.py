@@ -6,6 +6,7 @@ program must print.
 
 The answers are worked out by a second reading of rule 9, below, that is written from document 01 alone: each tag has a path from the root,
 and the rule's last sentence says which paths fit, asked once for each pair of steps and levels left. It is run on the marked queries first.
+What words form a table is told by the second check of tables.py.
 Refusal 9 can't occur here, for no line is that long; tests/ffi/query.c has it.
 """
 import random
@@ -14,7 +15,8 @@ from functools import lru_cache
 
 import listing
 from listing import Refused, string, well_formed
-from tables import END, KIND, NAME, NAME_LENGTH, Reader, chain, flat, is_table, made_up, nudged, rows_of
+from tables import (CUT, END, KIND, LETTERS, NAME, NAME_LENGTH, PARENT, TREES, Reader, chain, flat, is_table, made_up, nudged, planted, rows_of,
+                    some_records, with_parent, wrong_columns, wrong_parents)
 
 UNTOUCHED = 0xAAAAAAAA
 
@@ -122,6 +124,11 @@ class Cases:
         self.answers.append(said + ":" + "".join(f" {w}" for w in left))
         self.count(no, steps, found, ways, space)
 
+    def no_table(self, doc, words, query):
+        """A case of words of which it is known beforehand that they form no table."""
+        self.put(doc, words, query, 1)
+        assert self.answers[-1] == f"refused 10 0 0: {UNTOUCHED}", (doc, words)
+
     def count(self, no, steps, found, ways, space):
         """What this case is an instance of."""
         kinds = {f"refused {no[0]}" if no else "matches" if found else "nothing"}
@@ -197,7 +204,7 @@ def ask_about(r, cases, doc, words, many):
 
 
 def marked(cases):
-    doc, words = bytes.fromhex("0A00016101000162FF00"), [10, 3, 1, 0, 0, 1, 0, 2, 1, 7, 1, 8, 1, 0, 0, 2]
+    doc, words = bytes.fromhex("0A00016101000162FF00"), [10, 3, 1, 0, 0, 1, 0, 2, 0, 1, 7, 1, 8, 1, 0, 0, 2, 0]
     for query, matches in [("04", [0, 1]), ("0404", [0, 1]), ("03", [1])]:
         assert asked(doc, words, bytes.fromhex(query))[0] == matches, query
         cases.put(doc, words, bytes.fromhex(query))
@@ -218,7 +225,7 @@ def of_documents(r, cases):
         some += 1
         ask_about(r, cases, doc, flat(reader.rows), 8)
         cases.put(doc, nudged(r, reader.rows), b"".join(at_random(r)), 3)
-        cases.put(doc, flat(reader.rows)[:-r.randrange(1, 9)], spoilt(r, at_random(r)), 1)
+        cases.put(doc, flat(reader.rows)[:-r.choice(CUT)], spoilt(r, at_random(r)), 1)
 
 
 def of_tables(r, cases):
@@ -231,7 +238,7 @@ def of_tables(r, cases):
             continue
         some += 1
         ask_about(r, cases, doc, flat(rows), 5)
-    twins = [[10, 0, 0, 0, 0, 3, 0, 4], [1, 0, 1, 0, 1, 0, 0, 2], [1, 1, 1, 0, 1, 0, 0, 3], [1, 2, 1, 0, 1, 0, 0, 4]]
+    twins = [[10, 0, 0, 0, 0, 3, 0, 4, 0], [1, 0, 1, 0, 1, 0, 0, 2, 0], [1, 1, 1, 0, 1, 0, 0, 3, 0], [1, 2, 1, 0, 1, 0, 0, 4, 0]]
     for query in (named(b"a"), named(b"b"), DEEP + named(b"a"), named(b"a") + named(b"a")):
         for room in (None, 0, 1, 5):
             cases.put(b"aab", flat(twins), query, room)
@@ -254,8 +261,8 @@ def of_chains(cases):
 
 def of_limits(r, cases):
     """Sixteen steps and seventeen, of every sort, on a small tree; indices from the first to the greatest."""
-    rows = [[10, 0, 0, 0, 0, 1, 0, 7], [9, 0, 1, 0, 0, 2, 9, 7], [9, 0, 0, 0, 0, 2, 1, 5], [1, 0, 0, 0, 1, 0, 0, 4], [1, 0, 0, 0, 1, 0, 0, 5], [9, 0, 0, 0, 0, 1, 3, 7],
-            [3, 0, 0, 0, 4, 0, 0, 7]]
+    rows = [[10, 0, 0, 0, 0, 1, 0, 7, 0], [9, 0, 1, 0, 0, 2, 9, 7, 0], [9, 0, 0, 0, 0, 2, 1, 5, 1], [1, 0, 0, 0, 1, 0, 0, 4, 2],
+            [1, 0, 0, 0, 1, 0, 0, 5, 2], [9, 0, 0, 0, 0, 1, 3, 7, 1], [3, 0, 0, 0, 4, 0, 0, 7, 5]]
     doc, words = b"xyzu", flat(rows)
     assert is_table(len(doc), words)
     for number in (0, 1, 2, 3, 255, 256, 65536, 2**31 - 1):
@@ -274,6 +281,27 @@ def of_limits(r, cases):
                 cases.put(doc, words, a + b + c)
 
 
+def of_parents(r, cases):
+    """A wrong parent (02, [7]): 10, whatever is asked. The climb is no part of a query: its matches are by the tree."""
+    some = [b"", DEEP, ANY, DEEP + ANY, named(b"b") + DEEP, DEEP + indexed(0), b"\5"]
+    for rows in map(planted, TREES):
+        for query in some:
+            cases.put(LETTERS, flat(rows), query)
+        bad = [with_parent(rows, i, wrong) for i in some_records(rows) for wrong in wrong_parents(rows, i)]
+        bad += [flat(row[:PARENT] + [p] for row, p in zip(rows, column)) for column in wrong_columns(rows)]
+        bad += [flat(row[:PARENT] for row in rows), flat(row + [0] for row in rows)]  # eight words a record, and ten
+        for words in bad:
+            cases.no_table(LETTERS, words, r.choice(some))
+    for rows in (chain(9, 9), chain(9, 10), chain(18, 10)):  # of eight words each these are a multiple of 9
+        cases.put(b"", flat(rows), DEEP)
+        cases.no_table(b"", flat(row[:PARENT] for row in rows), DEEP)
+    words = flat(planted(TREES[1]))
+    for n in range(8, len(words), 8):
+        cases.no_table(LETTERS, words[:n], DEEP)
+    for deep, kind, i, wrong in [(512, 9, 511, 509), (512, 10, 256, 256), (513, 10, 512, 510)]:
+        cases.no_table(b"", with_parent(chain(deep, kind), i, wrong), DEEP)
+
+
 def main(folder):
     sys.setrecursionlimit(20000)
     r = random.Random(20261117)
@@ -283,6 +311,7 @@ def main(folder):
     of_chains(cases)
     of_documents(r, cases)
     of_tables(r, cases)
+    of_parents(r, cases)
     wanted = ["matches", "nothing", "0 steps", "1 steps", "16 steps", "empty name found", "room exact", "room one short", "two of one name found"]
     wanted += [f"refused {n}" for n in (7, 10, 14, 24)] + ["14 " + why for why in ("seventeenth", "unknown", "cut", "ill-formed", "negative")]
     for key in wanted:

@@ -16,7 +16,7 @@ import tables
 from listing import WIDTH, Refused, random_entries, string
 
 LIST, COMPOUND, TEXT = 9, 10, 8
-BYTES, WORDS = 4096, 4800  # what crates/replay_rescue has room for
+BYTES, TABLE, CHANGES = 4096, 5400, 4800  # what crates/replay_rescue has room for, in bytes, words of table and words of changes
 
 
 class Reader(tables.Reader):
@@ -123,7 +123,7 @@ class Rescue:
 
     def __init__(self, doc, words, room, changes):
         self.out, self.changes, self.table = [], [], None
-        reader = Reader(doc, words // 8)
+        reader = Reader(doc, words // tables.WORDS)
         try:
             reader.root()
         except Refused as e:
@@ -180,7 +180,7 @@ def needed(doc):
         reader.root()
     except Refused as e:
         if e.args[0] == 1:
-            rescue = Rescue(doc, 1 << 23, 1 << 20, 1 << 20)
+            rescue = Rescue(doc, tables.WORDS << 20, 1 << 20, 1 << 20)
             return len(reader.records), len(rescue.out), len(rescue.changes)
     return len(reader.records), 7, 5
 
@@ -204,12 +204,12 @@ class Cases:
     def put(self, doc, words=exact, room=exact, changes=exact):
         """A case: each room is what its function makes of the least one."""
         records, size, lines = needed(doc)
-        words, room, changes = words(8 * records), room(size), changes(lines)
+        words, room, changes = words(tables.WORDS * records), room(size), changes(lines)
         line = f"{doc.hex()} {words} {room} {changes}"
         if line in self.put_already:
             return
         self.put_already.add(line)
-        assert len(doc) <= BYTES and words <= WORDS and room <= BYTES and changes <= WORDS, (len(doc), words, room, changes)
+        assert len(doc) <= BYTES and words <= TABLE and room <= BYTES and changes <= CHANGES, (len(doc), words, room, changes)
         rescue = Rescue(doc, words, room, changes)
         self.lines.append(line)
         self.answers.append(rescue.line(words, room, changes))
@@ -219,12 +219,12 @@ class Cases:
     def around(self, doc):
         """Rooms that are too small, one at a time and together, and rooms that are larger than need be."""
         self.put(doc, words=short)
-        self.put(doc, words=lambda w: max(0, w - 8))
+        self.put(doc, words=lambda w: max(0, w - tables.WORDS))
         self.put(doc, changes=short)
         self.put(doc, changes=lambda n: max(0, n - 3))
         self.put(doc, room=short)
         self.put(doc, room=short, changes=short)
-        self.put(doc, words=lambda w: w + 9, room=lambda n: n + 3, changes=lambda n: n + 2)
+        self.put(doc, words=lambda w: w + tables.WORDS + 1, room=lambda n: n + 3, changes=lambda n: n + 2)
 
     def cuts(self, r, doc, often=6, places=None):
         """The document cut at every byte, or at these, and now and then rooms that are too small."""
@@ -323,7 +323,7 @@ def worked(cases):
         ("0A0000 01000161 07 08000162 0003 6162", "0A0000 01000161 07 00", [(0, 0, 1)]),
     ]:
         doc = bytes.fromhex(doc)
-        rescue = Rescue(doc, 800, 800, 800)
+        rescue = Rescue(doc, 900, 800, 800)
         assert rescue.refusal is None and rescue.out == bytes.fromhex(saved), doc.hex()
         assert rescue.changes == [n for line in lines for n in line], doc.hex()
         cases.put(doc)
@@ -337,7 +337,7 @@ def of_roots(cases):
         cases.put(doc)
         cases.around(doc)
         cases.put(doc, none, none, none)
-        cases.put(doc, lambda w: 16, lambda n: 20, lambda n: 9)
+        cases.put(doc, lambda w: 2 * tables.WORDS, lambda n: 20, lambda n: 9)
 
 
 TAILS = """00 01 0C 0D FF 0100 010001 0D0001 010002C0 01000161 09000161 0900016101 090001610D 09000161FF 0900016100000000 0900016100FFFFFF
@@ -364,7 +364,7 @@ def of_counts(cases):
             for came in (b"", b"\0", b"\0\0\0\0", b"\0\0\0\0\0", b"\1\0\0\0\0"):
                 cases.put(way + came)
                 cases.put(way + came, short)
-                cases.put(way + came, lambda w: w + 800)
+                cases.put(way + came, lambda w: w + 100 * tables.WORDS)
         for kind in (7, 11, 12):
             came = b"\1\2\3"[:min(3, count * WIDTH[kind] - 1)]
             cases.put(b"\x0A\0\0" + entry(kind, b"l", many(count) + came))
@@ -397,9 +397,9 @@ def refused_else(cases):
     for number, docs in faults.items():
         for doc in docs:
             doc = bytes.fromhex(doc)
-            assert Rescue(doc, 800, 0, 0).refusal[0] == number, doc.hex()
+            assert Rescue(doc, 900, 0, 0).refusal[0] == number, doc.hex()
             for tail in (b"", b"\0", b"\x0A\0\0", b"\0\0\0\0"):
-                for rooms in ((exact, exact, exact), (exact, none, none), (lambda w: w + 80, lambda n: n + 90, lambda n: n + 30)):
+                for rooms in ((exact, exact, exact), (exact, none, none), (lambda w: w + 10 * tables.WORDS, lambda n: n + 90, lambda n: n + 30)):
                     cases.put(doc + tail, *rooms)
             for at in range(len(doc)):
                 cases.put(doc[:at])
@@ -423,6 +423,34 @@ def deep_ones(r, cases):
         cases.put(depths.nested(shape(30), depths.BYTE))  # accepted
 
 
+def stairs(kinds):
+    """A document of containers each of which holds the next, with something before and behind that: a byte is in the last."""
+    inner, payload = 1, b"\7"
+    for kind in reversed(kinds):
+        if kind == LIST:
+            small = {LIST: bytes(5), COMPOUND: compound()}.get(inner, b"\0")
+            payload = listed(inner, small, payload, small)
+        else:
+            payload = compound(entry(1, b"a", b"\1"), entry(inner, b"b", payload), entry(1, b"c", b"\2"))
+        inner = kind
+    return bytes([COMPOUND]) + string(b"") + payload
+
+
+def of_parents(r, cases):
+    """Whole documents: what the read leaves in the table has the parents too (02, [7]), behind containers that close by any number of levels."""
+    for doc, column in [(b"\x0A\0\0\0", [0]), (bytes.fromhex("0A00016101000162FF00"), [0, 0]), (stairs([10, 9, 10]), [0, 0, 0, 2, 2, 4, 4, 4, 2, 0])]:
+        found = Rescue(doc, 900, 0, 0)
+        assert found.refusal == (31, 0, 0) and found.table[tables.PARENT::tables.WORDS] == column, doc.hex()
+        cases.put(doc)
+    docs = [stairs(shape(deep)) for shape in depths.SHAPES for deep in (2, 3, 6)]
+    while len(docs) < 36:
+        doc = bytes([COMPOUND]) + string(b"root") + random_entries(r, r.randrange(2, 5))
+        if 8 <= needed(doc)[0] <= 20:
+            docs.append(doc)
+    for doc in docs:
+        cases.put(doc, lambda w: w + r.randrange(9))
+
+
 def at_random(r, cases):
     for _ in range(60):
         doc = bytes([COMPOUND]) + string(r.choice([b"", b"root", "Höhe".encode()])) + random_entries(r, r.randrange(1, 4))
@@ -444,6 +472,7 @@ def main(folder):
         cases.cuts(r, doc)
     deep_ones(r, cases)
     at_random(r, cases)
+    of_parents(r, cases)
     for key in ["saved"] + [f"refused {n}" for n in (2, 3, 4, 5, 6, 7, 8, 13, 24, 31, 32)]:
         assert cases.seen.get(key, 0) >= 8, key
     open(folder + "/stdin", "w", newline="").write("\n".join(cases.lines) + "\n")

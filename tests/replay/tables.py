@@ -3,8 +3,9 @@
 
     tests/replay/tables.py crates/replay_tables
 
-The answers are worked out by a second check and a second writer, below, that are written from document 01 alone: the check goes down the
-tree, the writer keeps the names of each open compound. Refusal 9 can't occur here, for no line is that long; tests/ffi/write.c has it.
+The answers are worked out by a second check and a second writer, below, that are written from documents 01 and 02 [7] alone: the check goes
+down the tree, then down it once more for the parents; the writer keeps the names of each open compound. Refusal 9 can't occur here, for no
+line is that long; tests/ffi/write.c has it.
 """
 import random
 import sys
@@ -12,34 +13,38 @@ import sys
 import listing
 from listing import WIDTH, Refused, string, well_formed
 
-KIND, NAME, NAME_LENGTH, START, LENGTH, COUNT, LIST_KIND, END = range(8)
+KIND, NAME, NAME_LENGTH, START, LENGTH, COUNT, LIST_KIND, END, PARENT = range(9)
+WORDS = 9  # of a record, the parent's number being the last
 
 
 class Reader(listing.Reader):
-    """The reader of the listing, with all eight words of a record."""
+    """The reader of the listing, with all nine words of a record."""
 
     def __init__(self, doc):
         super().__init__(doc)
-        self.rows = []
+        self.rows, self.within = [], []  # within: the records whose payloads are being read
 
     def payload(self, kind, name, at, deep):
         n = len(self.records)
         self.rows.append(None)
+        parent = self.within[-1] if self.within else 0
+        self.within.append(n)
         to = super().payload(kind, name, at, deep)
+        self.within.pop()
         _, length, size, count = self.records[n]
         start = 0 if kind in (9, 10) else at + {8: 2, 7: 4, 11: 4, 12: 4}.get(kind, 0)
         first = self.records[n + 1][0] if kind == 9 and count else 0
-        self.rows[n] = [kind, name[0], length, start, size, count, first, len(self.records)]
+        self.rows[n] = [kind, name[0], length, start, size, count, first, len(self.records), parent]
         return to
 
 
 def rows_of(words):
-    return [words[i:i + 8] for i in range(0, len(words), 8)]
+    return [words[i:i + WORDS] for i in range(0, len(words), WORDS)]
 
 
 def agrees(size, rows, i, limit, element):
     """Whether record i and those in it, which end at `limit` at the latest, are as rules 4 and 6 have them."""
-    kind, name, name_len, start, length, count, list_kind, end = rows[i]
+    kind, name, name_len, start, length, count, list_kind, end, _ = rows[i]
     if not 1 <= kind <= 12 or name + name_len > size or not i < end <= limit:
         return False
     if element and (name or name_len):
@@ -61,11 +66,25 @@ def agrees(size, rows, i, limit, element):
     return count == len(children) and list_kind == (children[0] if kind == 9 and children else 0)
 
 
+def parents(rows):
+    """The number of each record's parent, and 0 in the root (02, [7]): a container's first child stands behind it, each other child where
+    the one before it ends. For rows that agree with rules 4 and 6."""
+    out = [0] * len(rows)
+    for i, row in enumerate(rows):
+        j = i + 1
+        while row[KIND] in (9, 10) and j < row[END]:
+            out[j] = i
+            j = rows[j][END]
+    return out
+
+
 def is_table(size, words):
-    if not words or len(words) % 8:
+    if not words or len(words) % WORDS:
         return False
     rows = rows_of(words)
-    return rows[0][KIND] == 10 and rows[0][END] == len(rows) and agrees(size, rows, 0, len(rows), False)
+    if rows[0][KIND] != 10 or rows[0][END] != len(rows) or not agrees(size, rows, 0, len(rows), False):
+        return False
+    return [row[PARENT] for row in rows] == parents(rows)
 
 
 def fine(text, i):
@@ -78,7 +97,7 @@ def fine(text, i):
 def judge(doc, rows):
     """Rule 8's questions, record by record; the open containers with the names seen in each."""
     opened = []
-    for i, (kind, name, name_len, start, length, _, list_kind, end) in enumerate(rows):
+    for i, (kind, name, name_len, start, length, _, list_kind, end, _) in enumerate(rows):
         while opened and opened[-1][0] == i:
             opened.pop()
         text = doc[name:name + name_len]
@@ -99,7 +118,7 @@ def judge(doc, rows):
 
 def laid(doc, rows, i, named):
     """The bytes of record i and of those in it."""
-    kind, name, name_len, start, length, count, list_kind, end = rows[i]
+    kind, name, name_len, start, length, count, list_kind, end, _ = rows[i]
     out = bytes([kind]) + string(doc[name:name + name_len]) if named else b""
     if kind in (9, 10):
         if kind == 9:
@@ -139,11 +158,16 @@ class Cases:
             out, answer = b"", (13, 0)
         said = f"written {len(out)}" if answer is None else f"refused {answer[0]} {answer[1]}"
         line = f"{doc.hex()} {more} " + "".join(f"{w:08x}" for w in words) + f" {space}"
-        assert len(line) <= 65536 and len(whole) <= 70000 and space <= 70000 and len(words) <= 8192
+        assert len(line) <= 65536 and len(whole) <= 70000 and space <= 70000 and len(words) <= 9216
         self.lines.append(line)
         self.answers.append(f"{check} {said} " + (out + b"\xAA" * (space - len(out))).hex().upper())
         for key in (check, "written" if answer is None else f"refused {answer[0]}"):
             self.seen[key] = self.seen.get(key, 0) + 1
+
+    def no_table(self, doc, words, more=0):
+        """A case of words of which it is known beforehand that they form no table."""
+        self.put(doc, words, 4, more)
+        assert self.answers[-1] == "none refused 10 0 AAAAAAAA", (doc, words)
 
 
 def flat(rows):
@@ -151,12 +175,12 @@ def flat(rows):
 
 
 def nudged(r, rows):
-    """One or two words changed."""
-    words = flat(rows)
+    """One or two words changed, none of them a parent's number: those have cases of their own."""
+    words = flat(row[:PARENT] for row in rows)
     for _ in range(r.choice([1, 1, 2])):
         at = r.randrange(len(words))
         words[at] = r.choice([words[at] + 1, words[at] - 1, words[at] ^ 8, 0, 1, 9, 10, 13, 0xFFFFFFFF, r.choice(words), r.randrange(16)]) % 2**32
-    return words
+    return flat(words[PARENT * i:PARENT * (i + 1)] + row[PARENT:] for i, row in enumerate(rows))  # the parents as they were
 
 
 def made_up(r, doc, apart=False):
@@ -167,10 +191,10 @@ def made_up(r, doc, apart=False):
         start = r.randrange(len(doc) + 1)
         return start, r.randrange(min(most, len(doc) - start) + 1)
 
-    def record(kind, element, deep):
+    def record(kind, element, deep, parent):
         i = len(rows)
         name = (0, 0) if element else (i, 3) if apart else span(4)
-        row = [kind, *name, 0, 0, 0, 0, 0]
+        row = [kind, *name, 0, 0, 0, 0, 0, parent]
         rows.append(row)
         if kind in (9, 10):
             each = r.randrange(1, 13)
@@ -178,7 +202,7 @@ def made_up(r, doc, apart=False):
                 inner = each if kind == 9 and r.randrange(4 if apart else 12) else r.randrange(1, 13)
                 row[LIST_KIND] = row[LIST_KIND] or (inner if kind == 9 else 0)
                 row[COUNT] += 1
-                record(inner, kind == 9, deep - 1)
+                record(inner, kind == 9, deep - 1, i)
         elif kind == 8:
             row[START:COUNT] = span(6)
         else:
@@ -188,13 +212,20 @@ def made_up(r, doc, apart=False):
             row[START] = r.randrange(max(0, len(doc) - row[LENGTH]) + 1)
         row[END] = len(rows)
 
-    record(10, False, r.randrange(1, 4))
+    record(10, False, r.randrange(1, 4), 0)
     return rows
 
 
 def chain(deep, kind):
     """The root and containers within it, so many deep."""
-    return [[10 if i == 0 else kind, 0, 0, 0, 0, int(i + 1 < deep), kind if i and kind == 9 and i + 1 < deep else 0, deep] for i in range(deep)]
+    def element(i):
+        return kind if i and kind == 9 and i + 1 < deep else 0
+
+    return [[kind if i else 10, 0, 0, 0, 0, int(i + 1 < deep), element(i), deep, max(0, i - 1)] for i in range(deep)]
+
+
+# Words to cut off or to add, up to a whole record. What comes of the parent's number alone is in of_lengths.
+CUT, ADDED = [2, 3, 4, 5, 6, 7, 8, WORDS], [1, 2, 3, 4, 5, 6, 7, WORDS]
 
 
 def from_documents(r, cases):
@@ -214,7 +245,7 @@ def from_documents(r, cases):
         for _ in range(3):
             cases.put(doc, nudged(r, rows), lambda n: n + 1)
         if some <= 25 and len(rows) <= 6:  # each word in turn
-            for at in range(8 * len(rows)):
+            for at in range(WORDS * len(rows)):
                 for by in (1, -1):
                     words = flat(rows)
                     words[at] = (words[at] + by) % 2**32
@@ -229,32 +260,32 @@ def from_documents(r, cases):
         if len(named) > 1:  # an entry with the name of another
             words = flat(rows)
             a, b = r.sample(named, 2)
-            words[8 * a + NAME:8 * a + START] = words[8 * b + NAME:8 * b + START]
+            words[WORDS * a + NAME:WORDS * a + START] = words[WORDS * b + NAME:WORDS * b + START]
             cases.put(doc, words)
         words = flat(rows)
-        cases.put(doc, words[:-r.randrange(1, 9)], 4)
-        cases.put(doc, words + words[:r.randrange(1, 9)], 4)
+        cases.put(doc, words[:-r.choice(CUT)], 4)
+        cases.put(doc, words + words[:r.choice(ADDED)], 4)
         if len(rows) > 1:  # a shorter document, spans past its end
             cases.put(doc[:r.randrange(len(doc))], words, 4)
 
 
 def by_hand(cases):
-    cases.put(bytes.fromhex("0A00000900016C050000000000"), [10, 3, 0, 0, 0, 1, 0, 2, 9, 6, 1, 0, 0, 0, 0, 2])
+    cases.put(bytes.fromhex("0A00000900016C050000000000"), [10, 3, 0, 0, 0, 1, 0, 2, 0, 9, 6, 1, 0, 0, 0, 0, 2, 0])
     cases.put(b"", [], 4)
     cases.put(b"\x0A\0\0\0", [], 0)
-    cases.put(b"", [10, 0, 0, 0, 0, 0, 0, 1])
-    cases.put(b"", [10, 1, 0, 0, 0, 0, 0, 1])
-    cases.put(b"a", [10, 1, 0, 0, 0, 0, 0, 1])
-    cases.put(b"a", [10, 0xFFFFFFFF, 2, 0, 0, 0, 0, 1])
+    cases.put(b"", [10, 0, 0, 0, 0, 0, 0, 1, 0])
+    cases.put(b"", [10, 1, 0, 0, 0, 0, 0, 1, 0])
+    cases.put(b"a", [10, 1, 0, 0, 0, 0, 0, 1, 0])
+    cases.put(b"a", [10, 0xFFFFFFFF, 2, 0, 0, 0, 0, 1, 0])
     for length in (65534, 65535, 65536):  # a name, then a string
         room = None if length == 65535 else 9
-        cases.put(b"", [10, 0, length, 0, 0, 0, 0, 1], room, 65536)
-        cases.put(b"b", [10, 0, 0, 0, 0, 1, 0, 2, 8, 0, 1, 1, length, 0, 0, 2], room, 65536)
-        cases.put(b"b", [10, 0, 0, 0, 0, 1, 0, 2, 1, 0, length, 1, 1, 0, 0, 2], room, 65536)
-        cases.put(b"\xFF", [10, 1, length, 0, 0, 1, 0, 2, 8, 0, 1, 1, length, 0, 0, 2], 9, 65536)
+        cases.put(b"", [10, 0, length, 0, 0, 0, 0, 1, 0], room, 65536)
+        cases.put(b"b", [10, 0, 0, 0, 0, 1, 0, 2, 0, 8, 0, 1, 1, length, 0, 0, 2, 0], room, 65536)
+        cases.put(b"b", [10, 0, 0, 0, 0, 1, 0, 2, 0, 1, 0, length, 1, 1, 0, 0, 2, 0], room, 65536)
+        cases.put(b"\xFF", [10, 1, length, 0, 0, 1, 0, 2, 0, 8, 0, 1, 1, length, 0, 0, 2, 0], 9, 65536)
     # over 65,535 bytes comes before ill-formed, a name before a payload
-    cases.put(b"\xFF", [10, 0, 65536, 0, 0, 0, 0, 1], 9, 65536)
-    cases.put(b"\xFF", [10, 0, 65535, 0, 0, 0, 0, 1], 9, 65536)
+    cases.put(b"\xFF", [10, 0, 65536, 0, 0, 0, 0, 1, 0], 9, 65536)
+    cases.put(b"\xFF", [10, 0, 65535, 0, 0, 0, 0, 1, 0], 9, 65536)
     for kind in (9, 10):
         for deep in (511, 512, 513, 600):
             cases.put(b"", flat(chain(deep, kind)))
@@ -266,47 +297,48 @@ def by_hand(cases):
         row[END] += 2
     for last in (9, 1, 2):
         width = 0 if last == 9 else WIDTH[last]
-        cases.put(b"ab", flat(rows + [[1, 0, 0, 0, 1, 0, 0, 513], [last, 0, 0, 0, width, 0, 0, 514]]))
+        cases.put(b"ab", flat(rows + [[1, 0, 0, 0, 1, 0, 0, 513, 511], [last, 0, 0, 0, width, 0, 0, 514, 511]]))
 
 
 def of_siblings(cases):
     """Record 2 holds record 3, the rest are the root's entries; the names stand in five letters. Then the same with fewer records."""
-    rows = [[10, 0, 0, 0, 0, 4, 0, 6], [1, 0, 2, 9, 1, 0, 0, 2], [10, 2, 1, 0, 0, 1, 0, 4], [1, 0, 2, 9, 1, 0, 0, 4], [1, 3, 2, 9, 1, 0, 0, 5], [1, 2, 1, 9, 1, 0, 0, 6]]
+    rows = [[10, 0, 0, 0, 0, 4, 0, 6, 0], [1, 0, 2, 9, 1, 0, 0, 2, 0], [10, 2, 1, 0, 0, 1, 0, 4, 0], [1, 0, 2, 9, 1, 0, 0, 4, 2],
+            [1, 3, 2, 9, 1, 0, 0, 5, 0], [1, 2, 1, 9, 1, 0, 0, 6, 0]]
     cases.put(b"abcab", flat(rows), None, 5)
     cases.put(b"abcac", flat(rows), None, 5)
-    cases.put(b"abcac", flat([[10, 0, 0, 0, 0, 3, 0, 5]] + rows[1:5]), None, 5)
-    cases.put(b"abcab", flat([[10, 0, 0, 0, 0, 1, 0, 3], [10, 2, 1, 0, 0, 1, 0, 3], [1, 0, 2, 9, 1, 0, 0, 3]]), None, 5)
-    cases.put(b"abcab", [10, 0, 0, 0, 0, 0, 0, 1], None, 5)
+    cases.put(b"abcac", flat([[10, 0, 0, 0, 0, 3, 0, 5, 0]] + rows[1:5]), None, 5)
+    cases.put(b"abcab", flat([[10, 0, 0, 0, 0, 1, 0, 3, 0], [10, 2, 1, 0, 0, 1, 0, 3, 0], [1, 0, 2, 9, 1, 0, 0, 3, 1]]), None, 5)
+    cases.put(b"abcab", [10, 0, 0, 0, 0, 0, 0, 1, 0], None, 5)
 
 
 def well(r, deep):
     """Containers so many deep, of both sorts, a few small records beside them; in places a list's element is of another kind."""
     rows = []
 
-    def small(kind):
+    def small(kind, parent):
         name = (0, 0) if kind == 9 else (r.randrange(26), 2)
-        rows.append([1, *name, 0, 1, 0, 0, len(rows) + 1])
+        rows.append([1, *name, 0, 1, 0, 0, len(rows) + 1, parent])
 
-    def box(kind, element, left):
-        row = [kind, 0, 0 if element else 1, 0, 0, 0, 0, 0]
+    def box(kind, element, left, parent):
+        i, row = len(rows), [kind, 0, 0 if element else 1, 0, 0, 0, 0, 0, parent]
         rows.append(row)
         if left:
             inner = r.choice([9, 10])
             if kind == 10 and r.randrange(12) == 0:
-                small(10)
+                small(10, i)
                 row[COUNT] += 1
             if kind == 9 and r.randrange(12) == 0:  # an empty container of the same kind
-                rows.append([inner, 0, 0, 0, 0, 0, 0, len(rows) + 1])
+                rows.append([inner, 0, 0, 0, 0, 0, 0, len(rows) + 1, i])
                 row[COUNT] += 1
-            box(inner, kind == 9, left - 1)
+            box(inner, kind == 9, left - 1, i)
             row[COUNT] += 1
             if r.randrange(200) == 0:  # in a list a mixed one, after what is too deep
-                small(kind)
+                small(kind, i)
                 row[COUNT] += 1
             row[LIST_KIND] = inner if kind == 9 else 0
         row[END] = len(rows)
 
-    box(10, False, deep - 1)
+    box(10, False, deep - 1, 0)
     return rows
 
 
@@ -335,6 +367,124 @@ def long_strings(r):
     return doc, rows, 69900
 
 
+# Trees for wrong parents, each tag its kind and its children. The last record of all is the root's entry, an element deep in lists, and an
+# entry deep in compounds.
+LEAF, EMPTY_LIST, EMPTY_COMPOUND = (1,), (9,), (10,)
+TREES = [
+    (10, (10, LEAF, (9, (9, LEAF, LEAF), EMPTY_LIST), LEAF), (9, (10, LEAF), EMPTY_COMPOUND), LEAF),
+    (10, LEAF, (9, (9, LEAF), (9, LEAF, LEAF))),
+    (10, (10, (9, LEAF), (10, LEAF, LEAF))),
+]
+THEIR_PARENTS = [[0, 0, 1, 1, 3, 4, 4, 3, 1, 0, 9, 10, 9, 0], [0, 0, 0, 2, 3, 2, 5, 5], [0, 0, 1, 2, 1, 4, 4]]  # worked out by hand
+LETTERS = b"abcdefghijklmnopqrstuvwxyz"  # the document of a planted tree
+
+
+def planted(tree):
+    """The table of a tree of bytes and containers; each entry's name is a letter of its own."""
+    rows = []
+
+    def record(kind, children, element, parent):
+        i, first = len(rows), children[0][KIND] if kind == 9 and children else 0
+        row = [kind, *((0, 0) if element else (i, 1)), 0, int(kind == 1), len(children), first, 0, parent]
+        rows.append(row)
+        for child in children:
+            record(child[0], child[1:], kind == 9, i)
+        row[END] = len(rows)
+
+    record(tree[0], tree[1:], False, 0)
+    return rows
+
+
+def wrong_parents(rows, i):
+    """What might be taken for the parent of record i: its neighbours, itself, its parent's parent, the others of that parent, where it ends,
+    the root, the parent counted from 1 or known by its low bits alone, and what is at the table's end or beyond it."""
+    n, right = len(rows), rows[i][PARENT]
+    others = {j for j in range(1, n) if j != i and rows[j][PARENT] == right}
+    within = {i - 1, i, i + 1, rows[right][PARENT], rows[i][END], 0, right - 1, right + 1}
+    beyond = {n - 1, n, n + 1, 0xFFFFFFFF, right + 2**8, right + 2**16, right + 2**31}
+    return sorted((others | within | beyond) - {right, -1})
+
+
+def some_records(rows):
+    """The root, its first child, every third record and the last: for the replays that leave every record to replay_tables."""
+    return sorted({0, 1, *range(3, len(rows), 3), len(rows) - 1})
+
+
+def with_parent(rows, i, parent):
+    words = flat(rows)
+    words[WORDS * i + PARENT] = parent
+    return words
+
+
+def wrong_columns(rows):
+    """The parents of all records by one mistake, where that makes a difference."""
+    n, right, boxes = len(rows), [row[PARENT] for row in rows], [i for i, row in enumerate(rows) if row[KIND] in (9, 10)]
+    yield from (column for column in [
+        [0] * n, [0xFFFFFFFF] * n, [*range(n)], [row[END] for row in rows],
+        [0] + [p + 1 for p in right[1:]], [p + 1 for p in right],  # counted from 1
+        [max(0, i - 1) for i in range(n)], [max([0] + [b for b in boxes if b < i]) for i in range(n)],  # the record before, the container before
+        [rows[p][PARENT] for p in right], right[1:] + [0], [0] + right[:-1], right[::-1],
+    ] if column != right)
+
+
+def of_parents(r, cases):
+    """A wrong parent in every place (02, [7])."""
+    for tree, right in zip(TREES, THEIR_PARENTS):
+        rows = planted(tree)
+        assert [row[PARENT] for row in rows] == parents(rows) == right
+        cases.put(LETTERS, flat(rows))
+        for i in range(len(rows)):
+            for wrong in wrong_parents(rows, i):
+                cases.no_table(LETTERS, with_parent(rows, i, wrong))
+        for column in wrong_columns(rows):
+            cases.no_table(LETTERS, flat(row[:PARENT] + [p] for row, p in zip(rows, column)))
+    for deep, kind, i, wrong in [(512, 9, 1, 1), (512, 9, 511, 509), (512, 10, 256, 0), (512, 10, 511, 511), (513, 9, 512, 510), (513, 10, 512, 0)]:
+        cases.no_table(b"", with_parent(chain(deep, kind), i, wrong))
+    some = 0
+    while some < 60:
+        doc = bytes([10]) + string(b"root") + listing.random_entries(r, r.randrange(1, 4))
+        reader = Reader(doc)
+        reader.root()
+        rows = reader.rows
+        if not 3 <= len(rows) <= 12:
+            continue
+        some += 1
+        for i in r.sample(range(len(rows)), 3):
+            cases.no_table(doc, with_parent(rows, i, r.choice(wrong_parents(rows, i))))
+
+
+def before_all_else(cases):
+    """10 for a wrong parent comes before all that the writer asks record by record."""
+    byte = [1, 1, 1, 1, 1, 0, 0, 2, 0]
+    for doc, rows, more, refused in [
+        (b"ab", [[10, 0, 65536, 0, 0, 1, 0, 2, 0], byte], 65536, 12),
+        (b"\xFFb", [[10, 0, 1, 0, 0, 1, 0, 2, 0], byte], 0, 4),
+        (b"ab", [[10, 0, 1, 0, 0, 2, 0, 3, 0], byte, byte[:END] + [3, 0]], 0, 6),
+        (b"ab", [[10, 0, 1, 0, 0, 1, 0, 4, 0], [9, 0, 1, 0, 0, 2, 1, 4, 0], [1, 0, 0, 0, 1, 0, 0, 3, 1], [2, 0, 0, 0, 2, 0, 0, 4, 1]], 0, 11),
+    ]:
+        cases.put(doc, flat(rows), None, more)
+        assert f" refused {refused} " in cases.answers[-1]
+        last = len(rows) - 1
+        cases.no_table(doc, with_parent(rows, 0, 1), more)
+        cases.no_table(doc, with_parent(rows, last, last), more)
+
+
+def of_lengths(cases):
+    """Numbers of words that are no table's; eight to a record, as there were before [7], and ten. Of nine records these are a multiple of 9."""
+    words = flat(planted(TREES[1]))
+    for n in range(1, len(words)):
+        cases.no_table(LETTERS, words[:n])
+    for n in range(1, WORDS + 1):
+        cases.no_table(LETTERS, words + [0] * n)
+        cases.no_table(LETTERS, words + words[:n])
+    for rows in [*map(planted, TREES), *(chain(n, kind) for n in (1, 2, 3, 8, 9, 10, 18) for kind in (9, 10))]:
+        cases.put(LETTERS, flat(rows))
+        cases.no_table(LETTERS, flat(row[:PARENT] for row in rows))
+        cases.no_table(LETTERS, flat(row + [0] for row in rows))
+        if len(rows) > 1:  # the parent's number as the first word
+            cases.no_table(LETTERS, flat(row[PARENT:] + row[:PARENT] for row in rows))
+
+
 def main(folder):
     sys.setrecursionlimit(20000)
     r = random.Random(20261116)
@@ -357,7 +507,10 @@ def main(folder):
     until(cases, 12, 60, lambda: long_strings(r))
     until(cases, 7, 50, lambda: (b"abcdefghijklmnopqrstuvwxyzabc", well(r, r.choice([513, 513, 514, 530])), 0))
     of_siblings(cases)
-    cases.put(bytes.fromhex("0A00016101000162FF00"), [10, 3, 1, 0, 0, 1, 0, 2, 1, 7, 1, 8, 1, 0, 0, 2])
+    of_parents(r, cases)
+    before_all_else(cases)
+    of_lengths(cases)
+    cases.put(bytes.fromhex("0A00016101000162FF00"), [10, 3, 1, 0, 0, 1, 0, 2, 0, 1, 7, 1, 8, 1, 0, 0, 2, 0])
     for key in ["table", "none", "written"] + [f"refused {n}" for n in (4, 6, 7, 10, 11, 12, 13)]:
         assert cases.seen.get(key, 0) >= 50, key
     assert len(cases.lines) >= 3000

@@ -93,6 +93,6 @@ fn main() {
     let mut chunk = io::large_buffer();
     let mut line = [0u8; 8192];
     let mut doc = [0u8; 4096];
-    let mut table = [0u32; 4096];
+    let mut table = [0u32; 512 * table::WORDS];
     list_lines(&mut chunk, &mut line, &mut doc, &mut table);
 }

@@ -71,6 +71,6 @@ fn main() {
     let mut chunk = io::large_buffer();
     let mut line = [0u8; 16384];
     let mut doc = [0u8; 8192];
-    let mut table = [0u32; 8800];
+    let mut table = [0u32; 1100 * table::WORDS];
     replay(&mut chunk, &mut line, &mut doc, &mut table);
 }

@@ -181,8 +181,8 @@ fn main() {
     let mut line = io::large_buffer();
     let mut field = io::large_buffer();
     let mut doc = [0u8; 4096];
-    let mut table = [0u32; 8192];
-    let mut q = [0u8; 32768];
+    let mut table = [0u32; 1024 * table::WORDS];
+    let mut q = [0u8; 4 * 1024 * table::WORDS];
     let mut list = [0u32; 1024];
     replay(
         &mut chunk,

@@ -194,7 +194,7 @@ fn main() {
     let mut line = io::large_buffer();
     let mut field = io::large_buffer();
     let mut doc = [0u8; 4096];
-    let mut table = [0u32; 4800];
+    let mut table = [0u32; 600 * table::WORDS];
     let mut out = [0u8; 4096];
     let mut changes = [0u32; 4800];
     replay(

@@ -183,9 +183,9 @@ fn main() {
     let mut chunk = io::large_buffer();
     let mut line = io::large_buffer();
     let mut field = io::large_buffer();
-    let mut bytes = [0u8; 8192];
-    let mut table = [0u32; 1024];
-    let mut out = [0u8; 8192];
+    let mut bytes = [0u8; 9216];
+    let mut table = [0u32; 128 * table::WORDS];
+    let mut out = [0u8; 9216];
     replay(
         &mut chunk,
         &mut line,

@@ -213,9 +213,9 @@ fn main() {
     let mut chunk = io::large_buffer();
     let mut line = io::large_buffer();
     let mut field = io::large_buffer();
-    let mut bytes = [0u8; 32768];
+    let mut bytes = [0u8; 4 * 1024 * table::WORDS];
     let mut doc = [0u8; 70000];
-    let mut table = [0u32; 8192];
+    let mut table = [0u32; 1024 * table::WORDS];
     let mut out = [0u8; 70000];
     replay(
         &mut chunk,
