@@ -18,11 +18,12 @@ use Rattle.form.proofs.Fields.{list-head-within, number-no, string-no, string-w
 use Rattle.form.proofs.Payloads.{payload-no, room-le, room-fits, inside-list, list-head-no}
 use Rattle.form.proofs.Table.{sets-over, width-le-size}
 use Rattle.form.proofs.Cut.{RootCut, root-cut, kept-of, not-both}
-use Rattle.gather.specs.declared.Label.{Label}
+use Rattle.table.specs.declared.Record.{Record}
+use Rattle.table.specs.Records.{recordWords, containerOf}
 use Rattle.gather.specs.declared.Piece.{Piece}
 use Rattle.gather.specs.declared.Side.{Side}
 use Rattle.gather.specs.Steps.{OnlyCut, IsCut, readIn, elementsIn, entriesIn, elementsKept, entriesKept, PayloadAsked, ElementsAsked}
-use Rattle.gather.specs.Steps.{EntriesAsked, HeldAsked, endOf, countOf, openOf, Shut, PieceIs, SideIs, heldWords, HeldIs, KeptIn}
+use Rattle.gather.specs.Steps.{EntriesAsked, HeldAsked, endOf, countOf, openOf, Shut, PieceIs, SideIs, HeldIs, KeptIn}
 use Rattle.gather.proofs.Only.{cut-only}
 use Rattle.gather.proofs.Parts.{only-room, only-inside, only-deep, only-entries, only-head, only-elements, positive, list-kind-some}
 use Rattle.gather.proofs.Containers.{shut-nothing, held-piece, no-list-at, compound-holds, list-holds}
@@ -41,14 +42,14 @@ asked-known e h = rw e at h
 
 module _ (kind name len inner promised level above n : ℕ) (t t′ ls : List ℕ) (most : ℕ) (s : Side) where
   -- A container's record, behind what is whole and behind what is cut.
-  pub held-whole : (at n′ count : ℕ) → s ≡ Side.Whole at n′ count → {inner′ : ℕ} → inner′ ≡ inner
-      → t′ ≡ over t (9 * n) (heldWords kind name len count inner′ n′ above) → HeldIs kind name len inner promised level above n t t′ ls ls most s (Piece.Whole at n′)
-  held-whole at n′ count e f g = rw e (refl, rw f at g, refl)
+  pub held-whole : (at n′ count : ℕ) → s ≡ Side.Whole at n′ count → {r : Record} → r ≡ containerOf kind name len count inner n′ above
+      → t′ ≡ over t (9 * n) (recordWords r) → HeldIs kind name len inner promised level above n t t′ ls ls most s (Piece.Whole at n′)
+  held-whole at n′ count e {r} f g = rw e (refl, rw f at g, refl)
 
-  pub held-cut : (n′ count m : ℕ) → s ≡ Side.Cut n′ count m → {first : ℕ} {ls′ : List ℕ}
-      → first ≡ pick (eqb count 0) 0 inner → t′ ≡ over t (9 * n) (heldWords kind name len count first n′ above) → ls′ ≡ pick (ltb (level + m) most) (over ls (3 * level) (n ∷ promised ∷ count ∷ [])) ls
+  pub held-cut : (n′ count m : ℕ) → s ≡ Side.Cut n′ count m → {r : Record} {first : ℕ} {ls′ : List ℕ} → r ≡ containerOf kind name len count first n′ above
+      → first ≡ pick (eqb count 0) 0 inner → t′ ≡ over t (9 * n) (recordWords r) → ls′ ≡ pick (ltb (level + m) most) (over ls (3 * level) (n ∷ promised ∷ count ∷ [])) ls
       → HeldIs kind name len inner promised level above n t t′ ls ls′ most s (Piece.Cut n′ (m + 1))
-  held-cut n′ count m e i g l = rw e (refl, rw i at g, l)
+  held-cut n′ count m e {r} {first} f i g l = rw e (refl, rw (f, i) at g, l)
 
 -- The list of lines behind a cut container: with its line, if all lines are `most` at the most, or as it was.
 module _ (ls ls′ : List ℕ) (level n promised count m most : ℕ) where
@@ -206,12 +207,12 @@ module _ (doc t : List ℕ) (c : IsCut (reading doc t)) {s : Span} (e : stringAt
         lines-fit = h;
       }
 
-  module _ (t′ ls ls′ : List ℕ) (most : ℕ) (r : Piece) {label : Label} (known : label ≡ record { name = s .start; len = s .size; above = 0 })
-      (g : PieceIs doc (roomOf (length t)) (readIn doc (length t) 512 10 (label .name) (label .len) (s .next) 0)
-      (begunAt doc (roomOf (length t)) 512 10 (label .name) (label .len) (s .next) 0) 0 (s .next) (label .above) 0 t t′ ls ls′ most r) where
+  module _ (t′ ls ls′ : List ℕ) (most : ℕ) (r : Piece)
+      (g : PieceIs doc (roomOf (length t)) (readIn doc (length t) 512 10 (s .start) (s .size) (s .next) 0)
+      (begunAt doc (roomOf (length t)) 512 10 (s .start) (s .size) (s .next) 0) 0 (s .next) 0 0 t t′ ls ls′ most r) where
     -- It is not whole.
     pub root-whole : {at n : ℕ} → r ≡ Piece.Whole at n → ⊥
-    root-whole f = not-both (rw (f, known) at g .0 .is) (root .payload)
+    root-whole f = not-both (rw f at g .0 .is) (root .payload)
 
     -- What it leaves is what is kept of the document.
     pub root-kept : {n m : ℕ} → r ≡ Piece.Cut n m → KeptIn doc t t′ ls ls′ most n m
@@ -228,4 +229,4 @@ module _ (doc t : List ℕ) (c : IsCut (reading doc t)) {s : Span} (e : stringAt
     }
       where
         shut : Shut (roomOf (length t)) (begunAt doc (roomOf (length t)) 512 10 (s .start) (s .size) (s .next) 0) n m 0 0 0 t t′ ls ls′ most
-        shut = rw (f, known) at g .1
+        shut = rw f at g .1

@@ -20,7 +20,6 @@ use Rattle.form.proofs.Cut.{kept-element, begun-element, no-element, no-entry, 
 use Rattle.form.proofs.Fields.{bytes-no, number-no, string-no, array-no, leaf-fixed, leaf-string, leaf-array, list-head-end, entry-end}
 use Rattle.form.proofs.Payloads.{leaf-one-no, payload-leaf, payload-no, inside-deep, inside-list, inside-compound, compound-no, list-head-no, room-le, room-fits}
 use Rattle.reader.specs.Steps.{Next}
-use Rattle.gather.specs.declared.Label.{Label}
 use Rattle.gather.specs.declared.Piece.{Piece}
 use Rattle.gather.specs.declared.Side.{Side}
 use Rattle.gather.specs.Steps.{OnlyCut, IsCut, readIn, PayloadAsked, PieceIs, SideIs, Shut}
@@ -319,17 +318,11 @@ abbrev pub Pieced : List ℕ → ℕ → ℕ → ℕ → ℕ → ℕ → ℕ →
 Pieced doc words depth kind name len at above n t t′ ls ls′ most r =
     PieceIs doc (roomOf words) (readIn doc words depth kind name len at n) (begunAt doc (roomOf words) depth kind name len at n) (512 - depth) at above n t t′ ls ls′ most r
 
--- What it asks, where the parts of its label are known.
-pub asked-labelled : {label : Label} {doc t ls : List ℕ} {depth kind name len at above n most : ℕ} → label ≡ record { name = name; len = len; above = above }
-    → PayloadAsked doc t depth kind name len at above n ls most → PayloadAsked doc t depth kind (label .name) (label .len) at (label .above) n ls most
-asked-labelled e a = rw e a
-
 module _ (r : Piece) (doc : List ℕ) (words words₀ depth kind name len at above n : ℕ) (t t′ ls ls′ : List ℕ) (most : ℕ) (same : words ≡ words₀)
-    {label : Label} (known : label ≡ record { name = name; len = len; above = above })
-    (s : Pieced doc words depth kind (label .name) (label .len) at (label .above) n t t′ ls ls′ most r) where
+    (s : Pieced doc words depth kind name len at above n t t′ ls ls′ most r) where
   pub piece-whole : (at′ n′ : ℕ) → r ≡ Piece.Whole at′ n′ → Next doc (roomOf words₀) (readIn doc words₀ depth kind name len at n) at′ n′ at above n t t′ × (ls′ ≡ ls)
-  piece-whole at′ n′ e = rw (e, same, known) at s
+  piece-whole at′ n′ e = rw (e, same) at s
 
   pub piece-cut : (n′ m : ℕ) → r ≡ Piece.Cut n′ m
       → IsCut (readIn doc words₀ depth kind name len at n) × Shut (roomOf words₀) (begunAt doc (roomOf words₀) depth kind name len at n) n′ m (512 - depth) above n t t′ ls ls′ most
-  piece-cut n′ m e = rw (e, same, known) at s
+  piece-cut n′ m e = rw (e, same) at s

@@ -80,7 +80,7 @@ abbrev pub openOf : Side → ℕ
 openOf (Side.Whole at n count) = 0
 openOf (Side.Cut n count m) = m
 
--- Of a container, record n, behind what was gathered in it.
+-- Of a container, record n in record `above`, behind what was gathered in it.
 pub record HeldAsked (t : List ℕ) (name len promised level above n : ℕ) (s : Side) (ls : List ℕ) (most : ℕ) : Type 0 where
   pub fits : 9 * n + 9 ≤ length t
   pub above-le : above ≤ n

@@ -11,25 +11,11 @@ ghost use Rattle.form.specs.Spans.{over};
 ghost use Rattle.form.specs.Reading.{leafOne, roomOf, reading};
 ghost use Rattle.form.specs.Cut.{begunAt};
 ghost use Rattle.reader.specs.Steps.{Named};
-ghost use Rattle.table.specs.Records.{Small};
-ghost use Rattle.gather.specs.Steps.{IsCut, LeafIs, HeldAsked, readIn, elementsIn, entriesIn, elementsKept, entriesKept, PayloadAsked, ElementsAsked, EntriesAsked, PieceIs, SideIs, heldWords, HeldIs, GatheredIs};
+ghost use Rattle.gather.specs.Steps.{IsCut, LeafIs, HeldAsked, readIn, elementsIn, entriesIn, elementsKept, entriesKept, PayloadAsked, ElementsAsked, EntriesAsked, PieceIs, SideIs, HeldIs, GatheredIs};
 use fields::Item;
 use fields::Part;
 use fields::Start;
 use fields::wide;
-
-// What a record says that its payload does not: the span of its name, and its parent (02, [7]).
-struct Label {
-    name: usize,
-    len: usize,
-    above: usize,
-}
-
-fn labelled(name: usize, len: usize, above: usize) -> Label
-    ensures { λ r. ⌜ r ≡ record { name = name; len = len; above = above } ⌝ }
-{
-    Label { name, len, above }
-}
 
 // A payload: whole, with the place behind it and the next record's number; or cut, with the next record's number behind what is kept of it,
 // and how many containers are open, itself counted.
@@ -52,9 +38,18 @@ pub enum Gathered {
 }
 
 // A payload of kinds 1 to 6: a record, or nothing.
-fn fixed(doc: &[u8], kind: u8, label: Label, at: usize, table: &mut [u32], ix: usize) -> Piece
-    requires { ⌜ (Named (now doc) (now table) (roomOf (length (now table))) at (label .above) ix kind (label .name) (label .len)) × (ix < roomOf (length (now table))) × (kind < 7) ⌝ }
-    ensures { λ r. ⌜ LeafIs (now (doc .entry)) (roomOf (length (now (table .entry)))) (leafOne (now (doc .entry)) kind (label .name) (label .len) at) at (label .above) ix (now (table .entry)) (now (table .exit)) r ⌝ }
+fn fixed(
+    doc: &[u8],
+    kind: u8,
+    name: usize,
+    len: usize,
+    at: usize,
+    table: &mut [u32],
+    up: usize,
+    ix: usize,
+) -> Piece
+    requires { ⌜ (Named (now doc) (now table) (roomOf (length (now table))) at up ix kind name len) × (ix < roomOf (length (now table))) × (kind < 7) ⌝ }
+    ensures { λ r. ⌜ LeafIs (now (doc .entry)) (roomOf (length (now (table .entry)))) (leafOne (now (doc .entry)) kind name len at) at up ix (now (table .entry)) (now (table .exit)) r ⌝ }
 {
     let width = fields::width_of(kind);
     if doc.len() - at < width {
@@ -63,46 +58,37 @@ fn fixed(doc: &[u8], kind: u8, label: Label, at: usize, table: &mut [u32], ix: u
     table::put(
         table,
         ix,
-        table::leaf(
-            wide(kind),
-            label.name,
-            label.len,
-            at,
-            width,
-            0,
-            ix + 1,
-            label.above,
-        ),
+        table::leaf(wide(kind), name, len, at, width, 0, ix + 1, up),
     );
     Piece::Whole(at + width, ix + 1)
 }
 
 // A payload that holds no records: a record, or nothing.
-fn leaf(doc: &[u8], kind: u8, label: Label, at: usize, table: &mut [u32], ix: usize) -> Piece
-    requires { ⌜ (Named (now doc) (now table) (roomOf (length (now table))) at (label .above) ix kind (label .name) (label .len)) × (ix < roomOf (length (now table))) ⌝ }
-    ensures { λ r. ⌜ LeafIs (now (doc .entry)) (roomOf (length (now (table .entry)))) (leafOne (now (doc .entry)) kind (label .name) (label .len) at) at (label .above) ix (now (table .entry)) (now (table .exit)) r ⌝ }
+fn leaf(
+    doc: &[u8],
+    kind: u8,
+    name: usize,
+    len: usize,
+    at: usize,
+    table: &mut [u32],
+    up: usize,
+    ix: usize,
+) -> Piece
+    requires { ⌜ (Named (now doc) (now table) (roomOf (length (now table))) at up ix kind name len) × (ix < roomOf (length (now table))) ⌝ }
+    ensures { λ r. ⌜ LeafIs (now (doc .entry)) (roomOf (length (now (table .entry)))) (leafOne (now (doc .entry)) kind name len at) at up ix (now (table .entry)) (now (table .exit)) r ⌝ }
 {
     match fields::leaf_at(doc, kind, at) {
         Part::No { .. } => Piece::Cut(ix, 0),
         Part::Is {
             start,
-            len,
+            len: size,
             count,
             next,
         } => {
             table::put(
                 table,
                 ix,
-                table::leaf(
-                    wide(kind),
-                    label.name,
-                    label.len,
-                    start,
-                    len,
-                    count,
-                    ix + 1,
-                    label.above,
-                ),
+                table::leaf(wide(kind), name, len, start, size, count, ix + 1, up),
             );
             Piece::Whole(next, ix + 1)
         }
@@ -128,58 +114,40 @@ fn with_open(count: usize, open: usize) -> usize
     if open == 0 { count } else { count + 1 }
 }
 
-// The record of a container, n, put in its place.
-fn put_container(
-    table: &mut [u32],
-    n: usize,
-    kind: u8,
-    label: Label,
-    count: usize,
-    inner: usize,
-    end: usize,
-)
-    requires { ⌜ (9 * n + 9 ≤ length (now table)) × (Small kind (label .name) (label .len)) × (label .above < 2 ^ 32) × (count < 2 ^ 32) × (inner < 2 ^ 32) × (end < 2 ^ 32) ⌝ }
-    ensures { λ _. ⌜ now (table .exit) ≡ over (now (table .entry)) (9 * n) (heldWords kind (label .name) (label .len) count inner end (label .above)) ⌝ }
-{
-    table::put(
-        table,
-        n,
-        table::container(
-            wide(kind),
-            label.name,
-            label.len,
-            count,
-            inner,
-            end,
-            label.above,
-        ),
-    );
-}
-
-// A container, record n, closed behind what was gathered in it.
+// A container, record n in record `up`, closed behind what was gathered in it.
 fn held(
     kind: u8,
-    label: Label,
+    name: usize,
+    len: usize,
     inner: u8,
     promised: usize,
     side: Side,
     level: usize,
     table: &mut [u32],
+    up: usize,
     n: usize,
     lines: &mut [u32],
     most: usize,
 ) -> Piece
-    requires { ⌜ HeldAsked (now table) (label .name) (label .len) promised level (label .above) n side (now lines) most ⌝ }
-    ensures { λ r. ⌜ HeldIs kind (label .name) (label .len) inner promised level (label .above) n (now (table .entry)) (now (table .exit)) (now (lines .entry)) (now (lines .exit)) most side r ⌝ }
+    requires { ⌜ HeldAsked (now table) name len promised level up n side (now lines) most ⌝ }
+    ensures { λ r. ⌜ HeldIs kind name len inner promised level up n (now (table .entry)) (now (table .exit)) (now (lines .entry)) (now (lines .exit)) most side r ⌝ }
 {
     match side {
         Side::Whole(at, ix, count) => {
-            put_container(table, n, kind, label, count, wide(inner), ix);
+            table::put(
+                table,
+                n,
+                table::container(wide(kind), name, len, count, wide(inner), ix, up),
+            );
             Piece::Whole(at, ix)
         }
         Side::Cut(ix, count, open) => {
             let first = if count == 0 { 0 } else { wide(inner) };
-            put_container(table, n, kind, label, count, first, ix);
+            table::put(
+                table,
+                n,
+                table::container(wide(kind), name, len, count, first, ix, up),
+            );
             if level + open < most {
                 put_line(lines, level, n, promised, count);
             }
@@ -188,44 +156,48 @@ fn held(
     }
 }
 
-// A payload at `at`, record ix: what is small with no call.
+// A payload at `at`, record ix in record `up`: what is small with no call.
 fn node(
     doc: &[u8],
     kind: u8,
-    label: Label,
+    name: usize,
+    len: usize,
     at: usize,
     depth: usize,
     table: &mut [u32],
+    up: usize,
     ix: usize,
     lines: &mut [u32],
     most: usize,
 ) -> Piece
-    requires { ⌜ PayloadAsked (now doc) (now table) depth kind (label .name) (label .len) at (label .above) ix (now lines) most ⌝ }
-    ensures { λ r. ⌜ PieceIs (now (doc .entry)) (roomOf (length (now (table .entry)))) (readIn (now (doc .entry)) (length (now (table .entry))) depth kind (label .name) (label .len) at ix) (begunAt (now (doc .entry)) (roomOf (length (now (table .entry)))) depth kind (label .name) (label .len) at ix) (512 - depth) at (label .above) ix (now (table .entry)) (now (table .exit)) (now (lines .entry)) (now (lines .exit)) most r ⌝ }
+    requires { ⌜ PayloadAsked (now doc) (now table) depth kind name len at up ix (now lines) most ⌝ }
+    ensures { λ r. ⌜ PieceIs (now (doc .entry)) (roomOf (length (now (table .entry)))) (readIn (now (doc .entry)) (length (now (table .entry))) depth kind name len at ix) (begunAt (now (doc .entry)) (roomOf (length (now (table .entry)))) depth kind name len at ix) (512 - depth) at up ix (now (table .entry)) (now (table .exit)) (now (lines .entry)) (now (lines .exit)) most r ⌝ }
 {
     if kind < 7 {
-        return fixed(doc, kind, label, at, table, ix);
+        return fixed(doc, kind, name, len, at, table, up, ix);
     }
-    payload(doc, kind, label, at, depth, table, ix, lines, most)
+    payload(doc, kind, name, len, at, depth, table, up, ix, lines, most)
 }
 
 // The same of any kind, where `depth` containers may still stand within each other.
 fn payload(
     doc: &[u8],
     kind: u8,
-    label: Label,
+    name: usize,
+    len: usize,
     at: usize,
     depth: usize,
     table: &mut [u32],
+    up: usize,
     ix: usize,
     lines: &mut [u32],
     most: usize,
 ) -> Piece
-    requires { ⌜ PayloadAsked (now doc) (now table) depth kind (label .name) (label .len) at (label .above) ix (now lines) most ⌝ }
-    ensures { λ r. ⌜ PieceIs (now (doc .entry)) (roomOf (length (now (table .entry)))) (readIn (now (doc .entry)) (length (now (table .entry))) depth kind (label .name) (label .len) at ix) (begunAt (now (doc .entry)) (roomOf (length (now (table .entry)))) depth kind (label .name) (label .len) at ix) (512 - depth) at (label .above) ix (now (table .entry)) (now (table .exit)) (now (lines .entry)) (now (lines .exit)) most r ⌝ }
+    requires { ⌜ PayloadAsked (now doc) (now table) depth kind name len at up ix (now lines) most ⌝ }
+    ensures { λ r. ⌜ PieceIs (now (doc .entry)) (roomOf (length (now (table .entry)))) (readIn (now (doc .entry)) (length (now (table .entry))) depth kind name len at ix) (begunAt (now (doc .entry)) (roomOf (length (now (table .entry)))) depth kind name len at ix) (512 - depth) at up ix (now (table .entry)) (now (table .exit)) (now (lines .entry)) (now (lines .exit)) most r ⌝ }
 {
     if !fields::is_container(kind) {
-        return leaf(doc, kind, label, at, table, ix);
+        return leaf(doc, kind, name, len, at, table, up, ix);
     }
     if depth == 0 {
         return Piece::Cut(ix, 0);
@@ -233,16 +205,13 @@ fn payload(
     let level = form::DEPTH - depth;
     if kind == 10 {
         let s = entries(doc, at, depth - 1, table, ix, lines, most);
-        return held(kind, label, 0, 0, s, level, table, ix, lines, most);
+        return held(kind, name, len, 0, 0, s, level, table, up, ix, lines, most);
     }
     match fields::list_head(doc, at) {
         Start::No { .. } => Piece::Cut(ix, 0),
-        Start::Is {
-            kind: of,
-            count: many,
-        } => {
-            let s = elements(doc, of, many, at + 5, depth - 1, table, ix, lines, most);
-            held(kind, label, of, many, s, level, table, ix, lines, most)
+        Start::Is { kind: of, count: n } => {
+            let s = elements(doc, of, n, at + 5, depth - 1, table, ix, lines, most);
+            held(kind, name, len, of, n, s, level, table, up, ix, lines, most)
         }
     }
 }
@@ -262,7 +231,6 @@ fn elements(
     requires { ⌜ ElementsAsked (now doc) (now table) depth count kind at n (now lines) most ⌝ }
     ensures { λ r. ⌜ SideIs (now (doc .entry)) (roomOf (length (now (table .entry)))) (elementsIn (now (doc .entry)) (length (now (table .entry))) depth count kind at (n + 1)) (elementsKept (now (doc .entry)) (length (now (table .entry))) depth count kind at (n + 1)) (512 - depth) at n (n + 1) (now (table .entry)) (now (table .exit)) (now (lines .entry)) (now (lines .exit)) most r ⌝ }
 {
-    let label = labelled(0, 0, n);
     let mut here = at;
     let mut next = n + 1;
     let mut done: usize = 0;
@@ -270,7 +238,7 @@ fn elements(
         if doc.len() <= here {
             return Side::Cut(next, done, 0);
         }
-        match node(doc, kind, label, here, depth, table, next, lines, most) {
+        match node(doc, kind, 0, 0, here, depth, table, n, next, lines, most) {
             Piece::Cut(end, open) => return Side::Cut(end, with_open(done, open), open),
             Piece::Whole(a, i) => {
                 here = a;
@@ -304,20 +272,17 @@ fn entries(
             Item::End => return Side::Whole(here + 1, next, count),
             Item::Named {
                 kind,
-                start,
+                start: name,
                 len,
-                next: from,
-            } => {
-                let label = labelled(start, len, n);
-                match node(doc, kind, label, from, depth, table, next, lines, most) {
-                    Piece::Cut(end, open) => return Side::Cut(end, with_open(count, open), open),
-                    Piece::Whole(a, i) => {
-                        here = a;
-                        next = i;
-                        count += 1;
-                    }
+                next: at,
+            } => match node(doc, kind, name, len, at, depth, table, n, next, lines, most) {
+                Piece::Cut(end, open) => return Side::Cut(end, with_open(count, open), open),
+                Piece::Whole(a, i) => {
+                    here = a;
+                    next = i;
+                    count += 1;
                 }
-            }
+            },
         }
     }
 }
@@ -337,15 +302,24 @@ pub fn gather(doc: &[u8], table: &mut [u32], lines: &mut [u32], most: usize) -> 
             len,
             count: _,
             next,
-        } => {
-            let label = labelled(start, len, 0);
-            match payload(doc, 10, label, next, form::DEPTH, table, 0, lines, most) {
-                Piece::Whole(_, _) => Gathered::NoRoot,
-                Piece::Cut(ix, open) => Gathered::Kept {
-                    records: ix,
-                    lines: open,
-                },
-            }
-        }
+        } => match payload(
+            doc,
+            10,
+            start,
+            len,
+            next,
+            form::DEPTH,
+            table,
+            0,
+            0,
+            lines,
+            most,
+        ) {
+            Piece::Whole(_, _) => Gathered::NoRoot,
+            Piece::Cut(ix, open) => Gathered::Kept {
+                records: ix,
+                lines: open,
+            },
+        },
     }
 }

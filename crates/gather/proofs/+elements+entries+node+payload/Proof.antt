@@ -15,7 +15,6 @@ use Rattle.fields.proofs.entry_at.Reads as entry-at
 use Rattle.fields.proofs.is_container.Reads as is-container
 use Rattle.fields.proofs.list_head.Reads as list-head
 use Rattle.gather.proofs.held.Reads as held
-use Rattle.gather.proofs.labelled.Reads as labelled
 use Rattle.gather.proofs.leaf.Reads as leaf
 use Rattle.gather.proofs.with_open.Reads as with-open
 use Rattle.gather.proofs.+elements+entries+node+payload.Lts-elements as elements-lts
@@ -29,8 +28,7 @@ use Common.{μ-elements, μ-entries, μ-node, μ-payload, elements-at, entries-a
 pub +elements+entries+node+payload-spec : {M : Type 1} → statement M
 +elements+entries+node+payload-spec =
     close μ-elements μ-entries μ-node μ-payload
-    (λ t. elements-lts.spec (labelled.Asked, labelled.Learnt, node-below t, node.Post, with-open.Asked, with-open.Learnt) (elements-at t) elements.Post Elements.Inv-loop Elements.μ-loop
-    (λ c κs. search needs)
+    (λ t. elements-lts.spec (node-below t, node.Post, with-open.Asked, with-open.Learnt) (elements-at t) elements.Post Elements.Inv-loop Elements.μ-loop
     (Elements.add-next t)
     (Elements.loop-holds t)
     (Elements.same-length t)
@@ -49,9 +47,7 @@ pub +elements+entries+node+payload-spec : {M : Type 1} → statement M
     (Elements.same-length-5 t)
     (Elements.same-length-6 t)
     (Elements.returns-3 t))
-    (λ t. entries-lts.spec
-    (entry-at.Asked, entry-at.Learnt, labelled.Asked, labelled.Learnt, node-below t, node.Post, with-open.Asked, with-open.Learnt)
-    (entries-at t) entries.Post Entries.Inv-loop Entries.μ-loop
+    (λ t. entries-lts.spec (entry-at.Asked, entry-at.Learnt, node-below t, node.Post, with-open.Asked, with-open.Learnt) (entries-at t) entries.Post Entries.Inv-loop Entries.μ-loop
     (Entries.add-next t)
     (Entries.loop-holds t)
     (λ c κs. search needs)
@@ -65,7 +61,6 @@ pub +elements+entries+node+payload-spec : {M : Type 1} → statement M
     (Entries.same-length-4 t)
     (Entries.returns-2 t)
     (λ c. search needs)
-    (λ c κs. search needs)
     (Entries.node-requires t)
     (λ c. search needs)
     (Entries.with-open-requires t)

@@ -7,7 +7,6 @@ use Rattle.form.specs.Answer.{got}
 use Rattle.form.specs.Reading.{Span, stringAt}
 use Rattle.fields.specs.Answers.{partOut}
 use Rattle.gather.proofs.Asked.{string-none, root-asked, root-whole, root-kept}
-use Rattle.gather.proofs.Runs.{asked-labelled}
 use Rattle.gather.proofs.gather.Statement.{statement}
 use Rattle.gather.proofs.gather.Tie as tie
 
@@ -29,30 +28,25 @@ returns-2 c = ((_, _, sym (c .before .before .string-at .ensures) ∙ ap partOut
 
 payload-requires : tie.Need-payload-requires
 payload-requires c κs =
-    let at-label = c .before .before in
-    let at-start = at-label .before .before in
+    let at-start = c .before .before .before in
     let start = start-of at-start in
-    asked-labelled (at-label .labelled .ensures)
-    (root-asked (start .args .doc .now) (start .args .table .now) (start .pre .0) (is at-start) _ _ (start .pre .1))
+    root-asked (start .args .doc .now) (start .args .table .now) (start .pre .0) (is at-start) _ _ (start .pre .1)
 
 returns-3 : tie.Need-returns-3
 returns-3 c =
     let at-payload = c .before .before .before .before .before .before in
-    let at-label = at-payload .before .before .before in
-    let at-start = at-label .before .before in
+    let at-start = at-payload .before .before .before .before in
     let start = start-of at-start in
     absurd
-    (root-whole (start .args .doc .now) (start .args .table .now) (start .pre .0) (is at-start) _ _ _ _ (at-payload .payload .result) (at-label .labelled .ensures) (at-payload .payload .ensures)
+    (root-whole (start .args .doc .now) (start .args .table .now) (start .pre .0) (is at-start) _ _ _ _ (at-payload .payload .result) (at-payload .payload .ensures)
     (c .enum-told2 .given .1))
 
 returns-4 : tie.Need-returns-4
 returns-4 c =
     let at-payload = c .before .before .before .before .before .before .before in
-    let at-label = at-payload .before .before .before in
-    let at-start = at-label .before .before in
+    let at-start = at-payload .before .before .before .before in
     let start = start-of at-start in
-    root-kept (start .args .doc .now) (start .args .table .now) (start .pre .0) (is at-start) _ _ _ _
-    (at-payload .payload .result) (at-label .labelled .ensures) (at-payload .payload .ensures) (c .before .ix .given .1)
+    root-kept (start .args .doc .now) (start .args .table .now) (start .pre .0) (is at-start) _ _ _ _ (at-payload .payload .result) (at-payload .payload .ensures) (c .before .ix .given .1)
 
 pub gather-spec : {M : Type 1} → statement M
 gather-spec =
@@ -62,7 +56,6 @@ gather-spec =
     (λ c κs. search needs)
     (λ c. search needs)
     (λ c. search needs)
-    (λ c κs. search needs)
     payload-requires
     (λ c. search needs)
     (λ c. search needs)

@@ -19,27 +19,27 @@ abbrev cut-start : tie.After-side2 → tie.Start
 cut-start c = c .before .before .before .before
 
 -- the side, where the record of a cut container is written
-abbrev side-of : tie.After-put-container2 → tie.After-side2
-side-of c = c .before .before .before .before
+abbrev side-of : tie.After-put2 → tie.After-side2
+side-of c = c .before .before .before .before .before .before
 
-put-container-requires : tie.Need-put-container-requires
-put-container-requires c κs =
-    let at-side = c .before .before .before in
+container-requires : tie.Need-container-requires
+container-requires c κs =
+    let at-side = c .before .before .before .before in
     let asked = asked-known (at-side .side .given .1) (whole-start at-side .pre) in
-    omega (arith, asked, c .wide .ensures)
+    omega (arith, asked, c .before .wide .ensures, c .wide2 .ensures)
 
 -- the kind that is written for the elements of a cut container
 first-is : (c : tie.Joined1) → c .if1 .first ≡ pick (eqb (c .before .before .side2 .given .0 .1 .0) 0) 0 (cut-start (c .before .before) .args .inner)
 first-is c = ⊎-elim (λ l. first-zero _ _ _ (l .0 .taken) (l .1)) (λ l. first-inner _ _ _ (l .0 .left) (l .2 ∙ l .1 .ensures)) (c .if1 .came)
 
-put-container-requires-2 : tie.Need-put-container-requires-2
-put-container-requires-2 c κs =
-    let joined = c .before in
+container-requires-2 : tie.Need-container-requires-2
+container-requires-2 c κs =
+    let joined = c .before .before in
     let at-side = joined .before .before in
     let start = cut-start at-side in
     let asked = asked-known (at-side .side2 .given .1) (start .pre) in
     let small = picked-le (eqb (at-side .side2 .given .0 .1 .0) 0) (start .args .inner) in
-    omega (arith, asked, first-is joined, small)
+    omega (arith, asked, c .wide4 .ensures, first-is joined, small)
 
 add-if2 : tie.Need-add-if2
 add-if2 c =
@@ -54,8 +54,8 @@ put-line-requires c κs =
     let asked = asked-known (at-side .side2 .given .1) (cut-start at-side .pre) in
     (omega (arith, at-then .if2 .taken, asked .lines-fit), asked .level-le, asked .n-lt, asked .promised-lt, asked .count-lt)
 
-add-t28 : tie.Need-add-t28
-add-t28 c =
+add-t33 : tie.Need-add-t33
+add-t33 c =
     let at-side = side-of (c .before .before .before) in
     let asked = asked-known (at-side .side2 .given .1) (cut-start at-side .pre) in
     omega (arith, asked .open-lt)
@@ -63,9 +63,11 @@ add-t28 c =
 returns : tie.Need-returns
 returns c =
     let at-put = c .before .before in
-    let at-wide = at-put .before in
+    let at-container = at-put .before in
+    let at-wide = at-container .before .before in
     let at-side = at-wide .before .before .before in
-    held-whole _ _ _ _ _ _ _ _ _ _ _ _ _ _ _ _ (at-side .side .given .1) (at-wide .wide .ensures) (at-put .put-container .ensures)
+    held-whole _ _ _ _ _ _ _ _ _ _ _ _ _ _ _ _ (at-side .side .given .1)
+    (rw (at-wide .wide .ensures, at-container .before .wide2 .ensures) at (at-container .container .ensures)) (at-put .put .ensures)
 
 same-length-3 : tie.Need-same-length-3
 same-length-3 c = ⊎-elim (λ l. ap length (l .5) ∙ l .2 .kept .0) (λ l. ap length (l .1)) (c .if2 .came)
@@ -73,7 +75,10 @@ same-length-3 c = ⊎-elim (λ l. ap length (l .5) ∙ l .2 .kept .0) (λ l. ap 
 returns-2 : tie.Need-returns-2
 returns-2 c =
     let at-put = c .before .before .before in
-    held-cut _ _ _ _ _ _ _ _ _ _ _ _ _ _ _ _ (side-of at-put .side2 .given .1) (first-is (at-put .before .before)) (at-put .put-container2 .ensures)
+    let at-container = at-put .before in
+    let at-wide = at-container .before in
+    held-cut _ _ _ _ _ _ _ _ _ _ _ _ _ _ _ _ (side-of at-put .side2 .given .1) (rw (at-wide .wide4 .ensures) at (at-container .container2 .ensures))
+    (first-is (at-wide .before .before)) (at-put .put2 .ensures)
     (⊎-elim (λ l. line-listed _ _ _ _ _ _ _ _ (l .0 .taken) (l .5 ∙ l .2 .ensures)) (λ l. line-unlisted _ _ _ _ _ _ _ _ (l .0 .left) (l .1)) (c .if2 .came))
 
 pub held-spec : {M : Type 1} → statement M
@@ -82,13 +87,17 @@ held-spec =
     (tie.spec
     (λ c. search needs)
     (λ c κs. search needs)
-    put-container-requires
+    (λ c κs. search needs)
+    container-requires
+    (λ c κs. search needs)
     (λ c. search needs)
     (λ c κs. search needs)
-    put-container-requires-2
+    (λ c κs. search needs)
+    container-requires-2
+    (λ c κs. search needs)
     add-if2
     put-line-requires
-    add-t28
+    add-t33
     (λ c. search needs)
     returns
     (λ c. search needs)

@@ -32,7 +32,7 @@ abbrev pub entries-below : ℕ → In 3 entries-kinds.ps
 entries-below t = and 3 entries-kinds.ps (falls 3 entries-kinds.ps _<_ μ-entries t) entries.Pre
 
 abbrev pub μ-node : Measures 3 node-kinds.ps ℕ
-μ-node κs a = 3 * a .1 .1 .1 .1 .0 + 1
+μ-node κs a = 3 * a .1 .1 .1 .1 .1 .0 + 1
 
 abbrev pub node-at : ℕ → In 3 node-kinds.ps
 node-at t = and 3 node-kinds.ps (is 3 node-kinds.ps μ-node t) node.Pre
@@ -41,7 +41,7 @@ abbrev pub node-below : ℕ → In 3 node-kinds.ps
 node-below t = and 3 node-kinds.ps (falls 3 node-kinds.ps _<_ μ-node t) node.Pre
 
 abbrev pub μ-payload : Measures 3 payload-kinds.ps ℕ
-μ-payload κs a = 3 * a .1 .1 .1 .1 .0
+μ-payload κs a = 3 * a .1 .1 .1 .1 .1 .0
 
 abbrev pub payload-at : ℕ → In 3 payload-kinds.ps
 payload-at t = and 3 payload-kinds.ps (is 3 payload-kinds.ps μ-payload t) payload.Pre

@@ -12,10 +12,9 @@ use Rattle.form.proofs.Runs.{sofar-length, elements-none, elements-no, elements
 use Rattle.form.proofs.Payloads.{room-le}
 use Rattle.gather.specs.Steps.{OnlyCut, readIn, elementsIn, elementsKept}
 use Rattle.gather.proofs.Runs.{Gathering, gathering-start, gathering-next, gathering-end, gathering-none, gathering-open, only-left, done-small, begun-width}
-use Rattle.gather.proofs.Runs.{at-end, element-only, element-kept, element-begun, element-none, payload-asked, asked-labelled, piece-whole, piece-cut}
+use Rattle.gather.proofs.Runs.{at-end, element-only, element-kept, element-begun, element-none, payload-asked, piece-whole, piece-cut}
 use Rattle.gather.proofs.elements.Reads as elements
 use Rattle.gather.proofs.elements.Kinds as kinds
-use Rattle.gather.proofs.labelled.Reads as labelled
 use Rattle.gather.proofs.node.Reads as node
 use Rattle.gather.proofs.with_open.Reads as with-open
 use Rattle.gather.proofs.+elements+entries+node+payload.Lts-elements as lts
@@ -34,24 +33,24 @@ pub record Inv (doc : List ℕ) (kind count at depth : ℕ) (t₀ : List ℕ) (n
   pub n-le : next ≤ roomOf (length t₀)
 
 abbrev pub Inv-loop : lts.InvT-loop
-Inv-loop doc kind count at depth table₀ n lines₀ most label here₀ next₀ done₀ table lines here next done = Inv doc kind count at depth table₀ n lines₀ table lines here next done
+Inv-loop doc kind count at depth table₀ n lines₀ most here₀ next₀ done₀ table lines here next done = Inv doc kind count at depth table₀ n lines₀ table lines here next done
 
 abbrev pub μ-loop : lts.MeasureT-loop
-μ-loop doc kind count at depth table₀ n lines₀ most label here₀ next₀ done₀ table lines here next done = count - done
+μ-loop doc kind count at depth table₀ n lines₀ most here₀ next₀ done₀ table lines here next done = count - done
 
 abbrev On : ℕ → (lts.Claims → In 3 kinds.ps → Out 3 kinds.ps kinds.r → lts.InvT-loop → lts.MeasureT-loop → Type 0) → Type 0
-On t F = F (labelled.Asked, labelled.Learnt, node-below t, node.Post, with-open.Asked, with-open.Learnt) (elements-at t) elements.Post Inv-loop μ-loop
+On t F = F (node-below t, node.Post, with-open.Asked, with-open.Learnt) (elements-at t) elements.Post Inv-loop μ-loop
 
 module _ (t : ℕ) where
   abbrev start-of : On t lts.At-loop → On t lts.Start
-  start-of c = c .before .before .before .before .before
+  start-of c = c .before .before .before .before
 
   pub add-next : On t lts.Need-add-next
-  add-next c = omega (arith, c .before .before .before .before .pre .1 .ready)
+  add-next c = omega (arith, c .before .before .before .pre .1 .ready)
 
   pub loop-holds : On t lts.Need-loop-holds
   loop-holds c =
-      let s = c .before .before .before .before in
+      let s = c .before .before .before in
       let r = s .pre .1 .ready in
       record { left = s .args .count; left-is = omega arith; acc = none; going = gathering-start _ _ _ _ _ _ refl; on = omega arith; at-le = r .at-le; n-le = r .n-le }
 
@@ -110,8 +109,8 @@ module _ (t : ℕ) where
       let i = l .loop .inv in
       let p = start-of l .pre .1 in (
         omega arith,
-        asked-labelled (l .before .labelled .ensures) (payload-asked _ _ _ _ _ _ _ _ _ _ _ _ (same l) (p .ready .doc-le) (i .at-le) (i .n-le) (omega (arith, p .ready .above-le, i .going .sofar .n-is))
-            (p .kind-le) (omega arith) (omega arith) (omega (arith, p .deep)) (only turn) (omega (arith, p .lines-fit, same-lines l))),
+        payload-asked _ _ _ _ _ _ _ _ _ _ _ _ (same l) (p .ready .doc-le) (i .at-le) (i .n-le) (omega (arith, p .ready .above-le, i .going .sofar .n-is))
+            (p .kind-le) (omega arith) (omega arith) (omega (arith, p .deep)) (only turn) (omega (arith, p .lines-fit, same-lines l)),
       )
 
   abbrev payload-of : On t lts.After-slice-known4 → On t lts.After-node
@@ -131,12 +130,12 @@ module _ (t : ℕ) where
   pub same-length-3 : On t lts.Need-same-length-3
   same-length-3 c =
       let n = open-of (c .before) in
-      n .node .kept .1 .1 .1 .1 .1 .0 ∙ same (loop-of n)
+      n .node .kept .1 .1 .1 .1 .1 .1 .0 ∙ same (loop-of n)
 
   pub same-length-4 : On t lts.Need-same-length-4
   same-length-4 c =
       let n = open-of (c .before) in
-      n .node .kept .1 .1 .1 .1 .1 .1 .1 .0 ∙ same-lines (loop-of n)
+      n .node .kept .1 .1 .1 .1 .1 .1 .1 .1 .1 .0 ∙ same-lines (loop-of n)
 
   pub returns-2 : On t lts.Need-returns-2
   returns-2 c =
@@ -145,7 +144,7 @@ module _ (t : ℕ) where
       let l = loop-of n in
       let s = start-of l in
       let i = l .loop .inv in
-      let q = piece-cut (n .node .result) (s .args .doc .now) _ _ _ _ _ _ _ _ _ _ _ _ _ _ (same l) (l .before .labelled .ensures) (n .node .ensures) _ _ (c .before .before .end .given .1) in
+      let q = piece-cut (n .node .result) (s .args .doc .now) _ _ _ _ _ _ _ _ _ _ _ _ _ _ (same l) (n .node .ensures) _ _ (c .before .before .end .given .1) in
       gathering-open (i .going) (s .args .doc .now) _ _ (s .args .at) _
       (q .0 .0, elements-no _ _ _ _ _ _ (some turn) (q .0 .1)) (element-begun _ _ _ _ _ _ _ (some turn) (q .0 .1) (n .before .before .before .if1 .left)) (q .1)
       (begun-width _ _ _ _ _ _ _ _) (c .with-open .ensures) (omega (arith, i .n-le, s .pre .1 .ready .fits))
@@ -162,7 +161,7 @@ module _ (t : ℕ) where
       let l = loop-of n in
       let s = start-of l in
       let i = l .loop .inv in
-      let q = piece-whole (n .node .result) (s .args .doc .now) _ _ _ _ _ _ _ _ _ _ _ _ _ _ (same l) (l .before .labelled .ensures) (n .node .ensures) _ _ (c .before .a .given .1) in
+      let q = piece-whole (n .node .result) (s .args .doc .now) _ _ _ _ _ _ _ _ _ _ _ _ _ _ (same l) (n .node .ensures) _ _ (c .before .a .given .1) in
       let x = q .0 in
       record {
         left = i .left - 1;

@@ -17,11 +17,10 @@ use Rattle.form.proofs.Payloads.{room-le}
 use Rattle.fields.specs.Answers.{itemOut}
 use Rattle.gather.specs.Steps.{OnlyCut, readIn, entriesIn, entriesKept}
 use Rattle.gather.proofs.Runs.{Gathering, gathering-start, gathering-next, gathering-end, gathering-none, gathering-open, only-left, done-small, begun-width}
-use Rattle.gather.proofs.Runs.{cut-of, entries-some, entry-only, entry-kept, entry-begun, entry-none, payload-asked, asked-labelled, piece-whole, piece-cut}
+use Rattle.gather.proofs.Runs.{cut-of, entries-some, entry-only, entry-kept, entry-begun, entry-none, payload-asked, piece-whole, piece-cut}
 use Rattle.fields.proofs.entry_at.Reads as entry-at
 use Rattle.gather.proofs.entries.Reads as entries
 use Rattle.gather.proofs.entries.Kinds as kinds
-use Rattle.gather.proofs.labelled.Reads as labelled
 use Rattle.gather.proofs.node.Reads as node
 use Rattle.gather.proofs.with_open.Reads as with-open
 use Rattle.gather.proofs.+elements+entries+node+payload.Lts-entries as lts
@@ -45,7 +44,7 @@ abbrev pub μ-loop : lts.MeasureT-loop
 μ-loop doc at depth table₀ n lines₀ most here₀ next₀ count₀ table lines here next count = length doc - here
 
 abbrev On : ℕ → (lts.Claims → In 3 kinds.ps → Out 3 kinds.ps kinds.r → lts.InvT-loop → lts.MeasureT-loop → Type 0) → Type 0
-On t F = F (entry-at.Asked, entry-at.Learnt, labelled.Asked, labelled.Learnt, node-below t, node.Post, with-open.Asked, with-open.Learnt) (entries-at t) entries.Post Inv-loop μ-loop
+On t F = F (entry-at.Asked, entry-at.Learnt, node-below t, node.Post, with-open.Asked, with-open.Learnt) (entries-at t) entries.Post Inv-loop μ-loop
 
 module _ (t : ℕ) where
   abbrev start-of : On t lts.At-loop → On t lts.Start
@@ -137,23 +136,18 @@ module _ (t : ℕ) where
 
   pub node-requires : On t lts.Need-node-requires
   node-requires c κs =
-      let at-label = c .before .before in
-      let e = at-label .before in
+      let e = c .before .before in
       let l = loop-of e in
       let p = start-of l .pre .1 in
       let w = within e in (
         omega arith,
-        asked-labelled (at-label .labelled .ensures) (payload-asked _ _ _ _ _ _ _ _ _ _ _ _
-            (same l) (p .ready .doc-le) (w .1 .to) (l .loop .inv .n-le) (omega (arith, p .ready .above-le, l .loop .inv .going .sofar .n-is))
+        payload-asked _ _ _ _ _ _ _ _ _ _ _ _ (same l) (p .ready .doc-le) (w .1 .to) (l .loop .inv .n-le) (omega (arith, p .ready .above-le, l .loop .inv .going .sofar .n-is))
             (w .0) (omega (arith, w, p .ready)) (omega (arith, w, p .ready)) (omega (arith, p .deep))
-            (entry-only _ _ _ _ _ _ (is e) (only l) .1) (omega (arith, p .lines-fit, same-lines l))),
+            (entry-only _ _ _ _ _ _ (is e) (only l) .1) (omega (arith, p .lines-fit, same-lines l)),
       )
 
-  abbrev label-of : On t lts.After-node → On t lts.After-labelled
-  label-of n = n .before .before .before
-
   abbrev entry-of : On t lts.After-node → On t lts.After-known-told
-  entry-of n = label-of n .before
+  entry-of n = n .before .before .before
 
   abbrev payload-of : On t lts.After-slice-known4 → On t lts.After-node
   payload-of c = c .before .before .before .before
@@ -172,12 +166,12 @@ module _ (t : ℕ) where
   pub same-length-5 : On t lts.Need-same-length-5
   same-length-5 c =
       let n = open-of (c .before) in
-      n .node .kept .1 .1 .1 .1 .1 .0 ∙ same (loop-of (entry-of n))
+      n .node .kept .1 .1 .1 .1 .1 .1 .0 ∙ same (loop-of (entry-of n))
 
   pub same-length-6 : On t lts.Need-same-length-6
   same-length-6 c =
       let n = open-of (c .before) in
-      n .node .kept .1 .1 .1 .1 .1 .1 .1 .0 ∙ same-lines (loop-of (entry-of n))
+      n .node .kept .1 .1 .1 .1 .1 .1 .1 .1 .1 .0 ∙ same-lines (loop-of (entry-of n))
 
   pub returns-3 : On t lts.Need-returns-3
   returns-3 c =
@@ -187,7 +181,7 @@ module _ (t : ℕ) where
       let s = start-of l in
       let i = l .loop .inv in
       let new = entry-only _ _ _ _ _ _ (is e) (only l) .0 in
-      let q = piece-cut (n .node .result) (s .args .doc .now) _ _ _ _ _ _ _ _ _ _ _ _ _ _ (same l) (label-of n .labelled .ensures) (n .node .ensures) _ _ (c .before .before .end .given .1) in
+      let q = piece-cut (n .node .result) (s .args .doc .now) _ _ _ _ _ _ _ _ _ _ _ _ _ _ (same l) (n .node .ensures) _ _ (c .before .before .end .given .1) in
       gathering-open (i .going) (s .args .doc .now) _ _ (s .args .at) _
       (q .0 .0, entries-no _ _ _ _ _ _ (some l) (is e) new (q .0 .1)) (entry-begun _ _ _ _ _ (is e) _ (some l) (q .0 .1)) (q .1)
       (begun-width _ _ _ _ _ _ _ _) (c .with-open .ensures) (omega (arith, i .n-le, s .pre .1 .ready .fits))
@@ -208,7 +202,7 @@ module _ (t : ℕ) where
       let n = whole-of c in
       let e = entry-of n in
       let l = loop-of e in
-      let q = piece-whole (n .node .result) (start-of l .args .doc .now) _ _ _ _ _ _ _ _ _ _ _ _ _ _ (same l) (label-of n .labelled .ensures) (n .node .ensures) _ _ (c .before .a .given .1) in
+      let q = piece-whole (n .node .result) (start-of l .args .doc .now) _ _ _ _ _ _ _ _ _ _ _ _ _ _ (same l) (n .node .ensures) _ _ (c .before .a .given .1) in
       omega (arith, l .loop .inv .at-le, within e .1, q .0 .on, q .0 .at-le)
 
   pub loop-again : On t lts.Need-loop-again
@@ -219,7 +213,7 @@ module _ (t : ℕ) where
       let s = start-of l in
       let i = l .loop .inv in
       let new = entry-only _ _ _ _ _ _ (is e) (only l) .0 in
-      let q = piece-whole (n .node .result) (s .args .doc .now) _ _ _ _ _ _ _ _ _ _ _ _ _ _ (same l) (label-of n .labelled .ensures) (n .node .ensures) _ _ (c .before .a .given .1) in
+      let q = piece-whole (n .node .result) (s .args .doc .now) _ _ _ _ _ _ _ _ _ _ _ _ _ _ (same l) (n .node .ensures) _ _ (c .before .a .given .1) in
       let x = q .0 in
       record {
         fuel = i .fuel - 1;

@@ -27,7 +27,7 @@ module _ (t : ℕ) where
       (asked .named, asked-room asked, at-then .if1 .taken)
 
   pub same-length : On t lts.Need-same-length
-  same-length c = c .before .before .fixed .kept .1 .1 .1 .1 .0
+  same-length c = c .before .before .fixed .kept .1 .1 .1 .1 .1 .0
 
   pub returns : On t lts.Need-returns
   returns c =
@@ -39,10 +39,10 @@ module _ (t : ℕ) where
   payload-requires c κs = (omega arith, c .before .before .before .before .before .before .pre .1)
 
   pub same-length-2 : On t lts.Need-same-length-2
-  same-length-2 c = c .before .before .before .before .payload .kept .1 .1 .1 .1 .1 .0
+  same-length-2 c = c .before .before .before .before .payload .kept .1 .1 .1 .1 .1 .1 .0
 
   pub same-length-3 : On t lts.Need-same-length-3
-  same-length-3 c = c .before .before .before .before .payload .kept .1 .1 .1 .1 .1 .1 .1 .0
+  same-length-3 c = c .before .before .before .before .payload .kept .1 .1 .1 .1 .1 .1 .1 .1 .1 .0
 
   pub returns-2 : On t lts.Need-returns-2
   returns-2 c = c .before .before .before .before .payload .ensures

@@ -81,7 +81,7 @@ module _ (t : ℕ) where
       (asked .named, asked-room asked)
 
   pub same-length : On t lts.Need-same-length
-  same-length c = c .before .before .leaf .kept .1 .1 .1 .1 .0
+  same-length c = c .before .before .leaf .kept .1 .1 .1 .1 .1 .0
 
   pub returns : On t lts.Need-returns
   returns c =
@@ -115,12 +115,12 @@ module _ (t : ℕ) where
   pub same-length-2 : On t lts.Need-same-length-2
   same-length-2 c =
       let at-held = c .before .before .before .before in
-      at-held .held .kept .1 .1 .1 .1 .1 .1 .0 ∙ entries-of at-held .entries .kept .1 .1 .1 .0
+      at-held .held .kept .1 .1 .1 .1 .1 .1 .1 .0 ∙ entries-of at-held .entries .kept .1 .1 .1 .0
 
   pub same-length-3 : On t lts.Need-same-length-3
   same-length-3 c =
       let at-held = c .before .before .before .before in
-      at-held .held .kept .1 .1 .1 .1 .1 .1 .1 .1 .0 ∙ entries-of at-held .entries .kept .1 .1 .1 .1 .1 .0
+      at-held .held .kept .1 .1 .1 .1 .1 .1 .1 .1 .1 .1 .0 ∙ entries-of at-held .entries .kept .1 .1 .1 .1 .1 .0
 
   pub returns-3 : On t lts.Need-returns-3
   returns-3 c =
@@ -162,12 +162,12 @@ module _ (t : ℕ) where
   pub same-length-4 : On t lts.Need-same-length-4
   same-length-4 c =
       let at-held = c .before .before .before .before in
-      at-held .held2 .kept .1 .1 .1 .1 .1 .1 .0 ∙ elements-of at-held .elements .kept .1 .1 .1 .1 .1 .0
+      at-held .held2 .kept .1 .1 .1 .1 .1 .1 .1 .0 ∙ elements-of at-held .elements .kept .1 .1 .1 .1 .1 .0
 
   pub same-length-5 : On t lts.Need-same-length-5
   same-length-5 c =
       let at-held = c .before .before .before .before in
-      at-held .held2 .kept .1 .1 .1 .1 .1 .1 .1 .1 .0 ∙ elements-of at-held .elements .kept .1 .1 .1 .1 .1 .1 .1 .0
+      at-held .held2 .kept .1 .1 .1 .1 .1 .1 .1 .1 .1 .1 .0 ∙ elements-of at-held .elements .kept .1 .1 .1 .1 .1 .1 .1 .0
 
   pub returns-5 : On t lts.Need-returns-5
   returns-5 c =
