@@ -17,6 +17,7 @@
 //! let query: Query = "root/**/OriginLon".parse()?;
 //! for node in table.find(doc, &query)? {
 //!     assert_eq!((node.kind(), node.path().as_str()), (Kind::Int, "root/OriginLon"));
+//!     assert_eq!(node.parent().unwrap().name().unwrap(), "tile");
 //! }
 //! # Ok::<(), Box<dyn std::error::Error>>(())
 //! ```

@@ -4,20 +4,24 @@ use crate::hex;
 use crate::refusal::{Place, Refusal};
 use crate::table::{Table, MAX_RECORDS, WORDS};
 
-/// The digits of a record's line: eight for each word.
-const DIGITS: usize = 8 * WORDS;
+/// The digits of a word.
+const WORD: usize = 8;
+/// The digits of a record's line.
+pub(crate) const DIGITS: usize = WORD * WORDS;
+// 02, [7]: the same of lines that were kept before records had a parent
+const OLD_DIGITS: usize = WORD * (WORDS - 1);
 /// The bytes of a record's line: its digits and a line feed.
 pub const LINE: usize = DIGITS + 1;
 /// How many bytes of a bad line are shown. What is wrong with it stands at the place of its line feed at the latest.
 const SHOWN: usize = LINE + 7;
 
 impl Table {
-    /// The table as lines, [`LINE`] bytes for each record: its eight words, of eight digits 0 to 9 and a to f each, and a line feed.
+    /// The table as lines, [`LINE`] bytes for each record: its nine words, of eight digits 0 to 9 and a to f each, and a line feed.
     /// Refused with 10 where the words form no table over a document of so many bytes, and with 9 as [`Table::is_table`] is.
     ///
     /// ```
     /// let table = tikfazrul::read(b"\x0A\0\0\0")?;
-    /// assert_eq!(table.to_lines(4)?, b"0000000a00000003000000000000000000000000000000000000000000000001\n");
+    /// assert_eq!(table.to_lines(4)?, b"0000000a0000000300000000000000000000000000000000000000000000000100000000\n");
     /// # Ok::<(), tikfazrul::Refusal>(())
     /// ```
     pub fn to_lines(&self, doc_len: usize) -> Result<Vec<u8>, Refusal> {
@@ -27,15 +31,15 @@ impl Table {
         Ok(out)
     }
 
-    /// The table that lines hold, judged over a document of so many bytes: its spans lie in such a document, and its records form a tree.
-    /// Whether it is the table of the very document that it is meant for, only reading that document tells. [`Table::consumed`] is 0.
-    /// Refused with 9 where there are more than [`MAX_RECORDS`] lines, 29 at a bad line, 9 where the document is over
-    /// [`MAX_DOCUMENT`](crate::MAX_DOCUMENT), and 10 where the words form no table over it.
+    /// The table that lines hold, judged over a document of so many bytes: its spans lie in such a document, and its records form a tree,
+    /// in which each names its parent. Whether it is the table of the very document that it is meant for, only reading that document tells.
+    /// [`Table::consumed`] is 0. Refused with 9 where there are more than [`MAX_RECORDS`] lines, 29 at a bad line, 9 where the document is
+    /// over [`MAX_DOCUMENT`](crate::MAX_DOCUMENT), and 10 where the words form no table over it.
     ///
     /// ```
     /// use tikfazrul::{Place, Refusal, Table};
-    /// let line = b"0000000a00000003000000000000000000000000000000000000000000000001\n";
-    /// assert_eq!(Table::from_lines(line, 4)?.words(), [10, 3, 0, 0, 0, 0, 0, 1]);
+    /// let line = b"0000000a0000000300000000000000000000000000000000000000000000000100000000\n";
+    /// assert_eq!(Table::from_lines(line, 4)?.words(), [10, 3, 0, 0, 0, 0, 0, 1, 0]);
     /// assert_eq!(Table::from_lines(line, 2), Err(Refusal::NoTable(Place::Whole)));
     /// assert_eq!(Table::from_lines(&line.to_ascii_uppercase(), 4), Err(Refusal::BadLine(Place::Line(1))));
     /// # Ok::<(), Refusal>(())
@@ -56,7 +60,7 @@ impl Table {
 /// let table = tikfazrul::read(b"\x0A\0\0\0")?;
 /// let mut out = [0xAA; tikfazrul::LINE + 1];
 /// assert_eq!(tikfazrul::lines_into(4, &table, &mut out)?, tikfazrul::LINE);
-/// assert!(out.starts_with(b"0000000a00000003") && out.ends_with(b"00000001\n\xAA"));
+/// assert!(out.starts_with(b"0000000a00000003") && out.ends_with(b"0000000100000000\n\xAA"));
 /// # Ok::<(), tikfazrul::Refusal>(())
 /// ```
 pub fn lines_into(doc_len: usize, table: &Table, out: &mut [u8]) -> Result<usize, Refusal> {
@@ -65,16 +69,16 @@ pub fn lines_into(doc_len: usize, table: &Table, out: &mut [u8]) -> Result<usize
     Ok(answer[2] as usize)
 }
 
-/// Reads lines into words that the caller lends, with room for one record for each eight, and says how many records: none where there is
+/// Reads lines into words that the caller lends, with room for one record for each nine, and says how many records: none where there is
 /// no line. Whether the words form a table is not asked. Accepted: no other word changes. Refused with 9, or at the first line that is bad
 /// (29) or has no room (8): every word is 0.
 ///
 /// ```
 /// use tikfazrul::{read_lines_into, Place, Refusal};
-/// let line = b"0000000a00000003000000000000000000000000000000000000000000000001\n";
-/// let mut words = [9; 10];
+/// let line = b"0000000a0000000300000000000000000000000000000000000000000000000100000000\n";
+/// let mut words = [7; 11];
 /// assert_eq!(read_lines_into(line, &mut words)?, 1);
-/// assert_eq!(words, [10, 3, 0, 0, 0, 0, 0, 1, 9, 9]);
+/// assert_eq!(words, [10, 3, 0, 0, 0, 0, 0, 1, 0, 7, 7]);
 /// assert_eq!(read_lines_into(&line.repeat(2), &mut words), Err(Refusal::TableFull(Place::Line(2))));
 /// # Ok::<(), Refusal>(())
 /// ```
@@ -98,6 +102,7 @@ fn flaw(line: &[u8]) -> Option<(usize, String)> {
     let at = line.iter().take(DIGITS).take_while(|byte| matches!(byte, b'0'..=b'9' | b'a'..=b'f')).count();
     let what = match line.get(at) {
         Some(b'\n') if at == DIGITS => return None,
+        Some(b'\n') if at == OLD_DIGITS => format!("{at} digits of {DIGITS}: eight words, as lines had before parents were added"),
         Some(b'\n') => format!("the line ends after {at} of {DIGITS} digits"),
         Some(b'\r') => "a carriage return".to_owned(),
         Some(b' ') => "a blank".to_owned(),

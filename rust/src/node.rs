@@ -3,7 +3,7 @@ use crate::mutf8;
 use crate::path;
 use crate::table::{word, WORDS};
 use std::borrow::Cow;
-use std::fmt;
+use std::{fmt, iter};
 
 /// What a tag holds.
 #[derive(Clone, Copy, Debug, PartialEq, Eq, Hash, PartialOrd, Ord)]
@@ -99,17 +99,19 @@ pub struct Node<'a> {
     doc: &'a [u8],
     words: &'a [u32],
     record: usize,
-    link: Link,
+    /// Its index in a list, where it is known: it stands in no word, and is counted where it is asked for.
+    index: Option<usize>,
 }
 
 impl<'a> Node<'a> {
     /// The words must form a table over the document.
     pub(crate) fn root(doc: &'a [u8], words: &'a [u32]) -> Node<'a> {
-        Node { doc, words, record: 0, link: Link::Root }
+        Node { doc, words, record: 0, index: None }
     }
 
-    fn at(self, record: usize, link: Link) -> Node<'a> {
-        Node { record, link, ..self }
+    /// The tag of another record, which must be one of the table.
+    pub(crate) fn at(self, record: usize) -> Node<'a> {
+        Node { record, index: None, ..self }
     }
 
     fn word(&self, which: usize) -> usize {
@@ -131,18 +133,51 @@ impl<'a> Node<'a> {
         Kind::from_id(self.word(word::KIND) as u8).expect("rule 7: kinds are 1 to 12")
     }
 
-    /// How it hangs on the tag above it.
+    /// How it hangs on the tag above it. An element that was climbed to, or found by a query, counts those before it to know its index;
+    /// one that was walked to knows it.
     pub fn link(&self) -> Link {
-        self.link
+        match self.indexed(None).index {
+            Some(index) => Link::Element(index),
+            None if self.record == 0 => Link::Root,
+            None => Link::Entry,
+        }
+    }
+
+    /// The list that it is an element of.
+    fn list(&self) -> Option<Node<'a>> {
+        self.parent().filter(|parent| parent.kind() == Kind::List)
+    }
+
+    /// The same tag, with its index if it is a list's element. `beside` is a sibling, from which the index is counted if it can be.
+    fn indexed(self, beside: Option<Node<'a>>) -> Node<'a> {
+        match (self.index, self.list()) {
+            (None, Some(list)) => Node { index: Some(self.counted(list, beside)), ..self },
+            _ => self,
+        }
+    }
+
+    /// Its index in its list, found by hopping from sibling to sibling.
+    fn counted(&self, list: Node<'a>, beside: Option<Node<'a>>) -> usize {
+        // where no element has tags of its own, they are numbered one after the other
+        if list.end() == list.record + 1 + list.len() {
+            return self.record - list.record - 1;
+        }
+        let siblings = match beside {
+            Some(Node { record, index: Some(index), .. }) if record <= self.record => Children { parent: list, next: record, index },
+            _ => list.children(),
+        };
+        siblings.index + siblings.take_while(|sibling| sibling.record < self.record).count()
+    }
+
+    /// The bytes that the name words speak of: none in a list's element.
+    fn name_span(&self) -> &'a [u8] {
+        let start = self.word(word::NAME);
+        &self.doc[start..start + self.word(word::NAME_LENGTH)]
     }
 
     /// The name's bytes, in modified UTF-8. `None` for a list's element.
     pub fn name_bytes(&self) -> Option<&'a [u8]> {
-        let start = self.word(word::NAME);
-        match self.link {
-            Link::Element(_) => None,
-            _ => Some(&self.doc[start..start + self.word(word::NAME_LENGTH)]),
-        }
+        self.list().is_none().then(|| self.name_span())
     }
 
     /// The name as text, borrowed where UTF-8 writes it the same. `None` for a list's element, and for a name that is not modified UTF-8,
@@ -269,7 +304,7 @@ impl<'a> Node<'a> {
             return None;
         }
         let wanted = mutf8::encode(name);
-        self.children().find(|child| child.name_bytes() == Some(&*wanted))
+        self.children().find(|child| child.name_span() == &*wanted)
     }
 
     /// Whether a compound has an entry of this name.
@@ -290,45 +325,61 @@ impl<'a> Node<'a> {
         Walk { next: Some(*self), open: Vec::new() }
     }
 
+    /// The tag that it is a child of, as its record says. `None` for the root.
+    ///
+    /// ```
+    /// let doc = b"\x0A\0\0\x0A\0\x05Scene\x01\0\x06Clouds\x07\0\0";
+    /// let table = tikfazrul::read(doc)?;
+    /// let root = table.root(doc)?;
+    /// let clouds = root.get("Scene").unwrap().get("Clouds").unwrap();
+    /// assert_eq!(clouds.parent().unwrap().name().unwrap(), "Scene");
+    /// assert!(root.parent().is_none());
+    /// # Ok::<(), tikfazrul::Refusal>(())
+    /// ```
+    pub fn parent(&self) -> Option<Node<'a>> {
+        let parent = self.word(word::PARENT);
+        // rule 7 with 02, [7]: a parent stands before its children; the root's word is 0, and it has none
+        (parent < self.record).then(|| self.at(parent))
+    }
+
+    /// The tags above it: its parent, the parent's parent, and so on up to the root. None for the root.
+    ///
+    /// ```
+    /// // which scene does a match sit in?
+    /// let doc = tikfazrul::parse(b"{Tiles: [{Footprint: [I; 1, 2]}, {SceneId: S2B, Shape: {Footprint: [I; 3, 4]}}]}")?.document;
+    /// let table = tikfazrul::read(&doc)?;
+    /// let found = table.find(&doc, &"**/Footprint".parse()?)?;
+    /// let scenes: Vec<_> = found.iter().map(|node| node.ancestors().find_map(|above| above.get("SceneId"))).collect();
+    /// assert!(scenes[0].is_none());
+    /// assert_eq!(scenes[1].unwrap().as_str().unwrap(), "S2B");
+    /// # Ok::<(), Box<dyn std::error::Error>>(())
+    /// ```
+    pub fn ancestors(&self) -> impl Iterator<Item = Node<'a>> {
+        iter::successors(self.parent(), Node::parent)
+    }
+
     /// The tags from the root down to this one, both included.
     pub fn lineage(&self) -> Vec<Node<'a>> {
-        let mut line = vec![Node::root(self.doc, self.words)];
-        while let Some(&last) = line.last() {
-            if last.record == self.record {
-                break;
-            }
-            // the children tile their parent, so the first that ends behind this tag holds it
-            match last.children().find(|child| self.record < child.end()) {
-                Some(child) => line.push(child),
-                None => break,
-            }
-        }
+        let mut line: Vec<Node> = iter::once(*self).chain(self.ancestors()).collect();
+        line.reverse();
         line
     }
 
-    /// The tag that it is a child of. `None` for the root.
-    pub fn parent(&self) -> Option<Node<'a>> {
-        self.lineage().into_iter().rev().nth(1)
-    }
-
-    /// Where it is, as a path that [`Query`](crate::Query) reads: `root/Tiles[3]/SceneId`. A name that is not modified UTF-8, which no read
-    /// table has, is shown as far as it can be.
+    /// Where it is, as a path that [`Query`](crate::Query) reads: `root/Tiles[3]/SceneId`. It is found by climbing to the root; on the way
+    /// an index is counted as [`Node::link`] does. A name that is not modified UTF-8, which no read table has, is shown as far as it can be.
     pub fn path(&self) -> String {
-        let mut text = String::new();
-        for node in self.lineage() {
-            node.push_step(&mut text);
-        }
-        text
+        let mut trail = Trail::new();
+        trail.step(self);
+        trail.path
     }
 
     /// Adds the step from the tag above to this one.
     fn push_step(&self, path: &mut String) {
-        match self.link {
+        match self.link() {
             Link::Root => path.push_str("root"),
             Link::Element(index) => path.push_str(&format!("[{index}]")),
             Link::Entry => {
-                let bytes = self.name_bytes().unwrap_or_default();
-                let name = mutf8::decode(bytes).unwrap_or_else(|_| String::from_utf8_lossy(bytes));
+                let name = mutf8::decode(self.name_span()).unwrap_or_else(|_| String::from_utf8_lossy(self.name_span()));
                 path.push('/');
                 path.push_str(&path::quoted(&name));
             }
@@ -357,8 +408,8 @@ impl<'a> Iterator for Children<'a> {
         if self.next >= self.parent.end() {
             return None;
         }
-        let link = if self.parent.kind() == Kind::List { Link::Element(self.index) } else { Link::Entry };
-        let child = self.parent.at(self.next, link);
+        let index = (self.parent.kind() == Kind::List).then_some(self.index);
+        let child = Node { record: self.next, index, ..self.parent };
         self.next = child.end();
         self.index += 1;
         Some(child)
@@ -390,37 +441,52 @@ impl<'a> Iterator for Walk<'a> {
     }
 }
 
-/// The path of each tag of a walk, kept from one to the next: cheaper than [`Node::path`] for many tags.
+/// The paths of many tags of a table, kept from one to the next: cheaper than [`Node::path`] where the tags come in file order, as from a
+/// walk or a query. It climbs no higher than to what is kept, and counts no element of a list twice.
 ///
 /// ```
 /// use tikfazrul::Trail;
 /// let doc = b"\x0A\0\x01a\x01\0\x01b\xFF\0";
 /// let table = tikfazrul::read(doc)?;
 /// let mut trail = Trail::new();
-/// for (depth, node) in table.root(doc)?.walk() {
-///     assert_eq!(trail.step(depth, &node), node.path());
+/// for node in table.find(doc, &"**".parse()?)? {
+///     assert_eq!(trail.step(&node), node.path());
 /// }
-/// # Ok::<(), tikfazrul::Refusal>(())
+/// # Ok::<(), Box<dyn std::error::Error>>(())
 /// ```
 #[derive(Clone, Debug, Default)]
-pub struct Trail {
+pub struct Trail<'a> {
     path: String,
-    /// How long the path is at each level above.
-    ends: Vec<usize>,
+    /// The last tag and those above it, from the root down, with how long the path is at each.
+    kept: Vec<(Node<'a>, usize)>,
 }
 
-impl Trail {
-    /// The trail of a walk from the root.
-    pub fn new() -> Trail {
+impl<'a> Trail<'a> {
+    /// The trail of no tag yet.
+    pub fn new() -> Trail<'a> {
         Trail::default()
     }
 
-    /// The path of the walk's next tag.
-    pub fn step(&mut self, depth: usize, node: &Node) -> &str {
-        self.ends.truncate(depth);
-        self.path.truncate(self.ends.last().copied().unwrap_or(0));
-        node.push_step(&mut self.path);
-        self.ends.push(self.path.len());
+    /// The path of the next tag.
+    pub fn step(&mut self, node: &Node<'a>) -> &str {
+        let mut climbed = Vec::new();
+        // what was left last: a sibling of the tag that the climb ends below
+        let mut beside = None;
+        for tag in iter::once(*node).chain(node.ancestors()) {
+            while let Some((left, _)) = self.kept.pop_if(|(kept, _)| tag.record < kept.record) {
+                beside = Some(left);
+            }
+            if self.kept.last().is_some_and(|(kept, _)| kept.record == tag.record) {
+                break;
+            }
+            climbed.push(tag);
+        }
+        self.path.truncate(self.kept.last().map_or(0, |&(_, length)| length));
+        for tag in climbed.into_iter().rev() {
+            let tag = tag.indexed(beside.take());
+            tag.push_step(&mut self.path);
+            self.kept.push((tag, self.path.len()));
+        }
         &self.path
     }
 }

@@ -130,7 +130,7 @@ refusals! {
     21 TrailingComma "nothing follows a comma", "";
     22 UnmatchedBrace "a brace or bracket is opened and not closed", "";
     23 UnheldDecimal "a decimal has more digits, or a larger exponent, than is read exactly", "";
-    29 BadLine "a line is not 64 digits (0 to 9, a to f) and a line feed", "";
+    29 BadLine "a line is not 72 digits (0 to 9, a to f) and a line feed", "";
     31 NotCut "the document is whole: there is nothing to rescue", "";
     32 RootCut "the data ends in the root's id or name, and nothing can be rescued", "where the field that is not whole begins";
 }
@@ -204,7 +204,8 @@ mod tests {
         let record = Refusal::RepeatedName(Place::Record(2));
         assert_eq!(record.to_string(), "a name stands twice in one compound, at record 2 (refusal 6)");
         let line = Refusal::BadLine(Place::Line(3));
-        assert_eq!(line.to_string(), "a line is not 64 digits (0 to 9, a to f) and a line feed, at line 3 (refusal 29)");
+        assert_eq!(line.to_string(), "a line is not 72 digits (0 to 9, a to f) and a line feed, at line 3 (refusal 29)");
+        assert!(line.what().contains(&format!(" {} digits ", lines::DIGITS)));
         let full = Refusal::TableFull(Place::Line(3));
         assert_eq!(full.to_string(), "the table has no room for another record, at line 3 (refusal 8)");
         assert_eq!(Refusal::NoTable(Place::Whole).to_string(), "the words form no table over this document (refusal 10)");

@@ -107,18 +107,17 @@ fn growing(doc: &[u8], out: &mut [u8], changes: &mut [u32]) -> Result<Saved, Ref
 
 /// The lines of the list, and the path of the last. Each container is a child of the one before it.
 fn lines(doc: &[u8], table: &Table, changes: &[u32]) -> Result<(Vec<Line>, String), Refusal> {
-    let mut open = table.root(doc)?;
+    let root = table.root(doc)?;
     let mut trail = Trail::new();
     let mut lines = Vec::with_capacity(changes.len() / CHANGE);
-    for (depth, line) in changes.chunks_exact(CHANGE).enumerate() {
+    let mut path = "";
+    for line in changes.chunks_exact(CHANGE) {
         let [record, promised, kept] = [line[0], line[1], line[2]].map(|word| word as usize);
-        if depth > 0 {
-            open = open.children().find(|child| record < child.end()).unwrap_or(open);
-        }
-        lines.push(Line { record, kind: open.kind(), promised, kept, path: trail.step(depth, &open).len() });
+        let open = root.at(record);
+        path = trail.step(&open);
+        lines.push(Line { record, kind: open.kind(), promised, kept, path: path.len() });
     }
-    let path = lines.len().checked_sub(1).map_or(String::new(), |last| trail.step(last, &open).to_owned());
-    Ok((lines, path))
+    Ok((lines, path.to_owned()))
 }
 
 /// Rescues into memory that the caller lends: words for a table of the read, bytes for the document, and [`CHANGE`] words for each container
@@ -126,10 +125,10 @@ fn lines(doc: &[u8], table: &Table, changes: &[u32]) -> Result<(Vec<Line>, Strin
 /// were, and 24 says how many lines there are. The words are 0 but after 31, where they hold the document's records.
 ///
 /// ```
-/// let (mut words, mut out, mut changes) = ([9; 16], [0xAA; 5], [0xAA; 4]);
+/// let (mut words, mut out, mut changes) = ([9; 18], [0xAA; 5], [0xAA; 4]);
 /// let saved = tikfazrul::rescue_into(b"\x0A\0\0\x01\0", &mut words, &mut out, &mut changes)?;
 /// assert_eq!((saved.bytes, saved.changes), (4, 1));
-/// assert_eq!((out, changes, words), ([0x0A, 0, 0, 0, 0xAA], [0, 0, 0, 0xAA], [0; 16]));
+/// assert_eq!((out, changes, words), ([0x0A, 0, 0, 0, 0xAA], [0, 0, 0, 0xAA], [0; 18]));
 /// # Ok::<(), tikfazrul::Refusal>(())
 /// ```
 pub fn rescue_into(doc: &[u8], words: &mut [u32], out: &mut [u8], changes: &mut [u32]) -> Result<Saved, Refusal> {

@@ -5,7 +5,7 @@ use crate::path::Query;
 use crate::refusal::{Place, Refusal};
 
 /// The words of a record.
-pub const WORDS: usize = 8;
+pub const WORDS: usize = 9;
 /// The most records that a table has.
 pub const MAX_RECORDS: usize = 1_048_576;
 /// The most bytes that a document has.
@@ -21,9 +21,11 @@ pub(crate) mod word {
     pub const COUNT: usize = 5;
     pub const LIST_KIND: usize = 6;
     pub const END: usize = 7;
+    // 02, [7]: the number of the record that it is a child of; 0 in the root too
+    pub const PARENT: usize = 8;
 }
 
-/// A table that owns its words, eight for each record, in file order.
+/// A table that owns its words, nine for each record, in file order.
 ///
 /// It holds spans of the document that it was read from, not the bytes: whoever walks or writes it hands the document in again.
 #[derive(Clone, Debug, Default, PartialEq, Eq)]
@@ -86,7 +88,7 @@ impl Table {
         }
     }
 
-    /// The words, eight for each record.
+    /// The words, nine for each record.
     pub fn words(&self) -> &[u32] {
         &self.words
     }
@@ -112,7 +114,7 @@ impl Table {
     }
 
     /// Whether the words form a table over a document of so many bytes, by rule 7. What a read fills in always does. Refused with 9 where
-    /// there are more than eight words for each of [`MAX_RECORDS`], or the document is over [`MAX_DOCUMENT`].
+    /// there are more than nine words for each of [`MAX_RECORDS`], or the document is over [`MAX_DOCUMENT`].
     pub fn is_table(&self, doc_len: usize) -> Result<bool, Refusal> {
         let answer = ffi::is_table(doc_len, &self.words);
         Refusal::check(&answer, Place::Byte)?;
@@ -136,7 +138,8 @@ impl Table {
         Ok(Node::root(doc, &self.words))
     }
 
-    /// The tags that match a query, in file order.
+    /// The tags that match a query, in file order. Each says where it is: [`Node::parent`], [`Node::path`], and for many a
+    /// [`Trail`](crate::Trail).
     ///
     /// ```
     /// use tikfazrul::Query;
@@ -148,17 +151,8 @@ impl Table {
     /// ```
     pub fn find<'a>(&'a self, doc: &'a [u8], query: &Query) -> Result<Vec<Node<'a>>, Refusal> {
         let records = self::query(doc, self, query.as_bytes())?;
-        let mut wanted = records.iter().peekable();
-        let mut found = Vec::with_capacity(records.len());
-        for (_, node) in self.root(doc)?.walk() {
-            if wanted.next_if(|&&record| record as usize == node.record()).is_some() {
-                found.push(node);
-            }
-            if wanted.peek().is_none() {
-                break;
-            }
-        }
-        Ok(found)
+        let root = self.root(doc)?;
+        Ok(records.into_iter().map(|record| root.at(record as usize)).collect())
     }
 }
 
@@ -186,14 +180,14 @@ pub fn read(doc: &[u8]) -> Result<Table, Refusal> {
     Ok(table)
 }
 
-/// Reads a document into words that the caller lends, with room for one record for each eight. Accepted: no other word changes. Refused:
+/// Reads a document into words that the caller lends, with room for one record for each nine. Accepted: no other word changes. Refused:
 /// every word is 0.
 ///
 /// ```
-/// let mut words = [9; 24];
+/// let mut words = [7; 24];
 /// let read = tikfazrul::read_into(b"\x0A\0\0\0", &mut words)?;
 /// assert_eq!((read.consumed, read.records), (4, 1));
-/// assert_eq!(words[..9], [10, 3, 0, 0, 0, 0, 0, 1, 9]);
+/// assert_eq!(words[..10], [10, 3, 0, 0, 0, 0, 0, 1, 0, 7]);
 /// # Ok::<(), tikfazrul::Refusal>(())
 /// ```
 pub fn read_into(doc: &[u8], words: &mut [u32]) -> Result<Read, Refusal> {

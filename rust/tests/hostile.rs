@@ -1,7 +1,7 @@
 //! What comes from hostile hands is refused, and nothing crashes: empty slices, tables of odd lengths, words that form no table, wrong
 //! queries.
 use std::time::Instant;
-use tikfazrul::{mutf8, query, query_into, read, read_into, write, write_into, Place, Query, Refusal, Table};
+use tikfazrul::{lines_into, mutf8, query, query_into, read, read_into, read_lines_into, write, write_into, Place, Query, Refusal, Table};
 
 const TILE: &[u8] = b"\x0A\0\x01a\x01\0\x01b\xFF\0";
 
@@ -27,7 +27,7 @@ fn empty_slices() {
 #[test]
 fn tables_of_odd_lengths() {
     let whole = read(TILE).unwrap().into_words();
-    for length in (0..whole.len()).chain([whole.len() + 1, 24, 31]) {
+    for length in (0..whole.len()).chain([whole.len() + 1, 24, 27, 35]) {
         let mut words = whole.clone();
         words.resize(length, 0);
         let mut table = Table::from_words(words.clone());
@@ -37,9 +37,9 @@ fn tables_of_odd_lengths() {
         assert_eq!(query(TILE, &table, &[4]), Err(Refusal::NoTable(Place::Whole)));
         assert_eq!(table.words(), words);
     }
-    for room in 0..16 {
+    for room in 0..18 {
         let full = read_into(TILE, &mut vec![5; room]).unwrap_err();
-        assert_eq!(full, Refusal::TableFull(Place::Byte(if room < 8 { 4 } else { 8 })));
+        assert_eq!(full, Refusal::TableFull(Place::Byte(if room < 9 { 4 } else { 8 })));
     }
 }
 
@@ -78,6 +78,52 @@ fn every_word_changed() {
         }
     }
     assert!(walked > 0, "some changes still form a table");
+}
+
+/// Every call that takes a table refuses one whose parents are wrong, and leaves what it was lent (02, [7]).
+#[test]
+fn wrong_parents_are_refused() {
+    // a compound of a compound of a byte, and a byte beside that: records 1 to 4 below the root
+    let doc = b"\x0A\0\0\x0A\0\x01a\x0A\0\x01b\x01\0\x01c\x07\0\x01\0\x01d\x08\0\0";
+    let whole = read(doc).unwrap();
+    let parents = [0, 0, 1, 2, 1];
+    assert_eq!(whole.words().chunks(9).map(|record| record[8]).collect::<Vec<_>>(), parents);
+    let none = Refusal::NoTable(Place::Whole);
+    for (record, parent) in parents.into_iter().enumerate() {
+        // its child, itself, the record before it, its grandparent, one beyond the table, and every other
+        for wrong in (0..=7).chain([0x8000_0000, u32::MAX]).filter(|&wrong| wrong != parent) {
+            let mut words = whole.words().to_vec();
+            words[9 * record + 8] = wrong;
+            let mut table = Table::from_words(words.clone());
+            assert_eq!(table.is_table(doc.len()), Ok(false), "{wrong} for {record}");
+            assert_eq!(table.root(doc).err(), Some(none));
+            assert_eq!(table.find(doc, &Query::new()).err(), Some(none));
+            let (mut out, mut list, mut lines) = ([0xAA; 64], [0xAA; 5], [0xAA; 5 * tikfazrul::LINE]);
+            assert_eq!(write_into(doc, &mut table, &mut out), Err(none));
+            assert_eq!(query_into(doc, &table, &[4], &mut list), Err(none));
+            assert_eq!(lines_into(doc.len(), &table, &mut lines), Err(none));
+            assert!(out.iter().chain(&lines).all(|&byte| byte == 0xAA) && list == [0xAA; 5] && table.words() == words);
+            // lines hold any words, and are judged where a table is made of them
+            let kept: String =
+                words.chunks(9).map(|record| record.iter().map(|word| format!("{word:08x}")).collect::<String>() + "\n").collect();
+            let mut taken = [0; 45];
+            assert_eq!((read_lines_into(kept.as_bytes(), &mut taken), &taken[..]), (Ok(5), &words[..]));
+            assert_eq!(Table::from_lines(kept.as_bytes(), doc.len()), Err(none));
+        }
+    }
+}
+
+/// A list of a byte, a list of a byte, and a byte: no document has it, but it is a table.
+#[test]
+fn a_mixed_list_is_counted_right() {
+    let root = [10, 0, 0, 0, 0, 1, 0, 6, 0];
+    let list = [9, 0, 0, 0, 0, 3, 1, 6, 0];
+    let inner = [9, 0, 0, 0, 0, 1, 1, 5, 1];
+    let byte = |end, parent| [1, 0, 0, 0, 1, 0, 0, end, parent];
+    let mut table = Table::from_words([root, list, byte(3, 1), inner, byte(5, 3), byte(6, 1)].concat());
+    let paths: Vec<String> = table.find(&[7], &"**".parse().unwrap()).unwrap().iter().map(|node| node.path()).collect();
+    assert_eq!(paths, ["root", "root/\"\"", "root/\"\"[0]", "root/\"\"[1]", "root/\"\"[1][0]", "root/\"\"[2]"]);
+    assert_eq!(write(&[7], &mut table), Err(Refusal::NonHomogenousList(Place::Record(3))));
 }
 
 #[test]
@@ -125,9 +171,9 @@ fn a_query_of_more_matches_than_first_lent() {
 #[test]
 fn tables_that_would_write_more_than_a_document() {
     // a thousand records that share one array of 65,536 bytes
-    let mut words = vec![10, 0, 0, 0, 0, 1, 0, 1002, 9, 0, 0, 0, 0, 1000, 7, 1002];
-    for record in 3..=1002 {
-        words.extend([7, 0, 0, 0, 65_536, 65_536, 0, record]);
+    let mut words = vec![10, 0, 0, 0, 0, 1, 0, 1002, 0, 9, 0, 0, 0, 0, 1000, 7, 1002, 0];
+    for end in 3..=1002 {
+        words.extend([7, 0, 0, 0, 65_536, 65_536, 0, end, 1]);
     }
     let doc = vec![0; 65_536];
     let mut table = Table::from_words(words);
@@ -141,16 +187,17 @@ fn tables_that_would_write_more_than_a_document() {
 fn deep_tables_from_elsewhere() {
     // lists in lists, far deeper than a document may be
     let count = 100_000;
-    let mut words = vec![10, 0, 0, 0, 0, 1, 0, count];
+    let mut words = vec![10, 0, 0, 0, 0, 1, 0, count, 0];
     for record in 1..count {
         let last = record + 1 == count;
-        words.extend([9, 0, 0, 0, 0, u32::from(!last), if last { 0 } else { 9 }, count]);
+        words.extend([9, 0, 0, 0, 0, u32::from(!last), if last { 0 } else { 9 }, count, record - 1]);
     }
     let mut table = Table::from_words(words);
     assert_eq!(table.is_table(0), Ok(true));
     let root = table.root(&[]).unwrap();
     let (depth, last) = root.walk().last().unwrap();
     assert_eq!((depth, last.record(), last.lineage().len()), (99_999, 99_999, 100_000));
+    assert_eq!(last.path(), format!("root/\"\"{}", "[0]".repeat(99_998)));
     assert_eq!(query(&[], &table, &[4]), Err(Refusal::TooDeep(Place::Record(512))));
     assert_eq!(write(&[], &mut table), Err(Refusal::TooDeep(Place::Record(512))));
 }
@@ -159,7 +206,7 @@ fn deep_tables_from_elsewhere() {
 fn limits() {
     let long = vec![0; tikfazrul::MAX_DOCUMENT + 1];
     assert_eq!(read(&long), Err(Refusal::OverLimit(Place::Whole)));
-    let mut wide = Table::from_words(vec![0; 8 * tikfazrul::MAX_RECORDS + 1]);
+    let mut wide = Table::from_words(vec![0; 9 * tikfazrul::MAX_RECORDS + 1]);
     assert_eq!(wide.is_table(0), Err(Refusal::OverLimit(Place::Whole)));
     assert_eq!(wide.root(&[]).err(), Some(Refusal::OverLimit(Place::Whole)));
     assert_eq!(write(&[], &mut wide), Err(Refusal::OverLimit(Place::Whole)));

@@ -4,8 +4,8 @@ use std::path::PathBuf;
 use tikfazrul::{lines_into, parse, read, read_lines_into, Place, Refusal, Table, LINE, MAX_DOCUMENT, MAX_RECORDS, WORDS};
 
 const TILE: &[u8] = b"\x0A\0\x01a\x01\0\x01b\xFF\0";
-const FIRST: &str = "0000000a00000003000000010000000000000000000000010000000000000002\n";
-const SECOND: &str = "0000000100000007000000010000000800000001000000000000000000000002\n";
+const FIRST: &str = "0000000a0000000300000001000000000000000000000001000000000000000200000000\n";
+const SECOND: &str = "000000010000000700000001000000080000000100000000000000000000000200000000\n";
 
 fn bad(line: usize) -> Refusal {
     Refusal::BadLine(Place::Line(line))
@@ -66,27 +66,35 @@ fn the_samples_there_and_back() {
 
 #[test]
 fn every_word_goes_there_and_back() {
-    let words: Vec<u32> = (0..32).flat_map(|bit| [1 << bit, !(1 << bit), u32::MAX >> bit, 0x0123_4567 << bit]).collect();
+    let bits = (0..32).flat_map(|bit| [1 << bit, !(1 << bit), u32::MAX >> bit, 0x0123_4567 << bit]);
+    // and seven more words, so that the last record is whole
+    let words: Vec<u32> = bits.chain([0x89AB_CDEF; 7]).collect();
     let lines = spelt(&words);
-    assert_eq!(lent(&lines, words.len()), (Ok(16), words));
+    assert_eq!(lent(&lines, words.len()), (Ok(15), words));
 }
 
 #[test]
 fn a_bad_line_is_pointed_at() {
-    let digits = &SECOND[..64];
+    let digits = &SECOND[..72];
     for (second, at, what) in [
         (format!("{}\n", digits.replace('8', "F")), 31, "a capital"),
         (format!("{}\n", digits.replacen('1', " ", 1)), 7, "a blank"),
-        (format!("{digits} \n"), 64, "a blank"),
+        (format!("{digits} \n"), 72, "a blank"),
         (format!(" {digits}\n"), 0, "a blank"),
-        (format!("{digits}\r\n"), 64, "a carriage return"),
-        (format!("{}\n", &digits[1..]), 63, "the line ends after 63 of 64 digits"),
-        (format!("{digits}0\n"), 64, "the line goes on after 64 digits"),
-        (format!("{digits}00000000\n"), 64, "the line goes on after 64 digits"),
-        (format!("{}\n", &digits[8..]), 56, "the line ends after 56 of 64 digits"),
-        ("\n".to_owned(), 0, "the line ends after 0 of 64 digits"),
-        (digits.to_owned(), 64, "no line feed"),
-        (digits[..9].to_owned(), 9, "the lines end after 9 of 64 digits"),
+        (format!("{digits}\r\n"), 72, "a carriage return"),
+        (format!("{}\n", &digits[1..]), 71, "the line ends after 71 of 72 digits"),
+        (format!("{digits}0\n"), 72, "the line goes on after 72 digits"),
+        (format!("{digits}00000000\n"), 72, "the line goes on after 72 digits"),
+        // a line of eight words is named as what it was, wherever its words are from
+        (format!("{}\n", &digits[..64]), 64, "64 digits of 72: eight words, as lines had before parents were added"),
+        (format!("{}\n", &digits[8..]), 64, "64 digits of 72: eight words, as lines had before parents were added"),
+        (format!("{}\n", &digits[9..]), 63, "the line ends after 63 of 72 digits"),
+        (format!("{}\n", &digits[16..]), 56, "the line ends after 56 of 72 digits"),
+        (format!("{}\r\n", &digits[8..]), 64, "a carriage return"),
+        (digits[8..].to_owned(), 64, "the lines end after 64 of 72 digits"),
+        ("\n".to_owned(), 0, "the line ends after 0 of 72 digits"),
+        (digits.to_owned(), 72, "no line feed"),
+        (digits[..9].to_owned(), 9, "the lines end after 9 of 72 digits"),
         (format!("{}\n", digits.replacen('1', "g", 1)), 7, "no digit (byte 67)"),
         (format!("{}\n", digits.replacen("01", "é", 1)), 6, "no digit (byte C3)"),
     ] {
@@ -109,13 +117,13 @@ fn every_byte_changed() {
             let mut changed = lines.clone();
             changed[at] = value;
             let good = match at % LINE {
-                64 => value == b'\n',
+                72 => value == b'\n',
                 _ => matches!(value, b'0'..=b'9' | b'a'..=b'f'),
             };
             let line = at / LINE + 1;
-            let (answer, words) = lent(&changed, 17);
+            let (answer, words) = lent(&changed, 19);
             assert_eq!(answer, if good { Ok(2) } else { Err(bad(line)) }, "{at} {value}");
-            assert_eq!((good, words[16]), (words != [0; 17], if good { 0xAAAA } else { 0 }));
+            assert_eq!((good, words[18]), (words != [0; 19], if good { 0xAAAA } else { 0 }));
             assert_eq!(bad(line).window(&changed).is_none(), good, "{at} {value}");
         }
     }
@@ -126,7 +134,7 @@ fn lines_cut_anywhere() {
     let lines = [FIRST, SECOND].concat().into_bytes();
     for cut in 0..lines.len() {
         let wanted = if cut % LINE == 0 { Ok(cut / LINE) } else { Err(bad(cut / LINE + 1)) };
-        assert_eq!(lent(&lines[..cut], 16).0, wanted, "{cut}");
+        assert_eq!(lent(&lines[..cut], 18).0, wanted, "{cut}");
     }
 }
 
@@ -134,18 +142,19 @@ fn lines_cut_anywhere() {
 fn the_first_line_at_fault_is_named() {
     let capital = FIRST.replace('a', "A");
     for (lines, words, refusal) in [
-        ([FIRST, SECOND].concat(), 15, full(2)),
-        ([FIRST, SECOND].concat(), 7, full(1)),
+        ([FIRST, SECOND].concat(), 17, full(2)),
+        ([FIRST, SECOND].concat(), 16, full(2)),
+        ([FIRST, SECOND].concat(), 8, full(1)),
         ([FIRST, SECOND].concat(), 0, full(1)),
         // in one line a bad one comes before no room
-        ([FIRST, &capital].concat(), 8, bad(2)),
-        ([FIRST, &SECOND[..64]].concat(), 8, bad(2)),
+        ([FIRST, &capital].concat(), 9, bad(2)),
+        ([FIRST, &SECOND[..72]].concat(), 9, bad(2)),
         ([&capital, SECOND].concat(), 0, bad(1)),
         // an earlier line without room comes before a later one that is bad
-        ([FIRST, SECOND, &capital].concat(), 8, full(2)),
+        ([FIRST, SECOND, &capital].concat(), 9, full(2)),
         ([FIRST, SECOND, "\n"].concat(), 0, full(1)),
-        ([FIRST, &capital, SECOND].concat(), 8, bad(2)),
-        ([FIRST, SECOND, &capital].concat(), 16, bad(3)),
+        ([FIRST, &capital, SECOND].concat(), 9, bad(2)),
+        ([FIRST, SECOND, &capital].concat(), 18, bad(3)),
     ] {
         assert_eq!(lent(lines.as_bytes(), words), (Err(refusal), vec![0; words]), "{lines:?}");
     }
@@ -157,8 +166,8 @@ fn the_first_line_at_fault_is_named() {
 fn what_is_accepted_changes_only_the_words_read() {
     assert_eq!(lent(b"", 0), (Ok(0), vec![]));
     assert_eq!(lent(b"", 9), (Ok(0), vec![0xAAAA; 9]));
-    let words = [&[10, 3, 1, 0, 0, 1, 0, 2][..], &[0xAAAA; 15]].concat();
-    assert_eq!(lent(FIRST.as_bytes(), 23), (Ok(1), words));
+    let words = [&[10, 3, 1, 0, 0, 1, 0, 2, 0][..], &[0xAAAA; 17]].concat();
+    assert_eq!(lent(FIRST.as_bytes(), 26), (Ok(1), words));
 }
 
 #[test]
@@ -171,8 +180,8 @@ fn lines_are_judged_before_they_are_walked() {
         assert_eq!(Table::from_lines(lines.as_bytes(), TILE.len()), none, "{lines:?}");
     }
     // what is wrong with the lines comes first
-    assert_eq!(Table::from_lines(&both.as_bytes()[..129], 0), Err(bad(2)));
-    assert_eq!(Table::from_lines(&both.as_bytes()[..129], MAX_DOCUMENT + 1), Err(bad(2)));
+    assert_eq!(Table::from_lines(&both.as_bytes()[..145], 0), Err(bad(2)));
+    assert_eq!(Table::from_lines(&both.as_bytes()[..145], MAX_DOCUMENT + 1), Err(bad(2)));
     assert_eq!(Table::from_lines(both.as_bytes(), MAX_DOCUMENT + 1), Err(Refusal::OverLimit(Place::Whole)));
     assert!(Table::from_lines(both.as_bytes(), MAX_DOCUMENT).is_ok());
     // over a document of another length they are judged again
@@ -190,19 +199,19 @@ fn writing_into_lent_bytes() {
         let answer = lines_into(doc_len, table, &mut out);
         (answer, out)
     };
-    assert_eq!(write(&table, TILE.len(), 130), (Ok(130), lines.clone()));
-    assert_eq!(write(&table, TILE.len(), 133), (Ok(130), [&lines[..], &[0xAA; 3]].concat()));
-    let wide = Table::from_words(vec![0; 8 * MAX_RECORDS + 1]);
-    let odd = Table::from_words(table.words()[..15].to_vec());
+    assert_eq!(write(&table, TILE.len(), 146), (Ok(146), lines.clone()));
+    assert_eq!(write(&table, TILE.len(), 149), (Ok(146), [&lines[..], &[0xAA; 3]].concat()));
+    let wide = Table::from_words(vec![0; 9 * MAX_RECORDS + 1]);
+    let odd = Table::from_words(table.words()[..17].to_vec());
     let (over, none) = (Refusal::OverLimit(Place::Whole), Refusal::NoTable(Place::Whole));
     for (table, doc_len, room, refusal) in [
         (&wide, 0, 0, over),
         (&table, MAX_DOCUMENT + 1, 0, over),
         (&odd, MAX_DOCUMENT + 1, 0, over),
-        (&odd, TILE.len(), 130, none),
+        (&odd, TILE.len(), 146, none),
         (&table, 8, 0, none),
         (&Table::new(), 0, 0, none),
-        (&table, TILE.len(), 129, Refusal::OutputFull(Place::Whole)),
+        (&table, TILE.len(), 145, Refusal::OutputFull(Place::Whole)),
         (&table, TILE.len(), 0, Refusal::OutputFull(Place::Whole)),
     ] {
         assert_eq!(write(table, doc_len, room), (Err(refusal), vec![0xAA; room]));
@@ -215,8 +224,8 @@ fn writing_into_lent_bytes() {
 /// A table of the most records, in a list of bytes, and the length of its document.
 fn largest() -> (Vec<u32>, usize) {
     let count = MAX_RECORDS as u32;
-    let elements = (2..count).flat_map(|record| [1, 0, 0, record, 1, 0, 0, record + 1]);
-    let words = [10, 0, 0, 0, 0, 1, 0, count, 9, 0, 0, 0, 0, count - 2, 1, count].into_iter().chain(elements).collect();
+    let elements = (2..count).flat_map(|record| [1, 0, 0, record, 1, 0, 0, record + 1, 1]);
+    let words = [10, 0, 0, 0, 0, 1, 0, count, 0, 9, 0, 0, 0, 0, count - 2, 1, count, 0].into_iter().chain(elements).collect();
     (words, MAX_RECORDS)
 }
 
@@ -244,7 +253,7 @@ fn limits() {
     lines.truncate(LINE * MAX_RECORDS);
     assert_eq!(Table::from_lines(&lines, doc_len), Err(bad(1)));
     lines[0] = b'0';
-    assert_eq!(lent(&lines, 8 * MAX_RECORDS - 1).0, Err(full(MAX_RECORDS)));
+    assert_eq!(lent(&lines, 9 * MAX_RECORDS - 1).0, Err(full(MAX_RECORDS)));
     lines.pop();
     assert_eq!(Table::from_lines(&lines, doc_len), Err(bad(MAX_RECORDS)));
     assert_eq!(Table::from_lines(&vec![b'\n'; MAX_RECORDS], doc_len), Err(bad(1)));
@@ -257,6 +266,6 @@ fn one_line_without_end() {
     let refusal = Table::from_lines(&long, 0).unwrap_err();
     assert_eq!(refusal, bad(1));
     let window = refusal.window(&long).unwrap();
-    assert!(window.ends_with(&format!("0…\n{}^ the line goes on after 64 digits", " ".repeat(64))), "{window}");
+    assert!(window.ends_with(&format!("0…\n{}^ the line goes on after 72 digits", " ".repeat(72))), "{window}");
     assert!(window.chars().count() < 200);
 }

@@ -22,16 +22,16 @@ fn lent_memory() {
         (answer, memory)
     };
     // the record of the string that is cut wants room in the read, though it vanishes
-    let (answer, (words, bytes, changes)) = lend(56, SAVED.len() + 2, 11);
+    let (answer, (words, bytes, changes)) = lend(63, SAVED.len() + 2, 11);
     assert_eq!(answer, Ok(Saved { bytes: SAVED.len(), changes: 3 }));
-    assert_eq!((words, bytes), (vec![0; 56], [SAVED, &[0xAA; 2]].concat()));
+    assert_eq!((words, bytes), (vec![0; 63], [SAVED, &[0xAA; 2]].concat()));
     assert_eq!(changes, [0, 0, 1, 1, 3, 2, 4, 0, 1, 0xAAAA, 0xAAAA]);
     for (words, bytes, changes, refusal) in [
-        (55, SAVED.len(), 9, Refusal::TableFull(Place::Byte(28))),
-        (56, SAVED.len(), 8, Refusal::MoreChanges(3)),
-        (56, SAVED.len() - 1, 8, Refusal::MoreChanges(3)),
-        (56, SAVED.len() - 1, 9, Refusal::OutputFull(Place::Whole)),
-        (56, 0, 0, Refusal::MoreChanges(3)),
+        (62, SAVED.len(), 9, Refusal::TableFull(Place::Byte(28))),
+        (63, SAVED.len(), 8, Refusal::MoreChanges(3)),
+        (63, SAVED.len() - 1, 8, Refusal::MoreChanges(3)),
+        (63, SAVED.len() - 1, 9, Refusal::OutputFull(Place::Whole)),
+        (63, 0, 0, Refusal::MoreChanges(3)),
         (0, 0, 0, Refusal::TableFull(Place::Byte(4))),
     ] {
         let (answer, memory) = lend(words, bytes, changes);
@@ -44,9 +44,9 @@ fn lent_memory() {
 fn a_whole_document_and_a_cut_root() {
     assert_eq!(rescue(SAVED), Err(Refusal::NotCut(Place::Whole)));
     assert_eq!(rescue(&[SAVED, b"more"].concat()), Err(Refusal::NotCut(Place::Whole)));
-    let mut words = [9; 10];
+    let mut words = [7; 11];
     assert_eq!(rescue_into(b"\x0A\0\0\0", &mut words, &mut [], &mut []), Err(Refusal::NotCut(Place::Whole)));
-    assert_eq!(words, [10, 3, 0, 0, 0, 0, 0, 1, 9, 9]);
+    assert_eq!(words, [10, 3, 0, 0, 0, 0, 0, 1, 0, 7, 7]);
     for (doc, place) in [(&b""[..], 0), (b"\x0A", 1), (b"\x0A\0", 1), (b"\x0A\0\x01", 3), (b"\x0A\0\x02a", 3)] {
         assert_eq!(rescue(doc), Err(Refusal::RootCut(Place::Byte(place))));
     }
@@ -77,7 +77,7 @@ fn the_deepest_on_a_stack_of_256_kib() {
             assert_eq!(rescued.changes().len(), MAX_DEPTH);
             assert!(rescued.document.len() <= doc.len() + MAX_DEPTH);
             assert!(rescued.changes().zip(rescued.changes().skip(1)).all(|(outer, inner)| inner.path.starts_with(outer.path)));
-            let short = rescue_into(&doc, &mut [0; 8 * 514], &mut vec![0; doc.len() + MAX_DEPTH], &mut [0; CHANGE * MAX_DEPTH - 1]);
+            let short = rescue_into(&doc, &mut [0; 9 * 514], &mut vec![0; doc.len() + MAX_DEPTH], &mut [0; CHANGE * MAX_DEPTH - 1]);
             assert_eq!(short, Err(Refusal::MoreChanges(MAX_DEPTH)));
         });
         thread.unwrap().join().unwrap();
@@ -95,7 +95,7 @@ fn limits() {
     doc.resize(MAX_DOCUMENT, 5);
     assert_eq!(rescue(&doc), Err(Refusal::OutputFull(Place::Whole)));
     let mut out = vec![0; MAX_DOCUMENT + 1];
-    let saved = rescue_into(&doc, &mut [0; 16], &mut out, &mut [0; 3]);
+    let saved = rescue_into(&doc, &mut [0; 18], &mut out, &mut [0; 3]);
     assert_eq!(saved, Ok(Saved { bytes: MAX_DOCUMENT + 1, changes: 1 }));
     assert_eq!((&out[..MAX_DOCUMENT], out[MAX_DOCUMENT]), (&doc[..], 0));
 }

@@ -135,7 +135,7 @@ fn json_is_a_line_for_each_file() {
     assert_eq!((lines.len(), err.as_str(), status), (3, "", 2));
     assert!(
         lines[0].starts_with(
-            r#"{"file":"rare-name.nbt","ok":true,"bytes":66,"count":4,"inflated":false,"records":[{"record":0,"path":"root","#
+            r#"{"file":"rare-name.nbt","ok":true,"bytes":66,"count":4,"inflated":false,"records":[{"record":0,"parent":null,"path":"root","#
         ),
         "{out}"
     );
@@ -144,6 +144,32 @@ fn json_is_a_line_for_each_file() {
     assert!(lines[2].starts_with(r#"{"file":"nowhere","ok":false,"error":""#), "{out}");
     let (out, _, _) = tile(&["query", "--json", "doubles/*", "kinds.nbt"]);
     assert!(out.contains(r#""value":"NaN"}"#) && out.contains(r#""value":"-inf"}"#) && out.contains(r#""value":-0.0}"#), "{out}");
+}
+
+/// Records and parents, in the order in which JSON has them.
+fn parents(json: &str) -> Vec<(String, String)> {
+    let number = |text: &str| text.split([',', '}']).next().unwrap_or_default().to_owned();
+    let pair = |tag: &str| tag.split_once(",\"parent\":").map(|(record, rest)| (number(record), number(rest)));
+    json.split("{\"record\":").skip(1).map(|tag| pair(tag).expect(tag)).collect()
+}
+
+#[test]
+fn json_has_each_parent() {
+    let pairs = |wanted: &[(&str, &str)]| -> Vec<(String, String)> { wanted.iter().map(|&(a, b)| (a.to_owned(), b.to_owned())).collect() };
+    let (out, _, status) = tile(&["query", "--json", "**/Clouds", "mosaic.nbt"]);
+    assert_eq!((parents(&out), status), (pairs(&[("6", "4"), ("11", "9"), ("16", "14"), ("21", "19"), ("26", "24")]), 0));
+    assert!(
+        out.contains(r#"{"record":6,"parent":4,"path":"root/Tiles[0]/Scene/Clouds","kind":"Byte","name":"Clouds","value":0}"#),
+        "{out}"
+    );
+    let (out, _, _) = tile(&["list", "--json", "reef.nbt"]);
+    assert_eq!(parents(&out), pairs(&[("0", "null"), ("1", "0"), ("2", "0"), ("3", "0"), ("4", "0")]));
+    let (out, _, _) = tile(&["query", "--json", "root", "smallest.nbt"]);
+    assert_eq!(parents(&out), pairs(&[("0", "null")]));
+    // lists in a list, and elements
+    let (out, _, _) = tile(&["query", "--json", "grid/**", "kinds.nbt"]);
+    assert_eq!(parents(&out), pairs(&[("18", "0"), ("19", "18"), ("20", "19"), ("21", "19"), ("22", "18"), ("23", "22")]));
+    assert!(out.contains(r#"{"record":23,"parent":22,"path":"root/grid[1][0]","kind":"Byte","value":3}"#), "{out}");
 }
 
 #[test]
@@ -492,16 +518,29 @@ fn json_says_that_lines_were_taken() {
     assert_eq!(status, 2);
 }
 
+/// Every command that takes these lines, in a file of this name, for those of reef.nbt says these words, in which WRONG is the file.
+fn refused_lines(file: &str, lines: &str, words: &str) {
+    let file = scratch(file);
+    let wrong = file.to_str().unwrap();
+    std::fs::write(&file, lines).unwrap();
+    let words = words.replace("WRONG", wrong);
+    assert_eq!(tile(&["check", "--lines", wrong, "reef.nbt"]), (words.clone(), String::new(), 1));
+    for args in [&["list"][..], &["query", "root"], &["lines"], &["write", "-o", "-"]] {
+        let answer = tile(&[args, &["--lines", wrong, "reef.nbt"]].concat());
+        assert_eq!(answer, (String::new(), format!("tile: {words}"), 1), "{args:?}");
+    }
+    std::fs::remove_file(&file).unwrap();
+}
+
+const NO_TABLE: &str = "reef.nbt: refused: the lines in WRONG don't fit: the words form no table over this document (refusal 10)\n";
+
 #[test]
 fn lines_that_do_not_fit_are_refused_with_words() {
-    let file = scratch("wrong.lines");
-    let wrong = file.to_str().unwrap();
     let capital = "\
-reef.nbt: refused: the lines in WRONG are bad: a line is not 64 digits (0 to 9, a to f) and a line feed, at line 2 (refusal 29)
-  000000080000000A000000070000001300000012000000000000000000000002
+reef.nbt: refused: the lines in WRONG are bad: a line is not 72 digits (0 to 9, a to f) and a line feed, at line 2 (refusal 29)
+  000000080000000A00000007000000130000001200000000000000000000000200000000
                  ^ a capital
 ";
-    let none = "reef.nbt: refused: the lines in WRONG don't fit: the words form no table over this document (refusal 10)\n";
     let shorter: String = reef_lines().lines().take(4).map(|line| format!("{line}\n")).collect();
     let many = "0\n".repeat(1_048_577);
     let over = "\
@@ -509,23 +548,32 @@ reef.nbt: refused: the lines in WRONG don't fit: the input is over a limit: a do
 table 1,048,576 records or lines (refusal 9)
 ";
     let second = reef_lines().replace("0000000a00000007", "0000000A00000007");
-    for (lines, words) in [(second, capital), (String::new(), none), (shorter, none), (many, over)] {
-        std::fs::write(&file, lines).unwrap();
-        let words = words.replace("WRONG", wrong);
-        assert_eq!(tile(&["check", "--lines", wrong, "reef.nbt"]), (words.clone(), String::new(), 1));
-        for args in [&["list"][..], &["query", "root"], &["lines"], &["write", "-o", "-"]] {
-            let answer = tile(&[args, &["--lines", wrong, "reef.nbt"]].concat());
-            assert_eq!(answer, (String::new(), format!("tile: {words}"), 1), "{args:?}");
-        }
+    for (lines, words) in [(second, capital), (String::new(), NO_TABLE), (shorter, NO_TABLE), (many, over)] {
+        refused_lines("wrong.lines", &lines, words);
     }
-    std::fs::remove_file(&file).unwrap();
     // no more is read than lines can have
     assert!(tile(&["check", "--lines", "/dev/zero", "reef.nbt"]).0.contains("at line 1 (refusal 29)\n  ....."));
     for args in [&["list"][..], &["query", "root"], &["lines"], &["write", "-o", "-"], &["check"]] {
-        let (out, err, status) = tile(&[args, &["--lines", wrong, "reef.nbt"]].concat());
-        assert!(err.starts_with(&format!("tile: reef.nbt: the lines in {wrong} can't be read: ")), "{err}");
+        let (out, err, status) = tile(&[args, &["--lines", "nowhere.lines", "reef.nbt"]].concat());
+        assert!(err.starts_with("tile: reef.nbt: the lines in nowhere.lines can't be read: "), "{err}");
         assert_eq!((out.as_str(), status), ("", 2));
     }
+}
+
+#[test]
+fn lines_without_parents_and_with_wrong_ones_are_refused_with_words() {
+    // what was kept when a record had eight words
+    let old: String = reef_lines().lines().map(|line| format!("{}\n", &line[..64])).collect();
+    let before = "\
+reef.nbt: refused: the lines in WRONG are bad: a line is not 72 digits (0 to 9, a to f) and a line feed, at line 1 (refusal 29)
+  0000000a00000003000000040000000000000000000000040000000000000005
+                                                                  ^ 64 digits of 72: eight words, as lines had before parents were added
+";
+    refused_lines("old.lines", &old, before);
+    // Footprint in SceneId, and in itself
+    let all_but_the_last = reef_lines().strip_suffix("0\n").unwrap().to_owned();
+    refused_lines("sister.lines", &format!("{all_but_the_last}1\n"), NO_TABLE);
+    refused_lines("itself.lines", &format!("{all_but_the_last}4\n"), NO_TABLE);
 }
 
 #[test]

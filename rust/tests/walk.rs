@@ -1,5 +1,7 @@
 //! Views of tags: kinds, names, values, ways up and down.
-use tikfazrul::{read, Kind, Link, Query, Table};
+use std::path::PathBuf;
+use std::time::Instant;
+use tikfazrul::{read, Kind, Link, Node, Query, Table, Trail};
 
 /// A document written by hand, tag by tag.
 #[derive(Default)]
@@ -37,6 +39,15 @@ fn kinds() -> Vec<u8> {
         .tag(12, b"longs", &[0, 0, 0, 1, 0x80, 0, 0, 0, 0, 0, 0, 0])
         .tag(9, b"empty", &[0, 0, 0, 0, 0])
         .end()
+}
+
+/// Compounds in lists in a list, so that an index is counted in each.
+fn nested() -> Vec<u8> {
+    tikfazrul::parse(b"{t: [[{a: 1b}, {a: 2b}], [{a: 3b}, {a: 4b}, {a: 5b, b: [{}]}]]}").unwrap().document
+}
+
+fn sample(name: &str) -> Vec<u8> {
+    std::fs::read(PathBuf::from(env!("CARGO_MANIFEST_DIR")).join("../samples").join(name)).expect(name)
 }
 
 #[test]
@@ -118,6 +129,114 @@ fn ways_up_and_down() {
     assert!(root.get("list").unwrap().element(2).is_none());
     assert!(root.get("list").unwrap().get("s").is_none());
     assert!(root.element(0).is_none());
+}
+
+/// A record's last word is the number of the record that it stands in, and 0 in the root (02, [7]).
+#[test]
+fn the_parents_of_two_samples_by_hand() {
+    // scene, origin and footprint hang on the root
+    let reef = vec![0; 5];
+    // the root's two entries; then in each of five tiles itself, its Scene, the SceneId and Clouds in that, and its OriginLon
+    let tiles = [[2, 3, 4, 4, 3], [2, 8, 9, 9, 8], [2, 13, 14, 14, 13], [2, 18, 19, 19, 18], [2, 23, 24, 24, 23]];
+    let mosaic = [&[0, 0, 0][..], &tiles.concat()].concat();
+    for (name, wanted) in [("reef.nbt", reef), ("mosaic.nbt", mosaic)] {
+        let doc = sample(name);
+        let table = read(&doc).unwrap();
+        let words: Vec<u32> = table.words().chunks(9).map(|record| record[8]).collect();
+        assert_eq!(words, wanted, "{name}");
+        let above = |node: Node| node.parent().map(|parent| parent.record() as u32);
+        let climbed: Vec<Option<u32>> = table.root(&doc).unwrap().walk().map(|(_, node)| above(node)).collect();
+        assert_eq!((climbed[0], climbed[1..].to_vec()), (None, wanted[1..].iter().copied().map(Some).collect()), "{name}");
+    }
+}
+
+/// What a walk down from a tag by its children tells of each below it: the tags above, from the root down, and the path.
+fn down<'a>(node: Node<'a>, above: &[Node<'a>], path: &str, told: &mut Vec<(Vec<Node<'a>>, String)>) {
+    let line = [above, &[node]].concat();
+    told.push((line.clone(), path.to_owned()));
+    for (index, child) in node.children().enumerate() {
+        let step = match node.kind() {
+            Kind::List => format!("[{index}]"),
+            _ => format!("/{}", tikfazrul::quoted(&child.name().unwrap())),
+        };
+        down(child, &line, &format!("{path}{step}"), told);
+    }
+}
+
+/// What can be told of a tag without its parent's word.
+fn told(node: &Node) -> (usize, Kind, usize) {
+    (node.record(), node.kind(), node.end())
+}
+
+#[test]
+fn climbing_finds_what_a_walk_down_finds() {
+    for doc in [kinds(), nested(), sample("reef.nbt"), sample("mosaic.nbt"), sample("kinds.nbt"), sample("smallest.nbt")] {
+        let table = read(&doc).unwrap();
+        let mut walked = Vec::new();
+        down(table.root(&doc).unwrap(), &[], "root", &mut walked);
+        assert_eq!(walked.len(), table.len());
+        let found = table.find(&doc, &"**".parse().unwrap()).unwrap();
+        assert_eq!(found.len(), table.len());
+        for (node, (line, path)) in found.iter().zip(&walked) {
+            let (last, above) = line.split_last().unwrap();
+            assert_eq!((told(node), node.link(), node.name()), (told(last), last.link(), last.name()));
+            assert_eq!((node.path(), last.path()), (path.clone(), path.clone()));
+            assert_eq!(node.parent().as_ref().map(told), above.last().map(told));
+            assert_eq!(node.ancestors().map(|tag| told(&tag)).collect::<Vec<_>>(), above.iter().rev().map(told).collect::<Vec<_>>());
+            assert_eq!(node.lineage().iter().map(told).collect::<Vec<_>>(), line.iter().map(told).collect::<Vec<_>>());
+            // a tag that was climbed to says what one that was walked to says
+            for (climbed, above) in node.ancestors().zip(above.iter().rev()) {
+                assert_eq!((climbed.link(), climbed.name(), climbed.path()), (above.link(), above.name(), above.path()));
+            }
+            assert_eq!(node.ancestors().last().map(|tag| tag.record()), (node.record() > 0).then_some(0), "the root is the last");
+        }
+    }
+}
+
+/// A trail is for any tags in any order, and best in file order.
+#[test]
+fn a_trail_gives_the_paths_in_any_order() {
+    for doc in [kinds(), nested(), sample("mosaic.nbt"), sample("kinds.nbt")] {
+        let table = read(&doc).unwrap();
+        let mut walked = Vec::new();
+        down(table.root(&doc).unwrap(), &[], "root", &mut walked);
+        let found = table.find(&doc, &"**".parse().unwrap()).unwrap();
+        let count = found.len();
+        // strides over the records, there and back: in order, with gaps, and every one more than once
+        for stride in 1..count {
+            let mut trail = Trail::new();
+            let there = (0..2 * count).map(|n| n * stride % count);
+            for record in there.clone().chain(there.rev()) {
+                assert_eq!(trail.step(&found[record]), walked[record].1, "{record} by {stride}");
+            }
+        }
+    }
+}
+
+/// A list of so many compounds of one byte each.
+fn compounds(count: u32) -> Vec<u8> {
+    let list = [b"\x0A", &count.to_be_bytes()[..], &b"\x01\0\0\x07\0".repeat(count as usize)].concat();
+    Doc::default().tag(10, b"", b"").tag(9, b"", &list).end()
+}
+
+/// The paths of many matches in a long list cost little more by climbing than by walking, where the indices are known. A trail that counts
+/// from the list's first element each time takes a hundred times as long.
+#[test]
+fn a_trail_counts_no_element_twice() {
+    let doc = compounds(5_000);
+    let table = read(&doc).unwrap();
+    let walked: Vec<Node> = table.root(&doc).unwrap().walk().map(|(_, node)| node).collect();
+    let found = table.find(&doc, &"**".parse().unwrap()).unwrap();
+    let lengths = |nodes: &[Node]| {
+        let start = Instant::now();
+        let mut trail = Trail::new();
+        let length: usize = nodes.iter().map(|node| trail.step(node).len()).sum();
+        (start.elapsed(), length)
+    };
+    let best = |nodes: &[Node]| (0..3).map(|_| lengths(nodes)).min().unwrap();
+    let ((climbing, climbed), (walking, known)) = (best(&found), best(&walked));
+    assert_eq!(climbed, known);
+    assert!(climbing < 20 * walking, "{climbing:?} by climbing, {walking:?} by walking");
 }
 
 #[test]

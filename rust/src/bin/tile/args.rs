@@ -68,6 +68,7 @@ tile list [--json] [--full] [--lines FILE] FILE…
 
 Lists every tag in file order: its record in the table, its kind, its name (indented by level; [n] for a list's elements) and its value.
 Names with blanks or other odd characters stand in quotes, as a path wants them. Long strings and arrays are cut unless --full is given.
+With --json each has its path too, and the record of its parent: null for the root, which has none.
 With --lines the table is not read but taken from lines, which must be the document's own: tile lines --help tells more.
 
   tile list samples/kinds.nbt
@@ -88,7 +89,8 @@ is read all the same, and refused too if the lines are not exactly those of its 
 const ABOUT_QUERY: &str = "\
 tile query [--json] [--full] [--lines FILE] PATH FILE…
 
-Shows the tags that a path leads to, in file order. A path begins at the root; its steps are parted by /:
+Shows the tags that a path leads to, in file order, each with its own path, which tells what it sits in. A path begins at the root; its
+steps are parted by /:
 
   SceneId       the entry of a compound so named; an odd name stands in \"quotes\" or 'quotes',
                 with the escapes \\\\ \\\" \\' \\n \\r \\t \\uXXXX
@@ -97,10 +99,12 @@ Shows the tags that a path leads to, in file order. A path begins at the root; i
   **            zero or more levels, whatever they are
 
 The first step may be root, the root tag itself, whatever its name. Sixteen steps at the most. Array elements are not tags.
+With --json each match has its record in the table too, and that of its parent: null for the root, which has none.
 With --lines the table is not read but taken from lines, which must be the document's own: tile lines --help tells more.
 
   tile query 'Tiles[3]/Scene' samples/mosaic.nbt
   tile query 'root/**/SceneId' samples/*.nbt
+  tile query --json '**/Clouds' samples/mosaic.nbt | jq '.matches[] | [.record, .parent]'
 ";
 
 const ABOUT_TEXT: &str = "\
@@ -137,14 +141,15 @@ ends before the root's name does: exit status 1. Several files are saved in a fo
 const ABOUT_LINES: &str = "\
 tile lines [--lines FILE] FILE… [-o FILE]
 
-Writes a document's table as lines, to be kept: for each tag the eight words of its record, each as eight digits 0 to 9 and a to f, and a
+Writes a document's table as lines, to be kept: for each tag the nine words of its record, each as eight digits 0 to 9 and a to f, and a
 line feed. They go to standard output unless -o says where. A folder holds them as NAME.lines, NAME being the file's own name without .gz;
 several files want one. Nothing is written of a document that is refused, and nothing over the document itself.
 
 With --lines, list, query, write and lines take the table from such lines and do not read the document; of a folder, from its NAME.lines.
 Lines that are bad, or that form no table over a document of this length, are refused: exit status 1. No more than that is asked of them
-(rule 7: every name and payload lies in the document, and the records form a tree). So they must be the document's own, as it is now; tile
-check --lines reads it, and tells whether they are.
+(rule 7: every name and payload lies in the document, and the records form a tree, in which each names its parent). So they must be the
+document's own, as it is now; tile check --lines reads it, and tells whether they are. Lines of eight words, as they were before they named
+parents, are bad: tile lines makes new ones of the document.
 
   tile lines tiles/*.nbt -o kept/
   tile query --lines kept/ 'root/**/SceneId' tiles/*.nbt

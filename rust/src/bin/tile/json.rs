@@ -43,9 +43,11 @@ fn value(node: &Node) -> Option<String> {
     }
 }
 
-/// A tag: where it is, and its value, or how many tags a list or compound has.
+/// A tag: where it is, and its value, or how many tags a list or compound has. The root has no parent, though its record's word is 0.
 pub fn node(node: &Node, path: &str) -> String {
-    let mut json = format!("{{\"record\":{},\"path\":{},\"kind\":{}", node.record(), string(path), string(node.kind().tag_name()));
+    let parent = node.parent().map_or("null".to_owned(), |parent| parent.record().to_string());
+    let (record, path, kind) = (node.record(), string(path), string(node.kind().tag_name()));
+    let mut json = format!("{{\"record\":{record},\"parent\":{parent},\"path\":{path},\"kind\":{kind}");
     if node.name_bytes().is_some() {
         json += &format!(",\"name\":{}", node.name().map_or(UNREADABLE.to_owned(), |name| string(&name)));
     }
@@ -62,7 +64,7 @@ pub fn node(node: &Node, path: &str) -> String {
 /// Every tag below the root.
 pub fn records(root: Node) -> String {
     let mut trail = Trail::new();
-    let records: Vec<String> = root.walk().map(|(depth, found)| node(&found, trail.step(depth, &found))).collect();
+    let records: Vec<String> = root.walk().map(|(_, found)| node(&found, trail.step(&found))).collect();
     format!("\"records\":[{}]", records.join(","))
 }
 

@@ -218,18 +218,9 @@ fn answer(args: &Args, file: &OsStr, loaded: &Loaded, said: &mut Vec<u8>) -> Res
 fn accepted<'a>(args: &Args, loaded: &'a Loaded) -> Result<Accepted<'a>, Refusal> {
     let (bytes, table) = (&loaded.input.bytes, &loaded.table);
     let root = table.root(bytes)?;
-    let mut found = Vec::new();
-    if args.command == Command::Query {
-        let records = tikfazrul::query(bytes, table, args.query.as_bytes())?;
-        let mut wanted = records.into_iter().peekable();
-        let mut trail = Trail::new();
-        for (depth, node) in root.walk() {
-            let path = trail.step(depth, &node);
-            if wanted.next_if_eq(&(node.record() as u32)).is_some() {
-                found.push((path.to_owned(), node));
-            }
-        }
-    }
+    let found = if args.command == Command::Query { table.find(bytes, &args.query)? } else { Vec::new() };
+    let mut trail = Trail::new();
+    let found = found.into_iter().map(|node| (trail.step(&node).to_owned(), node)).collect();
     Ok(Accepted { loaded, root, found })
 }
 
