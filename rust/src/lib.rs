@@ -2,7 +2,7 @@
 //!
 //! Every answer comes from `libnbt.a`, whose functions are proved to answer as its rules say on every input, to touch no memory that they
 //! weren't lent, and to return. This crate wraps its C calls: the one module with `unsafe` is `ffi`, and nothing here crashes on any
-//! input, on a stack of 256 KiB or more; a document 512 deep takes some 160 KB of it. (A thread of Rust's has 2 MiB unless told otherwise.)
+//! input, on a stack of 256 KiB or more; a document 512 deep takes some 165 KB of it. (A thread of Rust's has 2 MiB unless told otherwise.)
 //! [`parse`] takes a thread of its own for the stack of a long or deep text, and panics where the system gives none.
 //!
 //! ```
