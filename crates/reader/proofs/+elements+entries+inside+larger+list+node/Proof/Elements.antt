@@ -52,7 +52,14 @@ module _ (t : ℕ) where
       let i = c .before .before .loop .inv in (
         omega arith,
         record {
-          ready = record { doc-le = p .0 .doc-le; at-le = i .at-le; cap-le = p .0 .cap-le; fits = omega (arith, same (c .before .before)); n-le = i .n-le; above-le = omega (arith, p .0 .above-le, i .sofar .n-is) };
+          ready = record {
+            doc-le = p .0 .doc-le;
+            at-le = i .at-le;
+            cap-le = p .0 .cap-le;
+            fits = omega (arith, same (c .before .before));
+            n-le = i .n-le;
+            above-le = omega (arith, p .0 .above-le, i .sofar .n-is);
+          };
           kind-le = p .1;
           name-lt = omega arith;
           len-lt = omega arith;

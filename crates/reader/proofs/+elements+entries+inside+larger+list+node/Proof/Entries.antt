@@ -166,7 +166,14 @@ module _ (t : ℕ) where
       let w = within e in (
         omega arith,
         record {
-          ready = record { doc-le = p .doc-le; at-le = w .1 .to; cap-le = p .cap-le; fits = omega (arith, same l, p .fits); n-le = l .loop .inv .n-le; above-le = omega (arith, p .above-le, l .loop .inv .going .n-is) };
+          ready = record {
+            doc-le = p .doc-le;
+            at-le = w .1 .to;
+            cap-le = p .cap-le;
+            fits = omega (arith, same l, p .fits);
+            n-le = l .loop .inv .n-le;
+            above-le = omega (arith, p .above-le, l .loop .inv .going .n-is);
+          };
           kind-le = w .0;
           name-lt = omega (arith, w, p);
           len-lt = omega (arith, w, p);
