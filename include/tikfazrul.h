@@ -24,7 +24,7 @@
  *    9  over a limit            0: a document over 16,777,216 bytes, a table to check, to write, to store or to ask over 9,437,184 words, more
  *                               than 1,048,576 lines, or a text over 1,048,576 bytes
  *   10  no table                0: the words form no table, for which one wrong parent is enough (tikfazrul_write, tikfazrul_write_lines,
- *                               tikfazrul_query)
+ *                               tikfazrul_lines_up, tikfazrul_lines_down, tikfazrul_query)
  *   11  a mixed list            the record of another kind than its list's first (tikfazrul_parse: the element's token)
  *   12  over 65,535 bytes       the record whose name or string it is (tikfazrul_parse: the token)
  *   13  the output is full      0 (tikfazrul_parse: the token whose bytes do not fit)
@@ -78,6 +78,9 @@ enum {
 /* The bytes of a record's line, its line feed among them. */
 enum { TIKFAZRUL_LINE = 73 };
 
+/* The words of a record before it had a parent, which are the first eight of today's, and the bytes of its line (02, [8]). */
+enum { TIKFAZRUL_OLD_WORDS = 8, TIKFAZRUL_OLD_LINE = 65 };
+
 /* Reads a document into a table of records. Accepted: [2] is the number of bytes consumed, [3] the number of records, and the records' words
  * stand from table[0] on; no other word changes. Refused (1 to 9): every word of the table is 0. The table has room for table_len / 9
  * records, 1,048,576 at the most. */
@@ -113,6 +116,20 @@ void tikfazrul_write_lines(size_t doc_len, const uint32_t *table, size_t table_l
  * line, whose number from 1 is the place, 29 where it is anything but 72 such digits and a line feed, and 8 where there is no room: the table has
  * it for table_len / 9 records. Whether the words form a table is not asked: tikfazrul_is_table does, and so does each function that takes one. */
 void tikfazrul_read_lines(const uint8_t *lines, size_t lines_len, uint32_t *table, size_t table_len, uint64_t answer[8]);
+
+/* Moves the lines of a table that was kept before records had a parent to lines as tikfazrul_write_lines writes them (02, [8]): from eight words a
+ * record, TIKFAZRUL_OLD_LINE bytes, to nine, TIKFAZRUL_LINE bytes, with the parents worked out. doc_len is the length of the document that the table
+ * is of, by which its spans are judged. Accepted: [2] is the number of bytes written, from out[0] on; no other byte changes. Refused: the output
+ * is as it was. 9 comes first, where the document is too long or there are more than 1,048,576 lines, an unended one counted; then 29 at the
+ * first line that is anything but 64 digits, 0 to 9 and a to f, and a line feed, so also at the first that has nine words already; then 10 where
+ * the words form no table, as those of no line at all do not; and 13 last. `lines` and `out` must not overlap. The time is linear in the lines,
+ * and the stack the same for a table of any depth. */
+void tikfazrul_lines_up(size_t doc_len, const uint8_t *lines, size_t lines_len, uint8_t *out, size_t out_len, uint64_t answer[8]);
+
+/* Moves lines the other way, for those who have stayed with eight words: the parents are judged and then dropped. All else is as in
+ * tikfazrul_lines_up, but that a line is 29 where it is anything but 72 such digits and a line feed, and that a wrong parent is 10 too, and so is
+ * a ninth word of the root other than 0. What the one gives the other takes, and gives the first lines back. */
+void tikfazrul_lines_down(size_t doc_len, const uint8_t *lines, size_t lines_len, uint8_t *out, size_t out_len, uint64_t answer[8]);
 
 /* Asks which tags of a table match a query, whose names lie in `doc`. The query is steps, sixteen at the most, one after the other, and says
  * how to come from the root to a tag:

@@ -45,6 +45,7 @@ pub enum Goal {
     WriteLines,
     ReadLines,
     LinesGrowth,
+    MovesGrowth,
     TextTiles,
     TextGrowth,
     QueryAnywhere,
@@ -55,7 +56,7 @@ pub enum Goal {
 }
 
 /// The bound of the texts' growth, and the tenth over a copy, are what "linear" and "at the speed of" are taken for here.
-const GOALS: [(Goal, &str, Wanted); 19] = [
+const GOALS: [(Goal, &str, Wanted); 20] = [
     (Goal::Strings, "string checks, throughput over from_utf8's", Wanted::AtLeast(0.8)),
     (Goal::ReadTiles, "reading tiles, the crate's time over ours", Wanted::AtLeast(10.0)),
     (Goal::ReadNeverSlower, "reading anything, the crate's time over ours", Wanted::AtLeast(1.0)),
@@ -68,6 +69,7 @@ const GOALS: [(Goal, &str, Wanted); 19] = [
     (Goal::WriteLines, "writing lines, Rust's own formatting's time over ours", Wanted::AtLeast(1.0)),
     (Goal::ReadLines, "reading lines, Rust's own parsing's time over ours", Wanted::AtLeast(1.0)),
     (Goal::LinesGrowth, "lines written and read, time a record at 10^6 over 10^3", Wanted::AtMost(3.0)),
+    (Goal::MovesGrowth, "lines moved up and down, time a record at 10^6 over 10^3", Wanted::AtMost(3.0)),
     (Goal::TextTiles, "texts of tiles, the crate's time over ours", Wanted::AtLeast(3.0)),
     (Goal::TextGrowth, "texts, time a byte at 10^6 bytes over 10^4", Wanted::AtMost(3.0)),
     (Goal::QueryAnywhere, "asking tiles for `root/**/name`, room for every record, ns a record", Wanted::AtMost(35.0)),

@@ -22,6 +22,11 @@ pub fn head(what: &str, sizes: &[usize]) {
     markdown::head(&columns.iter().map(String::as_str).collect::<Vec<_>>());
 }
 
+/// The goal, where it can be judged: goals speak of 10^6 records.
+pub fn judged(sizes: &[usize], goal: Goal) -> Option<Goal> {
+    (sizes.last() == Some(&1_000_000)).then_some(goal)
+}
+
 /// One row, whose factor is noted for the goal. Answers the nanoseconds a piece, size by size.
 pub fn row(bench: &mut Bench, what: &str, mut calls: Vec<Call>, goal: Option<Goal>) -> Vec<Spread> {
     let pieces: Vec<usize> = calls.iter().map(|c| c.pieces).collect();

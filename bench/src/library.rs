@@ -2,12 +2,14 @@
 #[path = "../../rust/src/ffi.rs"]
 mod ffi;
 
-pub use ffi::{check_mutf8, check_utf8, query, read, read_lines, rescue, write, write_lines, Answer};
+pub use ffi::{check_mutf8, check_utf8, lines_down, lines_up, query, read, read_lines, rescue, write, write_lines, Answer};
 
 /// The words of a record.
 pub const WORDS: usize = 9;
 /// The bytes of a record's line.
 pub const LINE: usize = 8 * WORDS + 1;
+/// The same before records had a parent.
+pub const OLD_LINE: usize = LINE - 8;
 /// The records that a table may have.
 pub const MOST_RECORDS: usize = 1_048_576;
 /// The bytes that a text may have.

@@ -59,7 +59,7 @@ fn parse_lines(lines: &[u8], words: &mut Vec<u32>) {
 }
 
 /// The lines of any words.
-fn lines_of(words: &[u32]) -> Vec<u8> {
+pub fn lines_of(words: &[u32]) -> Vec<u8> {
     let mut out = String::with_capacity(words.len() / WORDS * LINE);
     format_lines(words, &mut out);
     out.into_bytes()
@@ -251,9 +251,7 @@ fn growing(bench: &mut Bench) {
 }
 
 fn grows(bench: &mut Bench, what: &str, sizes: &[usize], call: fn(usize) -> Call) {
-    // the goal speaks of 10^6 records
-    let goal = (sizes.last() == Some(&1_000_000)).then_some(Goal::LinesGrowth);
-    growth::row(bench, what, sizes.iter().map(|&n| call(n)).collect(), goal);
+    growth::row(bench, what, sizes.iter().map(|&n| call(n)).collect(), growth::judged(sizes, Goal::LinesGrowth));
 }
 
 fn writing(doc: &Doc) -> Call {

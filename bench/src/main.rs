@@ -7,6 +7,7 @@ mod inputs;
 mod library;
 mod lines;
 mod markdown;
+mod moves;
 mod quartz;
 mod query;
 mod read;
@@ -29,12 +30,13 @@ pub struct Bench {
 
 type Section = (&'static str, fn(&mut Bench));
 
-const SECTIONS: [Section; 9] = [
+const SECTIONS: [Section; 10] = [
     ("strings", strings::section),
     ("read", read::section),
     ("write", write::section),
     ("rescue", rescue::section),
     ("lines", lines::section),
+    ("moves", moves::section),
     ("text", text::section),
     ("tokens", tokens::section),
     ("query", query::section),

@@ -113,7 +113,5 @@ fn grows(bench: &mut Bench, what: &str, sizes: &[usize], make: impl Fn(usize) ->
         let mut table = vec![0; WORDS * doc.tags];
         Call { pieces: doc.tags, call: Box::new(move || assert_eq!(library::read(black_box(&doc.bytes), &mut table)[0], 0)) }
     });
-    // the goals speak of 10^6 records
-    let whole = sizes.last() == Some(&1_000_000);
-    growth::row(bench, what, calls.collect(), goal.filter(|_| whole));
+    growth::row(bench, what, calls.collect(), goal.and_then(|goal| growth::judged(sizes, goal)));
 }

@@ -137,8 +137,7 @@ fn growing(bench: &mut Bench) {
     markdown::caption("Growth, ns a record:");
     let sizes = growth::sizes(bench);
     growth::head("records", &sizes);
-    // the goal speaks of 10^6 records
-    let goal = (sizes.last() == Some(&1_000_000)).then_some(Goal::RescueGrowth);
+    let goal = growth::judged(&sizes, Goal::RescueGrowth);
     grows(bench, "rescuing tiles", &sizes, tiles_of_records, goal);
     grows(bench, "rescuing one compound, sorted", &sizes, |n| wide(n - 1, 0, 0, Order::Sorted), goal);
     grows(bench, "rescuing one compound, random", &sizes, |n| wide(n - 1, 0, 0, Order::Random), None);

@@ -5,6 +5,7 @@ use crate::harness::Spread;
 use crate::inputs::{around, list_text, nested, tile_text, wide, Doc, Order};
 use crate::library::{self, Answer, LINE, MOST_TEXT, WORDS};
 use crate::markdown::{self, grouped};
+use crate::moves::Kept;
 use crate::rescue::Cut;
 use crate::Bench;
 use std::ffi::{c_int, c_void};
@@ -100,6 +101,9 @@ fn documents(bench: &mut Bench) {
     let mut cut = Cut::innermost(512);
     row("tikfazrul_rescue", "one 512 deep, cut in the innermost", 0, || cut.rescue());
     lines("the table of one 512 deep", &deep);
+    for containers in [512, 100_000] {
+        moves(&format!("the lines of {} compounds in each other", grouped(containers)), &Kept::path(containers));
+    }
     let mut list = vec![0; deep.tags];
     for (what, query) in [("04 03, eight times", [4, 3].repeat(8)), ("04 01 x, eight times", [4, 1, 0, 1, b'x'].repeat(8))] {
         let bytes =
@@ -122,6 +126,12 @@ fn lines(what: &str, doc: &Doc) {
     let (mut table, mut out) = (doc.table(), vec![0; LINE * doc.tags]);
     row("tikfazrul_write_lines", what, 0, || library::write_lines(doc.bytes.len(), &table, &mut out));
     row("tikfazrul_read_lines", &format!("the lines of {what}"), 0, || library::read_lines(&out, &mut table));
+}
+
+fn moves(what: &str, kept: &Kept) {
+    let (mut new, mut old) = (vec![0; kept.new.len()], vec![0; kept.old.len()]);
+    row("tikfazrul_lines_up", what, 0, || library::lines_up(kept.doc_len, &kept.old, &mut new));
+    row("tikfazrul_lines_down", what, 0, || library::lines_down(kept.doc_len, &kept.new, &mut old));
 }
 
 fn texts() {

@@ -9,7 +9,7 @@ use crate::Bench;
 const DEPTH: usize = 512;
 
 /// The document that every span lies in: all names are x, so that a name is compared wherever there is one.
-const DOC: &[u8] = b"x";
+pub const DOC: &[u8] = b"x";
 
 /// Which records a query of sixteen steps lists: those eight levels or more below the root are far.
 #[derive(Clone, Copy)]
@@ -21,8 +21,8 @@ enum Matches {
 
 /// A table of records as words, with what is known of it.
 #[derive(Default)]
-struct Words {
-    words: Vec<u32>,
+pub struct Words {
+    pub words: Vec<u32>,
     records: usize,
     far: usize,
 }
@@ -49,7 +49,7 @@ impl Words {
     }
 
     /// One path: each compound is the one entry of the one before.
-    fn path(n: usize) -> Words {
+    pub fn path(n: usize) -> Words {
         let mut t = Words::default();
         t.put(10, 0, 1, n, 0);
         t.column(n - 1, 0);

@@ -33,6 +33,8 @@ mod c {
         );
         pub fn tikfazrul_write_lines(doc_len: usize, table: *const u32, table_len: usize, out: *mut u8, out_len: usize, answer: *mut u64);
         pub fn tikfazrul_read_lines(lines: *const u8, lines_len: usize, table: *mut u32, table_len: usize, answer: *mut u64);
+        pub fn tikfazrul_lines_up(doc_len: usize, lines: *const u8, lines_len: usize, out: *mut u8, out_len: usize, answer: *mut u64);
+        pub fn tikfazrul_lines_down(doc_len: usize, lines: *const u8, lines_len: usize, out: *mut u8, out_len: usize, answer: *mut u64);
         pub fn tikfazrul_query(
             doc: *const u8,
             doc_len: usize,
@@ -117,6 +119,22 @@ pub fn read_lines(lines: &[u8], table: &mut [u32]) -> Answer {
     let mut answer = [0; 8];
     // SAFETY: the pointers stand for slices of the lengths given; the table and the answer are lent to be written to and overlap nothing.
     unsafe { c::tikfazrul_read_lines(lines.as_ptr(), lines.len(), table.as_mut_ptr(), table.len(), answer.as_mut_ptr()) };
+    answer
+}
+
+pub fn lines_up(doc_len: usize, lines: &[u8], out: &mut [u8]) -> Answer {
+    let mut answer = [0; 8];
+    // SAFETY: the pointers stand for slices of the lengths given; the output and the answer are lent to be written to and overlap nothing;
+    // the document is given by its length alone.
+    unsafe { c::tikfazrul_lines_up(doc_len, lines.as_ptr(), lines.len(), out.as_mut_ptr(), out.len(), answer.as_mut_ptr()) };
+    answer
+}
+
+pub fn lines_down(doc_len: usize, lines: &[u8], out: &mut [u8]) -> Answer {
+    let mut answer = [0; 8];
+    // SAFETY: the pointers stand for slices of the lengths given; the output and the answer are lent to be written to and overlap nothing;
+    // the document is given by its length alone.
+    unsafe { c::tikfazrul_lines_down(doc_len, lines.as_ptr(), lines.len(), out.as_mut_ptr(), out.len(), answer.as_mut_ptr()) };
     answer
 }
 

@@ -54,6 +54,19 @@
 //! # Ok::<(), tikfazrul::Refusal>(())
 //! ```
 //!
+//! Lines that were kept before records had a parent are brought along by [`lines_up`], and [`lines_down`] makes such lines for whoever stays
+//! behind:
+//!
+//! ```
+//! use tikfazrul::{lines_down, lines_up, read};
+//!
+//! let doc = b"\x0A\0\x01a\x01\0\x01b\xFF\0";
+//! let lines = read(doc)?.to_lines(doc.len())?;
+//! let old = lines_down(&lines, doc.len())?;
+//! assert_eq!(lines_up(&old, doc.len())?, lines);
+//! # Ok::<(), tikfazrul::Refusal>(())
+//! ```
+//!
 //! # Coming from quartz_nbt
 //!
 //! | there | here |
@@ -71,6 +84,7 @@
 mod ffi;
 pub mod hex;
 mod lines;
+mod moves;
 pub mod mutf8;
 mod node;
 mod path;
@@ -80,6 +94,7 @@ mod table;
 mod text;
 
 pub use lines::{lines_into, read_lines_into, LINE};
+pub use moves::{lines_down, lines_down_into, lines_up, lines_up_into, OLD_LINE};
 pub use node::{Children, Kind, Link, Node, Trail, Walk};
 pub use path::{quoted, Fault, PathError, Query, MAX_NAME, MAX_STEPS};
 pub use refusal::{Place, Refusal};

@@ -9,11 +9,11 @@ const WORD: usize = 8;
 /// The digits of a record's line.
 pub(crate) const DIGITS: usize = WORD * WORDS;
 // 02, [7]: the same of lines that were kept before records had a parent
-const OLD_DIGITS: usize = WORD * (WORDS - 1);
+pub(crate) const OLD_DIGITS: usize = WORD * (WORDS - 1);
 /// The bytes of a record's line: its digits and a line feed.
 pub const LINE: usize = DIGITS + 1;
-/// How many bytes of a bad line are shown. What is wrong with it stands at the place of its line feed at the latest.
-const SHOWN: usize = LINE + 7;
+/// How many bytes of a bad line are shown beyond its digits. What is wrong with it stands at the place of its line feed at the latest.
+const BEYOND: usize = WORD;
 
 impl Table {
     /// The table as lines, [`LINE`] bytes for each record: its nine words, of eight digits 0 to 9 and a to f each, and a line feed.
@@ -34,7 +34,8 @@ impl Table {
     /// The table that lines hold, judged over a document of so many bytes: its spans lie in such a document, and its records form a tree,
     /// in which each names its parent. Whether it is the table of the very document that it is meant for, only reading that document tells.
     /// [`Table::consumed`] is 0. Refused with 9 where there are more than [`MAX_RECORDS`] lines, 29 at a bad line, 9 where the document is
-    /// over [`MAX_DOCUMENT`](crate::MAX_DOCUMENT), and 10 where the words form no table over it.
+    /// over [`MAX_DOCUMENT`](crate::MAX_DOCUMENT), and 10 where the words form no table over it. Lines that were kept before records had a
+    /// parent are bad, and [`lines_up`](crate::lines_up) brings them along.
     ///
     /// ```
     /// use tikfazrul::{Place, Refusal, Table};
@@ -88,29 +89,35 @@ pub fn read_lines_into(lines: &[u8], words: &mut [u32]) -> Result<usize, Refusal
     Ok(answer[2] as usize)
 }
 
-/// The line of this number, from 1, cut where it is long; a mark below what is wrong with it, and what that is. `None` for a good line.
-pub(crate) fn window(lines: &[u8], number: usize) -> Option<String> {
+/// The line of this number, from 1, cut where it is long; a mark below what is wrong with it as a line of so many digits, and what that is.
+/// `None` for a good line.
+pub(crate) fn window(lines: &[u8], number: usize, digits: usize) -> Option<String> {
     let line = lines.split_inclusive(|&byte| byte == b'\n').nth(number.checked_sub(1)?)?;
-    let (at, what) = flaw(line)?;
+    let (at, what) = flaw(line, digits)?;
     let line = line.strip_suffix(b"\n").unwrap_or(line);
-    let more = if line.len() > SHOWN { "…" } else { "" };
-    Some(format!("{}{more}\n{}^ {what}", hex::ascii(&line[..line.len().min(SHOWN)]), " ".repeat(at)))
+    let shown = digits + BEYOND;
+    let more = if line.len() > shown { "…" } else { "" };
+    Some(format!("{}{more}\n{}^ {what}", hex::ascii(&line[..line.len().min(shown)]), " ".repeat(at)))
 }
 
-/// Where a line, given with its line feed, parts from the form, and how.
-fn flaw(line: &[u8]) -> Option<(usize, String)> {
-    let at = line.iter().take(DIGITS).take_while(|byte| matches!(byte, b'0'..=b'9' | b'a'..=b'f')).count();
+/// Where a line, given with its line feed, parts from the form of so many digits, and how.
+fn flaw(line: &[u8], digits: usize) -> Option<(usize, String)> {
+    let good = |line: &[u8]| line.iter().take_while(|byte| matches!(byte, b'0'..=b'9' | b'a'..=b'f')).count();
+    let at = good(&line[..line.len().min(digits)]);
     let what = match line.get(at) {
-        Some(b'\n') if at == DIGITS => return None,
-        Some(b'\n') if at == OLD_DIGITS => format!("{at} digits of {DIGITS}: eight words, as lines had before parents were added"),
-        Some(b'\n') => format!("the line ends after {at} of {DIGITS} digits"),
+        Some(b'\n') if at == digits => return None,
+        Some(b'\n') if at == OLD_DIGITS => format!("{at} digits of {digits}: eight words, as lines had before parents were added"),
+        Some(b'\n') => format!("the line ends after {at} of {digits} digits"),
         Some(b'\r') => "a carriage return".to_owned(),
         Some(b' ') => "a blank".to_owned(),
-        Some(_) if at == DIGITS => format!("the line goes on after {DIGITS} digits"),
+        Some(_) if at == digits && line.len() == LINE && line.ends_with(b"\n") && good(line) == DIGITS => {
+            format!("{DIGITS} digits for {digits}: nine words, as lines have since parents were added")
+        }
+        Some(_) if at == digits => format!("the line goes on after {digits} digits"),
         Some(b'A'..=b'F') => "a capital".to_owned(),
         Some(byte) => format!("no digit (byte {byte:02X})"),
-        None if at == DIGITS => "no line feed".to_owned(),
-        None => format!("the lines end after {at} of {DIGITS} digits"),
+        None if at == digits => "no line feed".to_owned(),
+        None => format!("the lines end after {at} of {digits} digits"),
     };
     Some((at, what))
 }

@@ -55,6 +55,8 @@ macro_rules! refusals {
             MoreMatches(usize),
             /// 24: more containers are open than the list of changes has room for. The true number of them.
             MoreChanges(usize),
+            /// 29 where lines of eight words are asked for: a line is not 64 digits (0 to 9, a to f) and a line feed.
+            BadOldLine(Place),
             /// A number that the library does not give.
             Unknown(u64, Place),
         }
@@ -65,6 +67,7 @@ macro_rules! refusals {
                 match self {
                     $(Refusal::$case(_) => $number,)*
                     Refusal::MoreMatches(_) | Refusal::MoreChanges(_) => 24,
+                    Refusal::BadOldLine(_) => 29,
                     Refusal::Unknown(number, _) => *number,
                 }
             }
@@ -74,7 +77,7 @@ macro_rules! refusals {
                 match self {
                     $(Refusal::$case(place) => *place,)*
                     Refusal::MoreMatches(_) | Refusal::MoreChanges(_) => Place::Whole,
-                    Refusal::Unknown(_, place) => *place,
+                    Refusal::BadOldLine(place) | Refusal::Unknown(_, place) => *place,
                 }
             }
 
@@ -84,6 +87,7 @@ macro_rules! refusals {
                     $(Refusal::$case(_) => $what,)*
                     Refusal::MoreMatches(_) => "there are more matches than the list has room for",
                     Refusal::MoreChanges(_) => "more containers are open than the list of changes has room for",
+                    Refusal::BadOldLine(_) => "a line is not 64 digits (0 to 9, a to f) and a line feed",
                     Refusal::Unknown(..) => "the library gave a number that this wrapper does not know",
                 }
             }
@@ -159,8 +163,16 @@ impl Refusal {
     pub fn window(&self, bytes: &[u8]) -> Option<String> {
         match self.place() {
             Place::Byte(at) | Place::Query(at) | Place::Text(at) => Some(hex::window(bytes, at)),
-            Place::Line(number) => lines::window(bytes, number),
+            Place::Line(number) => lines::window(bytes, number, self.digits()),
             Place::Record(_) | Place::Whole => None,
+        }
+    }
+
+    /// The digits of a line of the width that was asked for.
+    fn digits(&self) -> usize {
+        match self {
+            Refusal::BadOldLine(_) => lines::OLD_DIGITS,
+            _ => lines::DIGITS,
         }
     }
 }
@@ -205,7 +217,11 @@ mod tests {
         assert_eq!(record.to_string(), "a name stands twice in one compound, at record 2 (refusal 6)");
         let line = Refusal::BadLine(Place::Line(3));
         assert_eq!(line.to_string(), "a line is not 72 digits (0 to 9, a to f) and a line feed, at line 3 (refusal 29)");
-        assert!(line.what().contains(&format!(" {} digits ", lines::DIGITS)));
+        let old = Refusal::BadOldLine(Place::Line(3));
+        assert_eq!(old.to_string(), "a line is not 64 digits (0 to 9, a to f) and a line feed, at line 3 (refusal 29)");
+        for line in [line, old] {
+            assert!(line.what().contains(&format!(" {} digits ", line.digits())));
+        }
         let full = Refusal::TableFull(Place::Line(3));
         assert_eq!(full.to_string(), "the table has no room for another record, at line 3 (refusal 8)");
         assert_eq!(Refusal::NoTable(Place::Whole).to_string(), "the words form no table over this document (refusal 10)");

@@ -57,6 +57,17 @@ fn the_lines_hold_the_table() {
 }
 
 #[test]
+fn the_old_lines_are_the_same_without_parents() {
+    let sample = |name: &str| std::fs::read_to_string(samples().join(name)).expect(name);
+    let cut: String = sample("reef.nbt.lines").lines().map(|line| format!("{}\n", &line[..64])).collect();
+    let old = sample("reef-old.lines");
+    assert_eq!(old, cut);
+    let refusal = Table::from_lines(old.as_bytes(), 110).unwrap_err();
+    let told = format!("refused with {} at {} where lines of nine words are wanted", refusal.number(), refusal.place().number());
+    assert!(rows().contains(&("reef-old.lines".to_owned(), told)));
+}
+
+#[test]
 fn every_file_is_told_of() {
     let mut told: Vec<String> = rows().into_iter().map(|(file, _)| file).collect();
     let names =

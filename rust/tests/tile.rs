@@ -1,7 +1,10 @@
 //! The command `tile`, run on the samples.
+use std::fs::Permissions;
 use std::io::Write;
-use std::path::PathBuf;
+use std::os::unix::fs::{MetadataExt, PermissionsExt};
+use std::path::{Path, PathBuf};
 use std::process::{Command, Output, Stdio};
+use tikfazrul::{Place, Refusal};
 
 fn samples() -> PathBuf {
     PathBuf::from(env!("CARGO_MANIFEST_DIR")).join("../samples")
@@ -262,6 +265,59 @@ fn a_wrong_use_of_lines_says_what_is_right() {
     }
 }
 
+/// `tile lines` with these words is wrong, and says so.
+fn wrong_lines(args: &[&str], words: &str) {
+    let wanted = format!("tile: {words}\ntile --help tells what there is\n");
+    assert_eq!(tile(&[&["lines"], args].concat()), (String::new(), wanted, 2), "{args:?}");
+}
+
+#[test]
+fn a_move_wants_one_way_and_a_length() {
+    let length = "--length wants the number of bytes that the document has";
+    let both = "lines are moved --up or --down, not both";
+    for (args, words) in [
+        (&["--up", "reef-old.lines"][..], "--up wants to know how many bytes the document has: --length N"),
+        (&["--down", "reef.nbt.lines"], "--down wants to know how many bytes the document has: --length N"),
+        (&["--up"], "--up wants to know how many bytes the document has: --length N"),
+        (&["--up", "--down", "--length", "110", "reef-old.lines"], both),
+        (&["--down", "--length", "110", "reef-old.lines", "--up"], both),
+        (&["--length", "110", "reef.nbt"], "--length goes with lines --up and lines --down"),
+        (&["--in-place", "reef.nbt"], "--in-place goes with lines --up and lines --down"),
+        (&["--up", "reef-old.lines", "--length"], length),
+        (&["--up", "--length", "", "reef-old.lines"], length),
+        (&["--up", "--length", "-110", "reef-old.lines"], length),
+        (&["--up", "--length", "+110", "reef-old.lines"], length),
+        (&["--up", "--length", "0x6e", "reef-old.lines"], length),
+        (&["--up", "--length", "reef-old.lines"], length),
+    ] {
+        wrong_lines(args, words);
+    }
+    for (option, command) in [("--up", "check"), ("--down", "list")] {
+        let wanted = format!("tile: {option} goes with lines\ntile --help tells what there is\n");
+        assert_eq!(tile(&[command, option, "--length", "110", "reef.nbt"]), (String::new(), wanted, 2));
+    }
+}
+
+#[test]
+fn a_move_wants_lines_and_places_to_go_to() {
+    let two_places = "the moved lines go into the same file (--in-place) or where -o says, not both";
+    for (args, words) in [
+        (&[][..], "no file is given; - is standard input"),
+        (&["--lines", "reef-old.lines", "reef.nbt"], "--up takes each file itself as lines, so --lines has no place beside it"),
+        (&["--in-place", "reef-old.lines", "-o", "x"], two_places),
+        (&["--in-place", "reef-old.lines", "-o", "-"], two_places),
+        (&["--in-place", "reef-old.lines", "-"], "standard input is no file that could be replaced: --in-place wants files"),
+        (&["reef-old.lines", "a.lines"], "several files want a folder that is there: -o FOLDER"),
+        (&["reef-old.lines", "-o", "nowhere/"], "there is no folder nowhere/"),
+        (&["reef-old.lines", "./reef-old.lines", "-o", "."], "two files would be saved as reef-old.lines"),
+        (&["-", "-o", "."], "standard input has no name to be saved under in a folder"),
+        (&["--json", "reef-old.lines"], "--json goes with list, check, query and rescue"),
+        (&["--full", "reef-old.lines"], "--full goes with list and query"),
+    ] {
+        wrong_lines(&[&["--up", "--length", "110"], args].concat(), words);
+    }
+}
+
 #[test]
 fn help_teaches() {
     let (help, err, status) = tile(&["--help"]);
@@ -271,6 +327,9 @@ fn help_teaches() {
         let (about, _, status) = tile(&[command, "--help"]);
         assert_eq!(status, 0);
         assert!(about.starts_with(&format!("tile {command} ")), "{about}");
+    }
+    for text in [help, tile(&["lines", "--help"]).0] {
+        assert!(["--up", "--down", "--length N", "--in-place"].into_iter().all(|option| text.contains(option)), "{text}");
     }
 }
 
@@ -410,6 +469,11 @@ fn check_names_the_rescue_where_there_is_one() {
 /// The lines of reef.nbt, from the sample.
 fn reef_lines() -> String {
     std::fs::read_to_string(samples().join("reef.nbt.lines")).unwrap()
+}
+
+/// The same as they were before records had a parent.
+fn old_lines() -> String {
+    reef_lines().lines().map(|line| format!("{}\n", &line[..64])).collect()
 }
 
 #[test]
@@ -563,13 +627,17 @@ table 1,048,576 records or lines (refusal 9)
 #[test]
 fn lines_without_parents_and_with_wrong_ones_are_refused_with_words() {
     // what was kept when a record had eight words
-    let old: String = reef_lines().lines().map(|line| format!("{}\n", &line[..64])).collect();
     let before = "\
 reef.nbt: refused: the lines in WRONG are bad: a line is not 72 digits (0 to 9, a to f) and a line feed, at line 1 (refusal 29)
   0000000a00000003000000040000000000000000000000040000000000000005
                                                                   ^ 64 digits of 72: eight words, as lines had before parents were added
 ";
-    refused_lines("old.lines", &old, before);
+    let along = "  tile lines --up --length 110 WRONG -o … brings them along\n";
+    refused_lines("old.lines", &old_lines(), &[before, along].concat());
+    // a move is named only where it would do: not of both widths, and not of what forms no table
+    let both = [&old_lines()[..65], &reef_lines()[73..]].concat();
+    refused_lines("both.lines", &both, before);
+    refused_lines("fewer.lines", &old_lines()[..260], before);
     // Footprint in SceneId, and in itself
     let all_but_the_last = reef_lines().strip_suffix("0\n").unwrap().to_owned();
     refused_lines("sister.lines", &format!("{all_but_the_last}1\n"), NO_TABLE);
@@ -616,5 +684,151 @@ fn lines_take_the_place_of_nothing_that_they_are_made_from() {
     }
     assert_eq!(std::fs::read(doc).unwrap(), std::fs::read(samples().join("reef.nbt")).unwrap());
     assert_eq!(std::fs::read_to_string(lines).unwrap(), reef_lines());
+    std::fs::remove_dir_all(&folder).unwrap();
+}
+
+/// A folder of its own, with these files in it.
+fn folder_of(name: &str, files: &[(&str, &str)]) -> PathBuf {
+    let folder = scratch(name);
+    let _ = std::fs::remove_dir_all(&folder);
+    std::fs::create_dir_all(&folder).unwrap();
+    for (file, content) in files {
+        std::fs::write(folder.join(file), content).unwrap();
+    }
+    folder
+}
+
+/// The names and the contents of all files in a folder.
+fn contents(folder: &Path) -> Vec<(String, String)> {
+    let one = |entry: std::fs::DirEntry| (entry.file_name().into_string().unwrap(), std::fs::read_to_string(entry.path()).unwrap());
+    let mut files: Vec<_> = std::fs::read_dir(folder).unwrap().map(|entry| one(entry.unwrap())).collect();
+    files.sort();
+    files
+}
+
+fn named(files: &[(&str, &str)]) -> Vec<(String, String)> {
+    files.iter().map(|&(name, content)| (name.to_owned(), content.to_owned())).collect()
+}
+
+#[test]
+fn lines_are_moved_up_and_down() {
+    let (old, new) = (old_lines(), reef_lines());
+    assert_eq!(tile(&["lines", "--up", "--length", "110", "reef-old.lines"]), (new.clone(), String::new(), 0));
+    assert_eq!(tile(&["lines", "reef.nbt.lines", "--down", "--length", "110", "-o", "-"]), (old.clone(), String::new(), 0));
+    assert_eq!(fed(&["lines", "--up", "--length", "110", "-"], old.as_bytes()).stdout, new.as_bytes());
+    assert_eq!(fed(&["lines", "--down", "--length", "0110", "-"], new.as_bytes()).stdout, old.as_bytes());
+    // a file is written, and a folder holds the moved lines under the names that they had
+    let folder = folder_of("moved", &[]);
+    let (into, file) = (folder.to_str().unwrap(), folder.join("up.lines"));
+    assert_eq!(tile(&["lines", "--up", "--length", "110", "reef-old.lines", "-o", file.to_str().unwrap()]).2, 0);
+    let (out, err, status) = tile(&["lines", "--up", "--length", "110", "reef-old.lines", "reef.nbt.lines", "-o", into]);
+    assert_eq!((out.as_str(), status), ("", 1));
+    assert!(err.starts_with("tile: reef.nbt.lines: refused: a line is not 64 digits"), "{err}");
+    assert_eq!(contents(&folder), named(&[("reef-old.lines", &new), ("up.lines", &new)]));
+    assert_eq!(tile(&["check", "--lines", file.to_str().unwrap(), "reef.nbt"]).2, 0);
+    // and is not read and written at once
+    let up = file.to_str().unwrap();
+    let (_, err, status) = tile(&["lines", "--down", "--length", "110", up, "-o", up]);
+    assert_eq!((err, status), (format!("tile: {up}: is not written over itself; --in-place replaces it\n"), 2));
+    let (_, err, status) = tile(&["lines", "--up", "--length", "110", "nowhere.lines"]);
+    assert!(err.starts_with("tile: nowhere.lines: can't be read: "), "{err}");
+    assert_eq!(status, 2);
+    std::fs::remove_dir_all(&folder).unwrap();
+}
+
+#[test]
+fn lines_that_cannot_be_moved_are_refused_with_words() {
+    let (old, new) = (old_lines(), reef_lines());
+    let nine = "\
+a line is not 64 digits (0 to 9, a to f) and a line feed, at line 3 (refusal 29)
+  000000030000002800000009000000310000000400000000000000000000000300000000
+                                                                  ^ 72 digits for 64: nine words, as lines have since parents were added
+";
+    let eight = "\
+a line is not 72 digits (0 to 9, a to f) and a line feed, at line 1 (refusal 29)
+  0000000a00000003000000040000000000000000000000040000000000000005
+                                                                  ^ 64 digits of 72: eight words, as lines had before parents were added
+";
+    let unended = "\
+a line is not 64 digits (0 to 9, a to f) and a line feed, at line 5 (refusal 29)
+  0000000b00000048000000090000005500000018000000060000000000000005
+                                                                  ^ no line feed
+";
+    let over = Refusal::OverLimit(Place::Whole).to_string() + "\n";
+    let none = |length| format!("the words form no table over this document (refusal 10), which has {length} by --length\n");
+    let mixed = [&old[..130], &new[146..219], &old[195..]].concat();
+    let wrong = new.replacen("0500000000\n", "0500000001\n", 1);
+    for (way, length, lines, words) in [
+        ("--up", "110", &mixed, nine),
+        ("--down", "110", &old, eight),
+        ("--up", "110", &old[..324].to_owned(), unended),
+        ("--up", "110", &String::new(), &none("110 bytes")),
+        ("--up", "108", &old, &none("108 bytes")),
+        ("--down", "1", &new, &none("1 byte")),
+        ("--down", "110", &wrong, &none("110 bytes")),
+        ("--up", "16777217", &old, &over),
+        ("--down", "99999999999999999999999", &new, &over),
+    ] {
+        let answer = fed(&["lines", way, "--length", length, "-"], lines.as_bytes());
+        assert_eq!(String::from_utf8(answer.stderr).unwrap(), format!("tile: standard input: refused: {words}"));
+        assert_eq!((answer.stdout.len(), answer.status.code()), (0, Some(1)));
+    }
+    // the payload of Footprint ends at byte 109
+    assert_eq!(tile(&["lines", "--up", "--length", "109", "reef-old.lines"]).2, 0);
+}
+
+#[test]
+fn files_are_replaced_by_their_moved_lines() {
+    let (old, new) = (old_lines(), reef_lines());
+    let folder = folder_of("in-place", &[("a.lines", &old), ("b.lines", &new), ("c.lines", &old), ("d.lines", &old[..324])]);
+    let path = |name: &str| folder.join(name).to_str().unwrap().to_owned();
+    let link = scratch("in-place-link");
+    let _ = std::fs::remove_file(&link);
+    std::os::unix::fs::symlink(path("c.lines"), &link).unwrap();
+    for (name, mode) in [("a.lines", 0o640), ("b.lines", 0o400), ("c.lines", 0o604)] {
+        std::fs::set_permissions(path(name), Permissions::from_mode(mode)).unwrap();
+    }
+    // only a superuser may give files away
+    let given = std::os::unix::fs::chown(path("a.lines"), Some(1234), Some(2345)).is_ok();
+    let before = |name: &str| std::fs::metadata(path(name)).unwrap();
+    let (b, d) = (before("b.lines"), before("d.lines"));
+    let files = [&path("a.lines"), &path("b.lines"), link.to_str().unwrap(), &path("d.lines")];
+    let (out, err, status) = tile(&[&["lines", "--up", "--length", "110", "--in-place"], &files[..]].concat());
+    assert_eq!((out.as_str(), status), ("", 1));
+    assert_eq!(err.matches(": refused: a line is not 64 digits").count(), 2, "{err}");
+    // two are replaced, two are the very files that they were, and nothing is left over
+    let wanted = [("a.lines", &new[..]), ("b.lines", &new), ("c.lines", &new), ("d.lines", &old[..324])];
+    assert_eq!(contents(&folder), named(&wanted));
+    for (name, mode) in [("a.lines", 0o640), ("b.lines", 0o400), ("c.lines", 0o604)] {
+        assert_eq!(before(name).mode() & 0o7777, mode, "{name}");
+    }
+    assert_eq!((before("a.lines").uid(), before("a.lines").gid()) == (1234, 2345), given);
+    for (then, name) in [(b, "b.lines"), (d, "d.lines")] {
+        let now = before(name);
+        assert_eq!((then.ino(), then.mtime(), then.mtime_nsec()), (now.ino(), now.mtime(), now.mtime_nsec()), "{name}");
+    }
+    assert!(std::fs::symlink_metadata(&link).unwrap().is_symlink());
+    // and back
+    assert_eq!(tile(&["lines", "--down", "--length", "110", "--in-place", files[0], files[2]]), (String::new(), String::new(), 0));
+    assert_eq!(contents(&folder)[..3], named(&[("a.lines", &old), ("b.lines", &new), ("c.lines", &old)]));
+    std::fs::remove_dir_all(&folder).unwrap();
+    std::fs::remove_file(&link).unwrap();
+}
+
+/// Where the new file can't be written, as on a full disk.
+#[test]
+fn a_file_stays_where_its_moved_lines_cannot_be_written() {
+    let folder = folder_of("no-room", &[("a.lines", &old_lines())]);
+    let file = folder.join("a.lines");
+    let then = std::fs::metadata(&file).unwrap();
+    // no file may grow, and a write beyond that is an error and not the end
+    let script = "trap '' XFSZ; ulimit -f 0; exec \"$0\" lines --up --length 110 --in-place \"$1\"";
+    let tile = Command::new("sh").args(["-c", script, env!("CARGO_BIN_EXE_tile")]).arg(&file).output().expect("sh");
+    let words = String::from_utf8(tile.stderr).unwrap();
+    assert!(words.starts_with(&format!("tile: {}: can't be written: ", file.display())), "{words}");
+    assert_eq!((tile.stdout.len(), tile.status.code()), (0, Some(2)));
+    assert_eq!(contents(&folder), named(&[("a.lines", &old_lines())]));
+    let now = std::fs::metadata(&file).unwrap();
+    assert_eq!((then.ino(), then.mode(), then.mtime_nsec()), (now.ino(), now.mode(), now.mtime_nsec()));
     std::fs::remove_dir_all(&folder).unwrap();
 }

@@ -1,55 +1,12 @@
 /* Keeps tables as lines and reads them back, from C: each refusal and what it leaves, rooms one short, and the limits that are too large for the
  * other programs. See tests/ffi/run. */
-#include "tree.h"
-
-/* The bytes of a line, the lines that there may be, and the bytes of a document. */
-static const size_t LINE = 73, MOST = 1048576, LONGEST = 16777216;
-
-/* A literal without the zero byte behind it. */
-#define BYTES(s) (s), sizeof(s) - 1
-
-/* The records of a marked document of 01, and their lines. */
-#define DOC "\x0A\0\1a\1\0\1b\xFF\0"
-static const uint32_t two[] = {10, 3, 1, 0, 0, 1, 0, 2, 0, 1, 7, 1, 8, 1, 0, 0, 2, 0};
-#define OLD_ROOT "0000000a00000003000000010000000000000000000000010000000000000002"
-#define OLD_ENTRY "0000000100000007000000010000000800000001000000000000000000000002"
-#define ROOT OLD_ROOT "00000000"
-#define ENTRY OLD_ENTRY "00000000"
-#define TWO ROOT "\n" ENTRY "\n"
-
-static const char DIGITS[] = "0123456789abcdef";
-
-/* The lines of so many records. */
-static uint8_t *lines_of(const uint32_t *words, size_t records)
-{
-    uint8_t *lines = lent(LINE * records);
-    for (size_t n = 0; n < records; n++) {
-        for (size_t i = 0; i < LINE - 1; i++)
-            lines[LINE * n + i] = DIGITS[words[TIKFAZRUL_WORDS * n + i / 8] >> (28 - i % 8 * 4) & 15];
-        lines[LINE * n + LINE - 1] = '\n';
-    }
-    return lines;
-}
-
-/* What may be wrong with a call: its answer, what it reads from, what it makes, what else it is lent. */
-enum { ANSWER = 1, SOURCE = 2, MADE = 4, OTHER = 8 };
-
-/* Counts what holds of one call, or of many that are tried alike. */
-static void judge(const char *what, int wrong)
-{
-    if (wrong)
-        printf("in %s:\n", what);
-    expect(what, !(wrong & ANSWER));
-    expect("what is read from is as it was", !(wrong & SOURCE));
-    expect("the lines or the words made, or zero words", !(wrong & MADE));
-    expect("no other byte or word changes", !(wrong & OTHER));
-}
+#include "lines.h"
 
 /* Writes into so many bytes; refused with the number unless that is 0. What is wrong of it. */
 static int writing(size_t doc_len, const uint32_t *t, size_t words, size_t room, uint64_t number)
 {
     size_t records = number ? 0 : words / TIKFAZRUL_WORDS, made = LINE * records, i;
-    uint8_t *out = lent(room), *wanted = lines_of(t, records);
+    uint8_t *out = lent(room), *wanted = lines_of(t, records, 9);
     uint32_t *before = lent(4 * words);
     uint64_t a[8];
     int wrong = 0;
@@ -137,19 +94,9 @@ static void there_and_back(void)
 /* Parents that are not 0, in the last word of a line (02, [7]). */
 static void parents(void)
 {
-    static const char wanted[] = "0000000a0000000300000000000000000000000000000002000000000000000b" "00000000\n"
-                                 "0000000a0000000600000001000000000000000000000002000000000000000a" "00000000\n"
-                                 "000000090000000a000000010000000000000000000000020000000900000009" "00000001\n"
-                                 "0000000900000000000000000000000000000000000000020000000100000006" "00000002\n"
-                                 "0000000100000000000000000000001500000001000000000000000000000005" "00000003\n"
-                                 "0000000100000000000000000000001600000001000000000000000000000006" "00000003\n"
-                                 "0000000900000000000000000000000000000000000000010000000a00000009" "00000002\n"
-                                 "0000000a00000000000000000000000000000000000000010000000000000009" "00000006\n"
-                                 "000000010000001f000000010000002000000001000000000000000000000009" "00000007\n"
-                                 "000000010000002500000001000000260000000100000000000000000000000a" "00000001\n"
-                                 "000000080000002b000000010000002e0000000200000000000000000000000b" "00000000\n";
+    static const char wanted[] = TREE_LINES(KEPT);
     const size_t n = TREE_RECORDS * LINE;
-    uint8_t *lines = lines_of(tree, TREE_RECORDS);
+    uint8_t *lines = lines_of(tree, TREE_RECORDS, 9);
     uint32_t t[TREE_WORDS];
     uint64_t a[8];
     expect("the tree's lines", sizeof wanted == n + 1 && !memcmp(lines, wanted, n));
@@ -168,7 +115,7 @@ static void wrong_parent(void)
     uint32_t t[TREE_WORDS];
     for (size_t i = 0; i < WRONG_PARENTS; i++) {
         tree_with(t, wrong_parents[i].record, wrong_parents[i].parent);
-        uint8_t *lines = lines_of(t, TREE_RECORDS);
+        uint8_t *lines = lines_of(t, TREE_RECORDS, 9);
         write_is(wrong_parents[i].what, TREE_BYTES, t, TREE_WORDS, n, 10);
         read_is("taken from lines", lines, n, TREE_WORDS, TREE_RECORDS, t);
         free(lines);
@@ -225,18 +172,11 @@ static void no_table(void)
     judge("another number of words, also one that is no multiple of 9, is 10", wrong);
 }
 
-/* Every digit, and the longest document, whose end a name and a string have. */
 static void longest(void)
 {
-    static const char wanted[] = "0000000a00abcdef00012345000000000000000000000002000000000000000300000000\n"
-                                 "0000000700fedcba00000098008765430078900f0078900f000000000000000200000000\n"
-                                 "000000080100000000000000000000000100000000000000000000000000000300000000\n";
-    uint32_t t[27];
-    uint8_t *lines;
-    put(t, 0, 10, 0xABCDEF, 0x12345, 0, 0, 2, 0, 3, 0);
-    put(t, 1, 7, 0xFEDCBA, 0x98, 0x876543, 0x78900F, 0x78900F, 0, 2, 0);
-    put(t, 2, 8, 0x1000000, 0, 0, 0x1000000, 0, 0, 3, 0);
-    lines = lines_of(t, 3);
+    static const char wanted[] = LONGEST_LINES(KEPT);
+    const uint32_t *t = longest_words;
+    uint8_t *lines = lines_of(t, 3, 9);
     expect("the lines of three records", sizeof wanted == 3 * LINE + 1 && !memcmp(lines, wanted, 3 * LINE));
     write_is("a document of 16,777,216 bytes", LONGEST, t, 27, 3 * LINE, 0);
     write_is("in one of a byte less a span ends too late: 10", LONGEST - 1, t, 27, 3 * LINE, 10);
@@ -273,7 +213,7 @@ static void cut_anywhere(void)
     int wrong = 0;
     memcpy(t, two, sizeof two);
     t[18] = 0xABCDEF01;
-    lines = lines_of(t, 3);
+    lines = lines_of(t, 3, 9);
     for (size_t n = 0; n <= 3 * LINE; n++) {
         for (size_t room = 0; room < 4 * TIKFAZRUL_WORDS + 2; room++) {
             size_t whole = n / LINE, records = room / TIKFAZRUL_WORDS;
@@ -372,7 +312,7 @@ static void bad_lines(void)
 /* Lines of eight words, as tables were kept before records had a parent (02, [7]): none is taken, also where they have as many bytes as new ones. */
 static void old_lines(void)
 {
-    const size_t old = sizeof OLD_ROOT;
+    const size_t old = OLD_LINE;
     uint8_t *lines = lent(LINE * old);
     for (size_t i = 0; i < LINE; i++)
         memcpy(lines + i * old, i ? OLD_ENTRY "\n" : OLD_ROOT "\n", old);
@@ -380,16 +320,6 @@ static void old_lines(void)
     refused("with as many words as they have", lines, 2 * old, 16, 29, 1);
     refused("73 of them, with bytes for 65 others", lines, LINE * old, LINE * TIKFAZRUL_WORDS, 29, 1);
     free(lines);
-}
-
-/* The root and leaves, as many records as a table may have, over the longest document, and one more leaf behind; no two are the same. */
-static uint32_t *leaves(void)
-{
-    uint32_t *t = lent_records(MOST + 1);
-    put(t, 0, 10, 0, 0, 0, 0, MOST - 1, 0, MOST, 0);
-    for (uint32_t i = 1; i <= MOST; i++)
-        put(t, i, 1, 16 * i, i % 16, LONGEST - i, 1, 0, 0, i + 1, 0);
-    return t;
 }
 
 /* Words up to the limit and beyond. */
@@ -407,17 +337,13 @@ static void most_written(uint32_t *t)
     put(t, 0, 10, 0, 0, 0, 0, MOST - 1, 0, MOST, 0);
 }
 
-/* Parents as far behind as they may be: the last three records stand in each other. */
 static void far_parents(uint32_t *t)
 {
     const size_t words = TIKFAZRUL_WORDS * MOST, n = LINE * MOST;
     uint8_t *lines;
-    put(t, 0, 10, 0, 0, 0, 0, MOST - 3, 0, MOST, 0);
-    put(t, MOST - 3, 10, 0, 1, 0, 0, 1, 0, MOST, 0);
-    put(t, MOST - 2, 9, 0, 2, 0, 0, 1, 1, MOST, MOST - 3);
-    put(t, MOST - 1, 1, 0, 0, 3, 1, 0, 0, MOST, MOST - 2);
+    nest_last(t);
     write_is("the last three in each other", LONGEST, t, words, n, 0);
-    lines = lines_of(t, MOST);
+    lines = lines_of(t, MOST, 9);
     expect("whose parents have five digits", !memcmp(lines + n - LINE - 9, "000ffffd\n", 9) && !memcmp(lines + n - 9, "000ffffe\n", 9));
     read_is("read back", lines, n, words, MOST, t);
     free(lines);
@@ -431,7 +357,7 @@ static void far_parents(uint32_t *t)
 static void most_read(const uint32_t *t)
 {
     const size_t words = TIKFAZRUL_WORDS * MOST, n = LINE * MOST;
-    uint8_t *lines = lines_of(t, MOST + 1);
+    uint8_t *lines = lines_of(t, MOST + 1, 9);
     read_is("1,048,576 lines", lines, n, words, MOST, t);
     read_is("with room for more", lines, n, words + 11, MOST, t);
     refused("a word of room short is 8 at the last", lines, n, words - 1, 8, MOST);

@@ -15,6 +15,7 @@ use Rattle.form.specs.Reading.{countsOf, reading, tableAfter}
 use Rattle.form.specs.Writing.{WriteIs, lengthOf, outputAfter}
 use Rattle.form.specs.Cut.{rescuing, sizesOf, bytesAfter, linesAfter}
 use Rattle.form.specs.Stored.{WriteLinesIs, readingLines, recordsOf, wordsAfter}
+use Rattle.form.specs.Moved.{Edition, MoveIs}
 use Rattle.form.specs.Query.{Count, QueryIs}
 use Rattle.text_form.specs.Lexing.{lexed, content}
 use Rattle.text_form.specs.Text as text
@@ -72,6 +73,12 @@ pub record WriteLinesCalled (d : ℕ) (t o o′ answer : List ℕ) : Type 0 wher
 pub record ReadLinesCalled (s t t′ answer : List ℕ) : Type 0 where
   pub answer-is : answer ≡ countWords (recordsOf (readingLines s t))
   pub table-is : t′ ≡ wordsAfter (readingLines s t) t
+
+-- Moving lines of edition e to the other edition, over a document of d bytes ([8]): the answer in the words, and every byte of the output.
+pub record MoveCalled (e : Edition) (d : ℕ) (s o o′ answer : List ℕ) : Type 0 where
+  pub result : Out ℕ
+  pub is : MoveIs e d s o result o′
+  pub words-are : answer ≡ countWords result
 
 -- A query: rule 9's answer in the words, and every word of the list.
 pub record QueryCalled (doc t q l l′ answer : List ℕ) : Type 0 where

@@ -19,7 +19,8 @@ use Rattle.form.specs.Layout.{layout}
 use Rattle.form.specs.Tables.{IsTable, Within}
 use Rattle.form.specs.Reading.{One, countsOf, tableAfter, reading, roomOf}
 use Rattle.form.specs.Writing.{Gives, outputAfter, lengthOf, WriteIs, judged, written}
-use Rattle.form.specs.Stored.{WriteLinesIs, storing, readingLines, recordsOf, wordsAfter}
+use Rattle.form.specs.Stored.{WriteLinesIs, tableLines, fitting, storing, readingLines, recordsOf, wordsAfter}
+use Rattle.form.specs.Moved.{Edition, other, treeIn, treeLines, MoveIs}
 use Rattle.form.specs.Cut as cut
 use Rattle.form.specs.Cut.{Line, Rescue, saved, lineWords, rescuing, sizesOf, bytesAfter, linesAfter}
 use Rattle.form.specs.Query.{Count, counted, failed, Answered, matched, within, asked, countOf, listAfter, Finds, QueryIs}
@@ -28,22 +29,24 @@ use Rattle.form.proofs.Answer.{got-no, guard-got, bind-got}
 use Rattle.form.proofs.Table.{over-length, flat-length, size-one}
 use Rattle.form.proofs.Payloads.{room-fits}
 use Rattle.form.proofs.Outcomes.{same-list, both, in-each-case}
-use Rattle.form.proofs.Stored.{storing-got}
+use Rattle.form.proofs.Stored.{fitting-got}
 use Rattle.text_form.specs.Lexing.{among, Lexed, found, ended, judgedText, onCharacter, lexed, contentOf, content}
 use Rattle.text_form.specs.Text.{Block, parsed, documentOf, lengthsOf}
 use Rattle.text_form.specs.Text as text
 use Rattle.calls.specs.Words.{refusal, readWords, countWords, rescueWords, queryWords, tokenWords, stopsOf, parseWords, verdictWords}
-use Rattle.calls.specs.Calls.{StringCalled, ReadCalled, TableCalled, WriteCalled, RescueCalled, WriteLinesCalled, ReadLinesCalled, QueryCalled, TokenCalled, ContentCalled, ParseCalled}
+use Rattle.calls.specs.Calls.{StringCalled, ReadCalled, TableCalled, WriteCalled, RescueCalled, WriteLinesCalled, ReadLinesCalled, MoveCalled, QueryCalled, TokenCalled, ContentCalled, ParseCalled}
 use Rattle.demands.specs.Reading.{Bytes}
-use Rattle.demands.specs.Numbers.{readNumbers, writeNumbers, rescueNumbers, writeLinesNumbers, readLinesNumbers, queryNumbers, tokenNumbers, contentNumbers, parseNumbers}
+use Rattle.demands.specs.Numbers.{readNumbers, writeNumbers, rescueNumbers, writeLinesNumbers, readLinesNumbers, moveNumbers, queryNumbers, tokenNumbers, contentNumbers, parseNumbers}
 use Rattle.demands.specs.DemandOne.{Accepts, Refuses, Changed, Answers, Alone, DemandOne}
 use Rattle.demands.proofs.Judged.{then-got}
 use Rattle.demands.proofs.Reading.{sound}
 use Rattle.demands.proofs.Texts.{text-fills}
 use Rattle.demands.proofs.Numbers.{read-numbers, write-refusals, write-lines-refusals, read-lines-numbers, query-refusals, token-numbers, content-numbers, parse-numbers}
 use Rattle.demands.proofs.Stored.{lines-are}
+use Rattle.demands.proofs.Decided.{in-each-move}
+use Rattle.demands.proofs.Moved.{move-refusals}
 use Rattle.demands.proofs.Rescue.{Way, rescue-way}
-use Rattle.demands.proofs.Outcomes.{one-table-called, one-write-called, one-write-lines-called, one-query-called}
+use Rattle.demands.proofs.Outcomes.{one-table-called, one-write-called, one-write-lines-called, one-move-called, one-query-called}
 
 -- ---- answers
 
@@ -191,7 +194,7 @@ write-answers doc t t′ o = record {
 
 lines-left : (d : ℕ) (t o : List ℕ) (r : Out ℕ) (o′ : List ℕ) → WriteLinesIs d t o r o′ → Left o o′ r
 lines-left d t o r o′ h =
-    cases-left o o′ (λ (_ : IsTable d t). storing t (length o)) r (λ _ bs e. storing-got t (length o) bs e .1) (h .large) (h .unfit) (h .fit)
+    cases-left o o′ (λ (_ : IsTable d t). storing t (length o)) r (λ _ bs e. fitting-got (tableLines t) (length o) bs e .1) (h .large) (h .unfit) (h .fit)
 
 write-lines-answers : (d : ℕ) (t o : List ℕ) → Answers (WriteLinesCalled d t o) writeLinesNumbers o o (λ a. getD a 2 0)
 write-lines-answers d t o = record {
@@ -208,7 +211,7 @@ read-lines-each s t t′ a r = go (readingLines s t) refl (r .answer-is) (r .tab
     go : (x : Out (List ℕ)) → readingLines s t ≡ x → a ≡ countWords (recordsOf x) → t′ ≡ wordsAfter x t
         → (Accepts a × Changed (9 * getD a 2 0) t t′) ⊎ (Refuses readLinesNumbers a × (t′ ≡ replicate (length t) 0))
     go (got ws) e w k =
-        let x = lines-are (length t / 9) s ws .0 e in
+        let x = lines-are 9 (length t / 9) s ws .0 e in
         rw (w, k) (inl ((_, refl, refl), over-changed (9 * (length ws / 9)) t ws (omega (arith, x .long)) (omega (arith, x .long, x .roomy))))
     go (refused n p) e w k = rw w (inr (refuses readLinesNumbers n p (read-lines-numbers 9 (length t / 9) s n p e), k))
 
@@ -216,6 +219,24 @@ read-lines-answers : (s t : List ℕ) → Answers (ReadLinesCalled s t) readLine
 read-lines-answers s t = record {
   one = λ t₁ t₂ a₁ a₂ p q. (p .table-is ∙ sym (q .table-is), p .answer-is ∙ sym (q .answer-is));
   each = read-lines-each s t;
+}
+
+-- ---- a move
+
+move-left : (e : Edition) (d : ℕ) (s o : List ℕ) (r : Out ℕ) (o′ : List ℕ) → MoveIs e d s o r o′ → Left o o′ r
+move-left e d s o r o′ h =
+    in-each-move e d s
+    (λ n p m. gives-left o o′ (refused n p) r (λ bs q. absurd (got-no (sym q))) (h .bad n p m))
+    (λ ws m u. gives-left o o′ (refused noTable 0) r (λ bs q. absurd (got-no (sym q))) (h .unfit ws m u))
+    (λ ws m t.
+    let lines = treeLines (other e) (treeIn e d ws t) in
+    gives-left o o′ (fitting lines (length o)) r (λ bs q. fitting-got lines (length o) bs q .1) (h .fit ws m t))
+
+move-answers : (e : Edition) (d : ℕ) (s o : List ℕ) → Answers (MoveCalled e d s o) moveNumbers o o (λ a. getD a 2 0)
+move-answers e d s o = record {
+  one = λ o₁ o₂ a₁ a₂ r q. let x = one-move-called e d s o a₁ a₂ o₁ o₂ r q in (x .1, x .0);
+  each = λ o′ a r. left-each moveNumbers o o′ a (r .result) (r .words-are) (move-left e d s o (r .result) o′ (r .is))
+      (λ n p q. move-refusals e d s o (r .result) o′ n p (r .is) q .0);
 }
 
 -- ---- a content
@@ -378,6 +399,7 @@ demand-one = record {
   rescue-table = λ form doc t t′ o o′ c c′ a r t″ b s. r .table-is ∙ sym (s .table-is);
   write-lines = write-lines-answers;
   read-lines = read-lines-answers;
+  move-lines = move-answers;
   query = query-answers;
   token = λ t start stops. record { one = alone-one (TokenCalled t start stops) (λ a₁ a₂ r s. r .answer-is ∙ sym (s .answer-is)); each = token-each t start stops };
   content = content-answers;

@@ -14,8 +14,10 @@ pub mod Judged
 pub mod Tabled
 pub mod Near
 pub mod Meant
+pub mod Decided
 pub mod Numbers
 pub mod Stored
+pub mod Moved
 pub mod Reading
 pub mod Tables
 pub mod Writing

@@ -16,7 +16,7 @@ use Rattle.form.specs.Table.{Head, Forest, none, node, size, _⊕_, holds, valu
 use Rattle.form.specs.Tables.{IsTable, Within}
 use Rattle.form.specs.Reading.{hasName, byteAt}
 use Rattle.form.specs.Writing.{stringFine, payloadFine, judged, written, lengthOf}
-use Rattle.form.specs.Stored.{TextLine, tableLines, storing, linesIn, isLine, eachLine, linesRead}
+use Rattle.form.specs.Stored.{TextLine, tableLines, fitting, storing, linesIn, isLine, eachLine, linesRead}
 use Rattle.form.specs.Query.{blamed, stepBy, stepAt, stepsAt, spelt, shallow, asked, Answered, matched, refused, within, failed, countOf}
 use Rattle.form.proofs.Outcomes.{both, in-each-case}
 use Rattle.form.proofs.Strings.{wellFormed-iff}
@@ -93,11 +93,11 @@ abbrev AtZero : Out ℕ → Type 0
 AtZero (got k) = Unit {0}
 AtZero (no n p) = (among writeLinesNumbers n ≡ true) × (p ≡ 0)
 
-storing-zero : (t : List ℕ) (room : ℕ) → AtZero (lengthOf (storing t room))
-unfolding storing among
-storing-zero t room = go (leb (length (tableLines t)) room)
+fitting-zero : (bs : List ℕ) (room : ℕ) → AtZero (lengthOf (fitting bs room))
+unfolding fitting among
+fitting-zero bs room = go (leb (length bs) room)
   where
-    go : (b : Bool) → AtZero (lengthOf (guard b 13 0 >> got (tableLines t)))
+    go : (b : Bool) → AtZero (lengthOf (guard b 13 0 >> got bs))
     go true = tt
     go false = (refl, refl)
 
@@ -108,7 +108,7 @@ write-lines-refusals d t o answer o′ n p w e =
     in-each-case {W = Within d t} {T = IsTable d t} (both (Bool-discrete (among writeLinesNumbers n) true) (ℕ-discrete p 0))
     (λ l. from (no 9 0) (refl, refl) (w .large l .answer-is))
     (λ l u. from (no 10 0) (refl, refl) (w .unfit l u .answer-is))
-    (λ l i. from (storing t (length o)) (storing-zero t (length o)) (w .fit l i .answer-is))
+    (λ l i. from (storing t (length o)) (fitting-zero (tableLines t) (length o)) (w .fit l i .answer-is))
   where
     from : (x : Out (List ℕ)) → AtZero (lengthOf x) → answer ≡ lengthOf x → (among writeLinesNumbers n ≡ true) × (p ≡ 0)
     from x h a = subst AtZero (sym a ∙ e) h

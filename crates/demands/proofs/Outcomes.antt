@@ -4,12 +4,14 @@ use Prim.Native.Nat.{ℕ}
 use mathlib.Core.Path.{_≡_, ap, sym, _∙_}
 use mathlib.Core.List.{List}
 use Rattle.form.specs.Tables.{IsTable, Within}
+use Rattle.form.specs.Moved.{Edition}
 use Rattle.form.proofs.Outcomes as outcomes
 use Rattle.form.proofs.Outcomes.{same-list, in-each-case}
 use Rattle.calls.specs.Words.{countWords, queryWords}
-use Rattle.calls.specs.Calls.{TableCalled, WriteCalled, WriteLinesCalled, QueryCalled}
+use Rattle.calls.specs.Calls.{TableCalled, WriteCalled, WriteLinesCalled, MoveCalled, QueryCalled}
 use Rattle.demands.specs.Outcomes.{IsOneWrite, IsOneQuery}
 use Rattle.demands.proofs.Stored.{one-write-lines}
+use Rattle.demands.proofs.Moved.{one-move}
 
 pub one-write : IsOneWrite
 one-write = outcomes.one-write
@@ -39,6 +41,12 @@ pub one-write-lines-called : (d : ℕ) (t o a₁ a₂ o₁ o₂ : List ℕ) → 
 one-write-lines-called d t o a₁ a₂ o₁ o₂ g h =
     let e = one-write-lines d t o (g .result) (h .result) o₁ o₂ (g .is) (h .is) in
     (g .words-are ∙ ap countWords (e .0) ∙ sym (h .words-are), e .1)
+
+-- Two outcomes of a move are one: the answer and the output.
+pub one-move-called : (e : Edition) (d : ℕ) (s o a₁ a₂ o₁ o₂ : List ℕ) → MoveCalled e d s o o₁ a₁ → MoveCalled e d s o o₂ a₂ → (a₁ ≡ a₂) × (o₁ ≡ o₂)
+one-move-called e d s o a₁ a₂ o₁ o₂ g h =
+    let q = one-move e d s o (g .result) (h .result) o₁ o₂ (g .is) (h .is) in
+    (g .words-are ∙ ap countWords (q .0) ∙ sym (h .words-are), q .1)
 
 -- Two outcomes of a query are one: the answer and the list.
 pub one-query-called : (doc t q l a₁ a₂ l₁ l₂ : List ℕ) → QueryCalled doc t q l l₁ a₁ → QueryCalled doc t q l l₂ a₂ → (a₁ ≡ a₂) × (l₁ ≡ l₂)

@@ -15,7 +15,7 @@ use Rattle.form.specs.Answer.{Out, got, no as refused, _>>=_, documentLimit, re
 use Rattle.form.specs.Spans.{over}
 use Rattle.form.specs.Tables.{IsTable, Within}
 use Rattle.form.specs.Writing.{Gives}
-use Rattle.form.specs.Stored.{TextLine, wordDigits, linesOf, tableLines, storing, linesIn, digitOf, allDigits, hexValue, isLine, wordsOf, eachLine, linesRead}
+use Rattle.form.specs.Stored.{TextLine, wordDigits, linesOf, tableLines, fitting, storing, linesIn, digitOf, allDigits, hexValue, isLine, wordsOf, eachLine, linesRead}
 use Rattle.form.specs.Stored.{readingLines, recordsOf, wordsAfter}
 use Rattle.form.proofs.Answer.{got-no, guard-got}
 use Rattle.form.proofs.Cut.{bind-no}
@@ -26,11 +26,12 @@ use Rattle.form.proofs.Places.{part-over}
 use Rattle.form.proofs.Tables.{table-length}
 use Rattle.form.proofs.Stored as laws
 use Rattle.form.proofs.Stored.{word-digits-length, word-digits-all, words-length, digits-back, words-small, no-lines, digits-line, Behind, first-line}
-use Rattle.form.proofs.Stored.{each-none, each-bad, each-full, each-good, Accepted, accepted, is-good, good-ended, good-long, good-digits, storing-fits, storing-got}
+use Rattle.form.proofs.Stored.{each-none, each-bad, each-full, each-good, Accepted, accepted, is-good, good-ended, good-long, good-digits, fitting-fits, fitting-got}
 use Rattle.text_form.specs.Lexing.{among}
 use Rattle.calls.specs.Words.{countWords}
 use Rattle.calls.specs.Calls.{WriteLinesCalled, ReadLinesCalled}
 use Rattle.demands.specs.Marked.{ascii}
+use Rattle.demands.specs.Numbers.{writeLinesNumbers}
 use Rattle.demands.specs.Stored.{Words, AreLines, IsLinesAre, Fault, FirstRefused, IsLinesRefused, IsLinesBack, IsWordsBack, IsOneWriteLines, examples, AreStoredExamples}
 use Rattle.demands.proofs.Numbers.{write-lines-refusals, read-lines-numbers}
 
@@ -139,12 +140,12 @@ module _ (w room : ℕ) where
 
 pub lines-are : IsLinesAre
 unfolding linesRead
-lines-are room s ws = (to, from)
+lines-are w room s ws = (to, from)
   where
-    to : linesRead 9 room s ≡ got ws → AreLines room s ws
+    to : linesRead w room s ≡ got ws → AreLines w room s ws
     to e =
         let a = guard-got (leb (length (linesIn s)) recordLimit) _ _ _ e in
-        let x = accepted-whole 9 room (linesIn s) 1 s ws refl (omega arith) (a .1) in
+        let x = accepted-whole w room (linesIn s) 1 s ws refl (omega arith) (a .1) in
         record {
           records = length (linesIn s);
           long = x .long;
@@ -154,11 +155,11 @@ lines-are room s ws = (to, from)
           these = x .these;
         }
 
-    from : AreLines room s ws → linesRead 9 room s ≡ got ws
+    from : AreLines w room s ws → linesRead w room s ≡ got ws
     from x =
-        let lines = linesIn (linesOf 9 (x .records) ws) in
-        let few : length lines ≤ recordLimit = omega (arith, lines-many 9 (x .records) ws, x .few) in
-        rw (x .these, le-leb (length lines) recordLimit few) (lines-accepted 9 room (x .records) 1 ws (x .long) (x .small) (omega (arith, x .roomy)))
+        let lines = linesIn (linesOf w (x .records) ws) in
+        let few : length lines ≤ recordLimit = omega (arith, lines-many w (x .records) ws, x .few) in
+        rw (x .these, le-leb (length lines) recordLimit few) (lines-accepted w room (x .records) 1 ws (x .long) (x .small) (omega (arith, x .roomy)))
 
 -- ---- lines that are refused
 
@@ -216,12 +217,12 @@ module _ (w room : ℕ) where
 
 pub lines-refused : IsLinesRefused
 unfolding linesRead
-lines-refused room s n p e =
+lines-refused w room s n p e =
     ⊎-elim
     (λ many.
     let same : _≡_ {A = Out (List ℕ)} (refused 9 0) (refused n p) = rw (lt-leb (length (linesIn s)) recordLimit many) at e in
     inl (many, cc, cc))
-    (λ few. inr (few, first-refused 9 room (linesIn s) 1 n p (omega arith) (rw (le-leb (length (linesIn s)) recordLimit few) at e)))
+    (λ few. inr (few, first-refused w room (linesIn s) 1 n p (omega arith) (rw (le-leb (length (linesIn s)) recordLimit few) at e)))
     (lt-or recordLimit (length (linesIn s)))
 
 -- ---- one outcome
@@ -231,23 +232,31 @@ one-write-lines = outcomes.one-write-lines
 
 -- ---- there and back
 
+-- An answer that counts c is no refusal, where no refusal has the number 0.
+pub counted-is : (numbers : List ℕ) (r : Out ℕ) (c : ℕ) → among numbers 0 ≡ false → ((n p : ℕ) → r ≡ refused n p → among numbers n ≡ true)
+    → countWords r ≡ 0 ∷ 0 ∷ c ∷ 0 ∷ 0 ∷ 0 ∷ 0 ∷ 0 ∷ [] → r ≡ got c
+counted-is numbers (got m) c z f w = cc
+counted-is numbers (refused n p) c z f w =
+    let number : n ≡ 0 = cc in
+    absurd (false≢true (sym z ∙ subst (λ (k : ℕ). among numbers k ≡ true) number (f n p refl)))
+
 -- Bytes that are counted are those that were given.
 gives-bytes : (x : Out (List ℕ)) (o o′ : List ℕ) (c : ℕ) → Gives x o (got c) o′ → (bs : List ℕ) × (x ≡ got bs) × (c ≡ length bs) × (o′ ≡ over o 0 bs)
 gives-bytes (got bs) o o′ c g = (bs, refl, cc (g .answer-is), g .output-is)
 gives-bytes (refused n p) o o′ c g = absurd (got-no (g .answer-is))
 
 -- A table's lines are those of its words, which are whole records within the limit.
-table-lines : (d : ℕ) (t : List ℕ) → Within d t → IsTable d t → Words t → (room : ℕ) → length t / 9 ≤ room → AreLines room (tableLines t) t
+table-lines : (d : ℕ) (t : List ℕ) → Within d t → IsTable d t → Words t → (room : ℕ) → length t / 9 ≤ room → AreLines 9 room (tableLines t) t
 table-lines d t within table small room fits =
     let long = table-length d t table in
     record { records = length t / 9; long = omega arith; small = small; few = omega (arith, within .words); roomy = fits; these = refl }
 
--- The bytes that an accepted write of lines counts are the table's lines.
-written-lines : (t o o′ : List ℕ) (c : ℕ) → Gives (storing t (length o)) o (got c) o′ → take c o′ ≡ tableLines t
-written-lines t o o′ c g =
-    let x = gives-bytes (storing t (length o)) o o′ c g in
-    let bs = x .0 in
-    ap (λ (m : ℕ). take m o′) (x .2) ∙ ap (take (length bs)) (x .3) ∙ part-over o 0 bs (omega arith) ∙ storing-got t (length o) bs (x .1) .0
+-- The bytes counted where bytes had room are those.
+pub written-bytes : (bs o o′ : List ℕ) (c : ℕ) → Gives (fitting bs (length o)) o (got c) o′ → take c o′ ≡ bs
+written-bytes bs o o′ c g =
+    let x = gives-bytes (fitting bs (length o)) o o′ c g in
+    let cs = x .0 in
+    ap (λ (m : ℕ). take m o′) (x .2) ∙ ap (take (length cs)) (x .3) ∙ part-over o 0 cs (omega arith) ∙ fitting-got bs (length o) cs (x .1) .0
 
 -- In each of the promise's cases: the write was accepted, so it is no refusal, and whether the words come back can be decided.
 pub lines-back : IsLinesBack
@@ -258,47 +267,42 @@ lines-back d t o o′ a small k c words u u′ b fits r =
     (λ l n. absurd (got-no (sym accepted-is ∙ k .is .unfit l n .answer-is)))
     back
   where
-    counted : (x : Out ℕ) → k .result ≡ x → countWords x ≡ 0 ∷ 0 ∷ c ∷ 0 ∷ 0 ∷ 0 ∷ 0 ∷ 0 ∷ [] → x ≡ got c
-    counted (got m) e w = cc
-    counted (refused n p) e w =
-        let number : n ≡ 0 = cc in
-        absurd (false≢true (rw number at (write-lines-refusals d t o (k .result) o′ n p (k .is) e .0)))
-
     accepted-is : k .result ≡ got c
-    accepted-is = counted (k .result) refl (sym (k .words-are) ∙ words)
+    accepted-is =
+        counted-is writeLinesNumbers (k .result) c refl (λ n p e. write-lines-refusals d t o (k .result) o′ n p (k .is) e .0) (sym (k .words-are) ∙ words)
 
     back : Within d t → IsTable d t → (b ≡ 0 ∷ 0 ∷ length t / 9 ∷ 0 ∷ 0 ∷ 0 ∷ 0 ∷ 0 ∷ []) × (u′ ≡ over u 0 t)
     back within table =
-        let lines = written-lines t o o′ c (subst (λ (x : Out ℕ). Gives (storing t (length o)) o x o′) accepted-is (k .is .fit within table)) in
-        let read = lines-are (length u / 9) (tableLines t) t .1 (table-lines d t within table small (length u / 9) (omega arith)) in
+        let lines = written-bytes (tableLines t) o o′ c (subst (λ (x : Out ℕ). Gives (storing t (length o)) o x o′) accepted-is (k .is .fit within table)) in
+        let read = lines-are 9 (length u / 9) (tableLines t) t .1 (table-lines d t within table small (length u / 9) (omega arith)) in
         let e : readingLines (take c o′) u ≡ got t = ap (linesRead 9 (length u / 9)) lines ∙ read in
         (r .answer-is ∙ ap (λ x. countWords (recordsOf x)) e, r .table-is ∙ ap (λ x. wordsAfter x u) e)
 
 -- The bytes of an accepted read are the lines of the records that it counts.
-read-lines : (s t t′ a : List ℕ) → ReadLinesCalled s t t′ a → (n : ℕ) → a ≡ 0 ∷ 0 ∷ n ∷ 0 ∷ 0 ∷ 0 ∷ 0 ∷ 0 ∷ [] → AreLines (length t / 9) s (take (9 * n) t′)
+read-lines : (s t t′ a : List ℕ) → ReadLinesCalled s t t′ a → (n : ℕ) → a ≡ 0 ∷ 0 ∷ n ∷ 0 ∷ 0 ∷ 0 ∷ 0 ∷ 0 ∷ [] → AreLines 9 (length t / 9) s (take (9 * n) t′)
 unfolding among
 read-lines s t t′ a r n words = go (readingLines s t) refl (sym (r .answer-is) ∙ words) (r .table-is)
   where
     go : (x : Out (List ℕ)) → readingLines s t ≡ x → countWords (recordsOf x) ≡ 0 ∷ 0 ∷ n ∷ 0 ∷ 0 ∷ 0 ∷ 0 ∷ 0 ∷ [] → t′ ≡ wordsAfter x t
-        → AreLines (length t / 9) s (take (9 * n) t′)
+        → AreLines 9 (length t / 9) s (take (9 * n) t′)
     go (got ws) e w table =
-        let x = lines-are (length t / 9) s ws .0 e in
+        let x = lines-are 9 (length t / 9) s ws .0 e in
         let counted : length ws / 9 ≡ n = cc in
         let all : 9 * n ≡ length ws = omega (arith, x .long) in
         let same : take (9 * n) t′ ≡ ws = ap (λ (k : ℕ). take k t′) all ∙ ap (take (length ws)) table ∙ part-over t 0 ws (omega arith) in
-        subst (AreLines (length t / 9) s) (sym same) x
+        subst (AreLines 9 (length t / 9) s) (sym same) x
     go (refused m p) e w table =
         let number : m ≡ 0 = cc in
         absurd (false≢true (rw number at (read-lines-numbers 9 (length t / 9) s m p e)))
 
 -- Words that form a table are written as their lines.
-lines-written : (room d : ℕ) (s ws o o′ b : List ℕ) → AreLines room s ws → d ≤ documentLimit → IsTable d ws → length s ≤ length o → WriteLinesCalled d ws o o′ b
+lines-written : (room d : ℕ) (s ws o o′ b : List ℕ) → AreLines 9 room s ws → d ≤ documentLimit → IsTable d ws → length s ≤ length o → WriteLinesCalled d ws o o′ b
     → (b ≡ 0 ∷ 0 ∷ length s ∷ 0 ∷ 0 ∷ 0 ∷ 0 ∷ 0 ∷ []) × (o′ ≡ over o 0 s)
 lines-written room d s ws o o′ b x small table fits k =
     let within : Within d ws = record { bytes = small; words = omega (arith, x .long, x .few) } in
     let many : length ws / 9 ≡ x .records = omega (arith, x .long) in
     let same : tableLines ws ≡ s = ap (λ (r : ℕ). linesOf 9 r ws) many ∙ sym (x .these) in
-    let e : storing ws (length o) ≡ got s = storing-fits ws (length o) (omega (arith, ap length same)) ∙ ap got same in
+    let e : storing ws (length o) ≡ got s = fitting-fits (tableLines ws) (length o) (omega (arith, ap length same)) ∙ ap got same in
     let g = subst (λ (y : Out (List ℕ)). Gives y o (k .result) o′) e (k .is .fit within table) in
     (k .words-are ∙ ap countWords (g .answer-is), g .output-is)
 

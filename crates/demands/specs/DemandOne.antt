@@ -9,10 +9,11 @@ use mathlib.Core.List.{List, [], _∷_}
 use mathlib.Core.Bool.{true}
 use lib.ListN.{length, drop, getD, replicate}
 use Rattle.form.specs.Answer.{badString, overLimit, badText, moreMatches}
+use Rattle.form.specs.Moved.{Edition}
 use Rattle.text_form.specs.Lexing.{among}
-use Rattle.calls.specs.Calls.{Mutf8Called, Utf8Called, ReadCalled, TableCalled, WriteCalled, RescueCalled, WriteLinesCalled, ReadLinesCalled, QueryCalled, TokenCalled, ContentCalled, ParseCalled}
+use Rattle.calls.specs.Calls.{Mutf8Called, Utf8Called, ReadCalled, TableCalled, WriteCalled, RescueCalled, WriteLinesCalled, ReadLinesCalled, MoveCalled, QueryCalled, TokenCalled, ContentCalled, ParseCalled}
 use Rattle.demands.specs.Reading.{Bytes}
-use Rattle.demands.specs.Numbers.{readNumbers, writeNumbers, rescueNumbers, writeLinesNumbers, readLinesNumbers, queryNumbers, tokenNumbers, contentNumbers, parseNumbers}
+use Rattle.demands.specs.Numbers.{readNumbers, writeNumbers, rescueNumbers, writeLinesNumbers, readLinesNumbers, moveNumbers, queryNumbers, tokenNumbers, contentNumbers, parseNumbers}
 
 -- The eight words accept: the first two are 0.
 abbrev pub Accepts : List ℕ → Type 0
@@ -56,6 +57,7 @@ pub record DemandOne : Type 0 where
   pub rescue-table : (form : ℕ) (doc t t′ o o′ c c′ a : List ℕ) → RescueCalled form doc t t′ o o′ c c′ a → (t″ b : List ℕ) → ReadCalled doc t t″ b → t′ ≡ t″
   pub write-lines : (d : ℕ) (t o : List ℕ) → Answers (WriteLinesCalled d t o) writeLinesNumbers o o (λ a. getD a 2 0)
   pub read-lines : (s t : List ℕ) → Answers (ReadLinesCalled s t) readLinesNumbers t (replicate (length t) 0) (λ a. 9 * getD a 2 0)
+  pub move-lines : (e : Edition) (d : ℕ) (s o : List ℕ) → Answers (MoveCalled e d s o) moveNumbers o o (λ a. getD a 2 0)
   pub query : (doc t q l : List ℕ) → Answers (QueryCalled doc t q l) queryNumbers l l (λ a. getD a 2 0)
   pub token : (t : List ℕ) (start stops : ℕ) → Answers (Alone (TokenCalled t start stops)) tokenNumbers [] [] (λ a. 0)
   pub content : (t : List ℕ) (start e quoted : ℕ) (o : List ℕ) → Answers (ContentCalled t start e quoted o) contentNumbers o o (λ a. getD a 2 0)

@@ -16,3 +16,4 @@ pub mod Marked
 pub mod Examples
 pub mod Cuts
 pub mod Stored
+pub mod Moved

@@ -1,17 +1,19 @@
 -- What is claimed of refusals: which of the numbers of documents 01 and 02 each call can refuse with, and no others. The proofs are in
--- proofs/Numbers.antt, under the names given here.
+-- proofs/Numbers.antt, those of a rescue and of a move in proofs/Rescue.antt and proofs/Moved.antt, under the names given here.
 -- Assumes nothing.
-use Prim.Native.Nat.{ℕ}
+use Prim.Native.Nat.{ℕ, _≤_}
 use mathlib.Core.Path.{_≡_}
 use mathlib.Core.List.{List, [], _∷_}
 use mathlib.Core.Bool.{Bool, true}
+use lib.ListN.{length}
 use Rattle.form.specs.Answer.{Out, no}
 use Rattle.form.specs.Table.{Head, Forest}
 use Rattle.form.specs.Reading.{documentAt}
 use Rattle.form.specs.Writing.{written, WriteIs}
 use Rattle.form.specs.Cut as cut
 use Rattle.form.specs.Cut.{rescued}
-use Rattle.form.specs.Stored.{WriteLinesIs, linesRead}
+use Rattle.form.specs.Stored.{badLine, WriteLinesIs, linesIn, linesRead}
+use Rattle.form.specs.Moved.{Edition, MoveIs}
 use Rattle.form.specs.Query.{asked, refused, within, Count, failed, QueryIs}
 use Rattle.text_form.specs.Lexing.{among, Stops, lexed, content}
 use Rattle.text_form.specs.Text.{parsed}
@@ -78,6 +80,16 @@ readLinesNumbers = 8 ∷ 9 ∷ 29 ∷ []
 -- `read-lines-numbers`: lines are refused with one of these.
 abbrev pub IsReadLinesNumbers : Type 0
 IsReadLinesNumbers = (w room : ℕ) (s : List ℕ) (n p : ℕ) → linesRead w room s ≡ no n p → among readLinesNumbers n ≡ true
+
+-- A move ([8]): over a limit, no table, output full, bad line.
+abbrev pub moveNumbers : List ℕ
+moveNumbers = 9 ∷ 10 ∷ 13 ∷ 29 ∷ []
+
+-- `move-refusals`: whoever keeps the promise of a move refuses with one of these: with 29 at a line's number, from 1 on, else at 0.
+abbrev pub IsMoveRefusals : Type 0
+IsMoveRefusals =
+    (e : Edition) (d : ℕ) (s o : List ℕ) (answer : Out ℕ) (o′ : List ℕ) (n p : ℕ) → MoveIs e d s o answer o′ → answer ≡ no n p
+    → (among moveNumbers n ≡ true) × ((n ≡ badLine → ⊥) → p ≡ 0) × (n ≡ badLine → (1 ≤ p) × (p ≤ length (linesIn s)))
 
 -- ---- queries
 

@@ -18,19 +18,19 @@ use Rattle.demands.specs.Marked.{ascii}
 abbrev pub Words : List ℕ → Type 0
 Words t = (i : ℕ) → getD t i 0 < 2 ^ 32
 
--- The bytes s are the lines of the words ws, which are whole records, within the limit and a room.
-pub record AreLines (room : ℕ) (s ws : List ℕ) : Type 0 where
+-- The bytes s are the lines of the words ws, which are whole records of w words, within the limit and a room.
+pub record AreLines (w room : ℕ) (s ws : List ℕ) : Type 0 where
   pub records : ℕ
-  pub long : length ws ≡ 9 * records
+  pub long : length ws ≡ w * records
   pub small : Words ws
   pub few : records ≤ recordLimit
   pub roomy : records ≤ room
-  pub these : s ≡ linesOf 9 records ws
+  pub these : s ≡ linesOf w records ws
 
--- `lines-are`: bytes are accepted with some words exactly if they are the lines of those words; no two texts have the same words, and no
--- text two lists of words.
+-- `lines-are`: bytes are accepted with some words exactly if they are the lines of those words, however many words a record has; no two texts
+-- have the same words, and no text two lists of words.
 abbrev pub IsLinesAre : Type 0
-IsLinesAre = (room : ℕ) (s ws : List ℕ) → linesRead 9 room s ≡ got ws ↔ AreLines room s ws
+IsLinesAre = (w room : ℕ) (s ws : List ℕ) → linesRead w room s ≡ got ws ↔ AreLines w room s ws
 
 -- Lines that are good, each of them.
 abbrev pub AllGood : ℕ → List TextLine → Type 0
@@ -56,8 +56,8 @@ pub record FirstRefused (w room k : ℕ) (lines : List TextLine) (n p : ℕ) : T
 -- numbered from 1.
 abbrev pub IsLinesRefused : Type 0
 IsLinesRefused =
-    (room : ℕ) (s : List ℕ) (n p : ℕ) → linesRead 9 room s ≡ no n p
-    → ((recordLimit < length (linesIn s)) × (n ≡ overLimit) × (p ≡ 0)) ⊎ ((length (linesIn s) ≤ recordLimit) × FirstRefused 9 room 1 (linesIn s) n p)
+    (w room : ℕ) (s : List ℕ) (n p : ℕ) → linesRead w room s ≡ no n p
+    → ((recordLimit < length (linesIn s)) × (n ≡ overLimit) × (p ≡ 0)) ⊎ ((length (linesIn s) ≤ recordLimit) × FirstRefused w room 1 (linesIn s) n p)
 
 -- `lines-back`: whoever writes the lines of a table, and reads the bytes written into as many words or more, gets the same words.
 abbrev pub IsLinesBack : Type 0

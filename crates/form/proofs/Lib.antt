@@ -20,12 +20,15 @@ pub mod Accepted
 pub mod Agrees
 pub mod Rooms
 pub mod Leaves
+pub mod Records
 pub mod Tables
 pub mod Rows
 pub mod EachKind
 pub mod Values
 pub mod Writing
 pub mod Stored
+pub mod Eight
+pub mod Moved
 pub mod Paths
 pub mod Depths
 pub mod Outcomes

@@ -6,7 +6,7 @@ use mathlib.Core.Logic.{⊎-elim}
 use mathlib.Core.List.{List, [], _∷_, _++_, append-nil, append-assoc}
 use mathlib.Core.Bool.{Bool, true, false, _&&_}
 use native.Mathlib.Omega.{arith}
-use native.Mathlib.Nat.{pow-suc, one-le-pow, mod-one, mod-lt, mod-eq-of-lt}
+use native.Mathlib.Nat.{mul-zero, mul-suc, pow-suc, one-le-pow, mod-one, mod-lt, mod-eq-of-lt}
 use borrow.Author.Tests.{ltb-true, leb-true, lt-ltb, le-ltb, le-leb, lt-leb, eqb-true, eqb-false, eq-eqb, ne-eqb}
 use lib.Arith.{digits-div, digits-mod, mod-mul}
 use lib.Dec.{ltb, leb, eqb, lit<}
@@ -14,7 +14,7 @@ use lib.ListN.{length, getD, take, drop, length-append, length-drop, take-append
 use lib.Seq.{take-suc, take-length, take-at, drop-at, length-take-le, drop-drop}
 use Rattle.form.specs.Answer.{got, no, _>>=_, outputFull}
 use Rattle.form.specs.Spans.{part}
-use Rattle.form.specs.Stored.{hexDigit, hexDigits, wordDigits, lineOf, linesOf, tableLines, storing, TextLine, begun, linesIn, digitOf, allDigits, hexValue, isLine, wordsOf, eachLine}
+use Rattle.form.specs.Stored.{hexDigit, hexDigits, wordDigits, lineOf, linesOf, fitting, TextLine, begun, linesIn, digitOf, allDigits, hexValue, isLine, wordsOf, eachLine}
 use Rattle.form.proofs.Answer.{bind-got, guard-got}
 use Rattle.form.proofs.Numbers.{foldl-snoc}
 use Rattle.form.proofs.Picks.{lt-or, and-left, and-right}
@@ -381,36 +381,38 @@ module _ (w : ℕ) (l : TextLine) where
 pub line-length : (ws : List ℕ) → length (lineOf ws) ≡ 8 * length ws + 1
 line-length ws = simp length-append (omega (arith, word-digits-length ws))
 
-pub lines-length : (n : ℕ) (t : List ℕ) → 9 * n ≤ length t → length (linesOf 9 n t) ≡ 73 * n
+-- A line takes eight bytes for each word, and one.
+pub lines-length : (w n : ℕ) (t : List ℕ) → w * n ≤ length t → length (linesOf w n t) ≡ (8 * w + 1) * n
 unfolding linesOf
-lines-length zero t h = refl
-lines-length (suc n) t h =
-    let front : length (take 9 t) ≡ 9 = length-take-le 9 t (omega arith) in
-    length-append (lineOf (take 9 t)) (linesOf 9 n (drop 9 t))
-    ∙ omega (arith, line-length (take 9 t), lines-length n (drop 9 t) (simp length-drop (omega arith)))
+lines-length w zero t h = sym (mul-zero (8 * w + 1))
+lines-length w (suc n) t h =
+    let more = mul-suc w n in
+    let front : length (take w t) ≡ w = length-take-le w t (omega (arith, more)) in
+    length-append (lineOf (take w t)) (linesOf w n (drop w t))
+    ∙ omega (arith, line-length (take w t), front, lines-length w n (drop w t) (simp length-drop (omega (arith, more))), mul-suc (8 * w + 1) n)
 
 -- One record more.
-pub lines-next : (i : ℕ) (t : List ℕ) → linesOf 9 (suc i) t ≡ linesOf 9 i t ++ lineOf (part t (9 * i) 9)
+pub lines-next : (w i : ℕ) (t : List ℕ) → linesOf w (suc i) t ≡ linesOf w i t ++ lineOf (part t (w * i) w)
 unfolding linesOf
-lines-next zero t = append-nil (lineOf (take 9 t))
-lines-next (suc i) t =
-    let e : 9 * suc i ≡ 9 + 9 * i = omega arith in
-    rw (e, ← drop-drop (9 * i) 9 t, append-assoc (lineOf (take 9 t)) (linesOf 9 i (drop 9 t)) (lineOf (part (drop 9 t) (9 * i) 9)))
-    (ap (λ x. lineOf (take 9 t) ++ x) (lines-next i (drop 9 t)))
+lines-next w zero t = rw (mul-zero w) (append-nil (lineOf (take w t)))
+lines-next w (suc i) t =
+    let e : w * suc i ≡ w + w * i = omega (arith, mul-suc w i) in
+    rw (e, ← drop-drop (w * i) w t, append-assoc (lineOf (take w t)) (linesOf w i (drop w t)) (lineOf (part (drop w t) (w * i) w)))
+    (ap (λ x. lineOf (take w t) ++ x) (lines-next w i (drop w t)))
 
--- What writing a table's lines gives, by whether they fit.
-module _ (t : List ℕ) (room : ℕ) where
-  pub storing-fits : length (tableLines t) ≤ room → storing t room ≡ got (tableLines t)
-  unfolding storing
-  storing-fits h = rw (le-leb (length (tableLines t)) room h) refl
+-- Bytes to be written, by whether they fit.
+module _ (bs : List ℕ) (room : ℕ) where
+  pub fitting-fits : length bs ≤ room → fitting bs room ≡ got bs
+  unfolding fitting
+  fitting-fits h = rw (le-leb (length bs) room h) refl
 
-  pub storing-full : room < length (tableLines t) → storing t room ≡ no outputFull 0
-  unfolding storing
-  storing-full h = rw (lt-leb (length (tableLines t)) room h) refl
+  pub fitting-full : room < length bs → fitting bs room ≡ no outputFull 0
+  unfolding fitting
+  fitting-full h = rw (lt-leb (length bs) room h) refl
 
-  pub storing-got : (bs : List ℕ) → storing t room ≡ got bs → (bs ≡ tableLines t) × (length bs ≤ room)
-  unfolding storing
-  storing-got bs e =
-      let a = guard-got (leb (length (tableLines t)) room) _ _ _ e in
-      let same : bs ≡ tableLines t = cc (a .1) in
-      (same, rw same (leb-true (length (tableLines t)) room (a .0)))
+  pub fitting-got : (cs : List ℕ) → fitting bs room ≡ got cs → (cs ≡ bs) × (length cs ≤ room)
+  unfolding fitting
+  fitting-got cs e =
+      let a = guard-got (leb (length bs) room) _ _ _ e in
+      let same : cs ≡ bs = cc (a .1) in
+      (same, rw same (leb-true (length bs) room (a .0)))

@@ -7,7 +7,7 @@ use mathlib.Core.List.{List, [], _∷_, _++_, append-assoc, append-nil}
 use mathlib.Core.Bool.{Bool, false}
 use native.Mathlib.Omega.{arith}
 use native.Mathlib.Decide.{ℕ-discrete, decLt}
-use lib.ListN.{length, getD, take, drop, length-drop, replicate, length-replicate}
+use lib.ListN.{length, getD, take, drop, length-drop, replicate, length-replicate, List·getD-eq-default}
 use lib.Seq.{drop-cons, drop-drop, drop-at, getD-drop, length-take-le}
 use lib.Dec.{eqb}
 use Rattle.form.specs.Answer.{recordLimit}
@@ -17,6 +17,11 @@ use Rattle.form.specs.Records.{Stands, Sits, Under}
 use Rattle.form.specs.Tables.{LeafIs, ContainerIs, NameIs, Fair, IsTable, Within}
 use Rattle.form.proofs.Table.{flat-length}
 use Rattle.form.proofs.Leaves.{held-kind, leaf-kind}
+use Rattle.form.proofs.Records.{sits-at, one-forest}
+
+-- Past a table's end words are 0.
+pub word-past : (t : List ℕ) (n : ℕ) → length t ≤ 9 * n → word t n 0 ≡ 0
+word-past t n l = List·getD-eq-default t 0 {n = 9 * n + 0} (omega arith)
 
 -- ---- where the words of records stand
 
@@ -208,25 +213,7 @@ wrote-sits t p n f l =
 
 -- Records that stand at one place, as many, are the same.
 pub same-forest : (t : List ℕ) (n : ℕ) (f g : Forest) → Sits t n f → Sits t n g → size f ≡ size g → f ≡ g
-unfolding Sits size
-same-forest t n none none s r e = refl
-same-forest t n none (node h inner later) s r e = absurd (omega arith)
-same-forest t n (node h inner later) none s r e = absurd (omega arith)
-same-forest t n (node h inner later) (node h′ inner′ later′) s r e =
-    let a = s .0 in
-    let b = r .0 in
-    let p : n + 1 + size inner ≡ n + 1 + size inner′ = sym (a .end) ∙ b .end in
-    let i : inner ≡ inner′ = same-forest t (n + 1) inner inner′ (s .1) (r .1) (omega arith) in
-    let l : later ≡ later′ = same-forest t (n + 1 + size inner) later later′ (s .2) (rw (← p) at (r .2)) (omega arith) in
-    λ k. node (record {
-      kind = (sym (a .kind) ∙ b .kind) k;
-      name = (sym (a .name) ∙ b .name) k;
-      name-length = (sym (a .name-length) ∙ b .name-length) k;
-      start = (sym (a .start) ∙ b .start) k;
-      size = (sym (a .size) ∙ b .size) k;
-      count = (sym (a .count) ∙ b .count) k;
-      list-kind = (sym (a .list-kind) ∙ b .list-kind) k;
-    }) (i k) (l k)
+same-forest t n f g s r e = one-forest (word t) n f g (sits-at t n f s) (sits-at t n g r) e
 
 -- Words are those of one forest at most.
 pub flat-injective : (p n : ℕ) (f g : Forest) → flat p n f ≡ flat p n g → f ≡ g

@@ -12,6 +12,8 @@ pub mod Reading
 pub mod Cut
 pub mod Writing
 pub mod Stored
+pub mod Eight
+pub mod Moved
 pub mod Paths
 pub mod Records
 pub mod Query

@@ -52,11 +52,15 @@ linesOf w (suc n) t = lineOf (take w t) ++ linesOf w n (drop w t)
 abbrev pub tableLines : List ℕ → List ℕ
 tableLines t = linesOf 9 (length t / 9) t
 
--- What writing the lines of a table gives, with so much room (13).
-unfoldable pub storing : List ℕ → ℕ → Out (List ℕ)
-storing t room = do
-  guard (leb (length (tableLines t)) room) outputFull 0
-  got (tableLines t)
+-- Bytes to be written, with so much room (13).
+unfoldable pub fitting : List ℕ → ℕ → Out (List ℕ)
+fitting bs room = do
+  guard (leb (length bs) room) outputFull 0
+  got bs
+
+-- What writing the lines of a table gives.
+abbrev pub storing : List ℕ → ℕ → Out (List ℕ)
+storing t room = fitting (tableLines t) room
 
 -- The promise of writing lines, over a document of d bytes: a limit first (9), then whether the words form a table (10), then its lines.
 pub record WriteLinesIs (d : ℕ) (t o : List ℕ) (answer : Out ℕ) (o′ : List ℕ) : Type 0 where

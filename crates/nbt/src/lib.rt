@@ -1,6 +1,7 @@
 // The library to link: every entry point under its C name, each one line over a call that keeps the same promise. include/tikfazrul.h says
 // what each word of an answer is, crates/calls/specs defines it.
-ghost use Rattle.calls.specs.Calls.{Mutf8Called, Utf8Called, ReadCalled, TableCalled, WriteCalled, RescueCalled, WriteLinesCalled, ReadLinesCalled, QueryCalled, TokenCalled, ContentCalled, ParseCalled};
+ghost use Rattle.form.specs.Moved.{eight, nine};
+ghost use Rattle.calls.specs.Calls.{Mutf8Called, Utf8Called, ReadCalled, TableCalled, WriteCalled, RescueCalled, WriteLinesCalled, ReadLinesCalled, MoveCalled, QueryCalled, TokenCalled, ContentCalled, ParseCalled};
 
 // Whether bytes are modified UTF-8 (rule 2): 4 at the first sequence that can't be read.
 #[no_mangle]
@@ -82,6 +83,32 @@ pub extern "C" fn tikfazrul_read_lines(lines: &[u8], table: &mut [u32], answer: 
     ensures { λ _. ⌜ ReadLinesCalled (now (lines .entry)) (now (table .entry)) (now (table .exit)) (now (answer .exit)) ⌝ }
 {
     call_store::read_lines(lines, table, answer);
+}
+
+// Moves lines of eight words, as records had in 01, to lines of nine, with the parents worked out, over a document of doc_len bytes ([8]).
+#[no_mangle]
+pub extern "C" fn tikfazrul_lines_up(
+    doc_len: usize,
+    lines: &[u8],
+    out: &mut [u8],
+    answer: &mut [u64; 8],
+)
+    ensures { λ _. ⌜ MoveCalled eight «doc_len» (now (lines .entry)) (now (out .entry)) (now (out .exit)) (now (answer .exit)) ⌝ }
+{
+    call_moves::lines_up(doc_len, lines, out, answer);
+}
+
+// Moves lines of nine words back to lines of eight, which drops the parents ([8]).
+#[no_mangle]
+pub extern "C" fn tikfazrul_lines_down(
+    doc_len: usize,
+    lines: &[u8],
+    out: &mut [u8],
+    answer: &mut [u64; 8],
+)
+    ensures { λ _. ⌜ MoveCalled nine «doc_len» (now (lines .entry)) (now (out .entry)) (now (out .exit)) (now (answer .exit)) ⌝ }
+{
+    call_moves::lines_down(doc_len, lines, out, answer);
 }
 
 // Asks a table which of its tags match a query (rule 9). Refusal 24 comes with the true count.

@@ -1,4 +1,4 @@
--- Laws for the code that reads lines back: line feeds counted, digits and the words that they are, and a good line known by its 73 bytes.
+-- Laws for the code that reads lines back: line feeds counted, digits and the words that they are, and a good line known by its bytes.
 -- Assumes nothing.
 use Prim.Native.Nat.{ℕ, zero, suc, _+_, _-_, _*_, _%_, _^_, _≤_, _<_}
 use mathlib.Core.Path.{_≡_, refl, sym, ap, _∙_, subst}
@@ -206,34 +206,34 @@ word-put t s i k h =
     (subst (λ j. set (over t i (wordsOf k s)) (i + j) (hexValue (part s (8 * k) 8)) ≡ over t i (wordsOf k s ++ (hexValue (part s (8 * k) 8) ∷ []))) n
     (over-next t i (wordsOf k s) (hexValue (part s (8 * k) 8)) (rw n h)))
 
--- ---- a good line, known by its 73 bytes
+-- ---- a good line of w words, known by its bytes
 
-pub record Front (s : List ℕ) : Type 0 where
-  pub long : 73 ≤ length s
-  pub fed : getD s 72 0 ≡ 10
-  pub digits : allDigits (take 72 s) ≡ true
+pub record Front (w : ℕ) (s : List ℕ) : Type 0 where
+  pub long : 8 * w + 1 ≤ length s
+  pub fed : getD s (8 * w) 0 ≡ 10
+  pub digits : allDigits (take (8 * w) s) ≡ true
 
 -- A good line stands there in full.
-good-front : (s : List ℕ) (f : First s) → isLine 9 (f .line) ≡ true → Front s
-good-front s f good =
-    let b = f .behind (good-ended 9 (f .line) good) in
-    let n : length (f .line .bytes) ≡ 72 = good-long 9 (f .line) good in
+good-front : (w : ℕ) (s : List ℕ) (f : First s) → isLine w (f .line) ≡ true → Front w s
+good-front w s f good =
+    let b = f .behind (good-ended w (f .line) good) in
+    let n : length (f .line .bytes) ≡ 8 * w = good-long w (f .line) good in
     rw (b .front) (record {
       long = simp length-append (omega arith);
-      fed = getD-at (f .line .bytes) 10 (b .rest) 0 72 n;
-      digits = rw (take-at (f .line .bytes) (10 ∷ b .rest) 72 n) (good-digits 9 (f .line) good);
+      fed = getD-at (f .line .bytes) 10 (b .rest) 0 (8 * w) n;
+      digits = rw (take-at (f .line .bytes) (10 ∷ b .rest) (8 * w) n) (good-digits w (f .line) good);
     })
 
 -- Bytes that begin otherwise begin with a bad line.
-pub bad-line : (s : List ℕ) → 0 < length s → (Front s → ⊥) → FirstLine s false
-bad-line [] h n = absurd (omega arith)
-bad-line (b ∷ s) h n =
+pub bad-line : (w : ℕ) (s : List ℕ) → 0 < length s → (Front w s → ⊥) → FirstLine w s false
+bad-line w [] h n = absurd (omega arith)
+bad-line w (b ∷ s) h n =
     let f = first-line b s in
     record {
       line = f .line;
       later = f .later;
       lines-are = f .lines-are;
-      told = by-test (isLine 9 (f .line)) (λ good. n (good-front (b ∷ s) f good));
+      told = by-test (isLine w (f .line)) (λ good. n (good-front w (b ∷ s) f good));
       front = λ e. absurd (let z : _≡_ {A = ℕ} 0 1 = cc in omega arith);
     }
   where
@@ -241,16 +241,16 @@ bad-line (b ∷ s) h n =
     by-test true never = absurd (never refl)
     by-test false never = refl
 
-pub good-line : (s : List ℕ) → Front s → FirstLine s true
-good-line s f =
-    let l : TextLine = record { bytes = take 72 s; ended = true } in
-    let split : s ≡ take 72 s ++ (10 ∷ drop 73 s) = split-at s 72 0 (f .long) ∙ ap (λ x. take 72 s ++ (x ∷ drop 73 s)) (f .fed) in
+pub good-line : (w : ℕ) (s : List ℕ) → Front w s → FirstLine w s true
+good-line w s f =
+    let l : TextLine = record { bytes = take (8 * w) s; ended = true } in
+    let split : s ≡ take (8 * w) s ++ (10 ∷ drop (suc (8 * w)) s) = split-at s (8 * w) 0 (omega (arith, f .long)) ∙ ap (λ x. take (8 * w) s ++ (x ∷ drop (suc (8 * w)) s)) (f .fed) in
     record {
       line = l;
-      later = linesIn (drop 73 s);
-      lines-are = ap linesIn split ∙ digits-line (take 72 s) (drop 73 s) (f .digits);
-      told = sym (is-good 9 l refl (length-take-le 72 s (omega (arith, f .long))) (f .digits));
-      front = λ _. record { long = f .long; digits = f .digits; bytes-are = refl; goes-on = refl };
+      later = linesIn (drop (suc (8 * w)) s);
+      lines-are = ap linesIn split ∙ digits-line (take (8 * w) s) (drop (suc (8 * w)) s) (f .digits);
+      told = sym (is-good w l refl (length-take-le (8 * w) s (omega (arith, f .long))) (f .digits));
+      front = λ _. record { long = f .long; digits = f .digits; bytes-are = refl; goes-on = ap (λ k. linesIn (drop k s)) (sym (add-one (8 * w))) };
     }
 
 -- A line feed that stands there, or doesn't.
@@ -270,28 +270,28 @@ module _ (s : List ℕ) (at : ℕ) where
     eqb-true (getD s at 0) 10 (and-right (ltb at (length s)) (eqb (getD s at 0) 10) e),
   )
 
--- The same of the bytes from a place on, as the code asks: the line feed behind 72 of them, then those 72.
-module _ (s : List ℕ) (at : ℕ) (h : at < length s) where
+-- The same of the bytes from a place on, as the code asks: the line feed behind the digits, then those.
+module _ (w : ℕ) (s : List ℕ) (at : ℕ) (h : at < length s) where
   left-long : length (drop at s) ≡ length s - at
   left-long = length-drop at s
 
-  pub unfed-line : fedAt s (at + 72) ≡ false → FirstLine (drop at s) false
+  pub unfed-line : fedAt s (at + 8 * w) ≡ false → FirstLine w (drop at s) false
   unfed-line e =
-      bad-line (drop at s) (rw left-long (omega arith))
+      bad-line w (drop at s) (rw left-long (omega arith))
       (λ f.
-      let long : 73 ≤ length s - at = rw left-long at (f .long) in
-      let byte : getD s (at + 72) 0 ≡ 10 = sym (getD-drop at s 72 0) ∙ f .fed in
-      let fed : fedAt s (at + 72) ≡ true = sym (fed-byte s (at + 72) (omega arith)) ∙ eq-eqb (getD s (at + 72) 0) 10 byte in
+      let long : 8 * w + 1 ≤ length s - at = rw left-long at (f .long) in
+      let byte : getD s (at + 8 * w) 0 ≡ 10 = sym (getD-drop at s (8 * w) 0) ∙ f .fed in
+      let fed : fedAt s (at + 8 * w) ≡ true = sym (fed-byte s (at + 8 * w) (omega arith)) ∙ eq-eqb (getD s (at + 8 * w) 0) 10 byte in
       absurd (let z : _≡_ {A = ℕ} 0 1 = cc in omega arith))
 
-  pub told-line : fedAt s (at + 72) ≡ true → FirstLine (drop at s) (allDigits (part s at 72))
-  told-line e = by-digits (allDigits (part s at 72)) refl
+  pub told-line : fedAt s (at + 8 * w) ≡ true → FirstLine w (drop at s) (allDigits (part s at (8 * w)))
+  told-line e = by-digits (allDigits (part s at (8 * w))) refl
     where
-      there : (at + 72 < length s) × (getD s (at + 72) 0 ≡ 10)
-      there = fed-there s (at + 72) e
+      there : (at + 8 * w < length s) × (getD s (at + 8 * w) 0 ≡ 10)
+      there = fed-there s (at + 8 * w) e
 
-      by-digits : (t : Bool) → allDigits (part s at 72) ≡ t → FirstLine (drop at s) t
+      by-digits : (t : Bool) → allDigits (part s at (8 * w)) ≡ t → FirstLine w (drop at s) t
       by-digits true d =
-          good-line (drop at s) (record { long = rw left-long (omega (arith, there .0)); fed = getD-drop at s 72 0 ∙ there .1; digits = d })
+          good-line w (drop at s) (record { long = rw left-long (omega (arith, there .0)); fed = getD-drop at s (8 * w) 0 ∙ there .1; digits = d })
       by-digits false d =
-          bad-line (drop at s) (rw left-long (omega arith)) (λ f. absurd (let z : _≡_ {A = ℕ} 0 1 = cc (f .digits) in omega arith))
+          bad-line w (drop at s) (rw left-long (omega arith)) (λ f. absurd (let z : _≡_ {A = ℕ} 0 1 = cc (f .digits) in omega arith))

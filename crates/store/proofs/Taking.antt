@@ -35,11 +35,11 @@ pub record Sofar (s t₀ t : List ℕ) (n : ℕ) : Type 0 where
   pub is : whole s t₀ ≡ onwards s t₀ ws n
 
 -- No words before the others change nothing, and words before words go together.
-then-same : (o : Out (List ℕ)) → o ≡ (o >>= λ vs. got ([] ++ vs))
+pub then-same : (o : Out (List ℕ)) → o ≡ (o >>= λ vs. got ([] ++ vs))
 then-same (got vs) = refl
 then-same (no n p) = refl
 
-then-more : (o : Out (List ℕ)) (us ws : List ℕ) → ((o >>= λ vs. got (us ++ vs)) >>= λ vs. got (ws ++ vs)) ≡ (o >>= λ vs. got ((ws ++ us) ++ vs))
+pub then-more : (o : Out (List ℕ)) (us ws : List ℕ) → ((o >>= λ vs. got (us ++ vs)) >>= λ vs. got (ws ++ vs)) ≡ (o >>= λ vs. got ((ws ++ us) ++ vs))
 then-more (got vs) us ws = ap got (sym (append-assoc ws us vs))
 then-more (no n p) us ws = refl
 
@@ -66,10 +66,10 @@ module _ (s t₀ t : List ℕ) (n : ℕ) (f : Sofar s t₀ t n) where
   rest-no m p e = taken-no s t₀ t m p (f .is ∙ ap (λ o. o >>= λ vs. got (f .ws ++ vs)) e) sofar-length
 
   -- The next line is bad (29), or good and without room (8); or there is none, and all are taken.
-  pub sofar-bad : FirstLine (drop (73 * n) s) false → TakenIs s t₀ (no 29 (n + 1)) t
+  pub sofar-bad : FirstLine 9 (drop (73 * n) s) false → TakenIs s t₀ (no 29 (n + 1)) t
   sofar-bad l = rest-no 29 (n + 1) (rw (l .lines-are) (each-bad 9 (length t₀ / 9) (n + 1) (l .line) (l .later) (sym (l .told))))
 
-  pub sofar-full : FirstLine (drop (73 * n) s) true → length t₀ / 9 ≤ n → TakenIs s t₀ (no 8 (n + 1)) t
+  pub sofar-full : FirstLine 9 (drop (73 * n) s) true → length t₀ / 9 ≤ n → TakenIs s t₀ (no 8 (n + 1)) t
   sofar-full l h = rest-no 8 (n + 1) (rw (l .lines-are) (each-full 9 (length t₀ / 9) (n + 1) (l .line) (l .later) (sym (l .told)) (omega arith)))
 
   pub sofar-end : length s ≤ 73 * n → TakenIs s t₀ (got n) t
@@ -78,7 +78,7 @@ module _ (s t₀ t : List ℕ) (n : ℕ) (f : Sofar s t₀ t n) where
       f .is ∙ rw (drop-of-length-le s h, no-lines, each-none 9 (length t₀ / 9) (n + 1)) (ap got (append-nil (f .ws))) in
       record { answer-is = ap got (omega (arith, f .long)) ∙ ap recordsOf (sym e); put = rw e (f .table) }
 
-  module _ (l : FirstLine (drop (73 * n) s) true) where
+  module _ (l : FirstLine 9 (drop (73 * n) s) true) where
     -- A good line takes 73 bytes.
     pub line-there : 73 * n + 73 ≤ length s
     line-there =

@@ -19,12 +19,12 @@ use Rattle.form.specs.Stored.{hexDigit, hexDigits, wordDigits, lineOf, linesOf,
 use Rattle.form.proofs.Picks.{lt-or}
 use Rattle.form.proofs.Spans.{part-length}
 use Rattle.form.proofs.Table.{over-over, over-next}
-use Rattle.form.proofs.Stored.{digits-length, word-digits-length, lines-length, lines-next, storing-fits, storing-full}
+use Rattle.form.proofs.Stored.{digits-length, word-digits-length, lines-length, lines-next, fitting-fits, fitting-full}
 use Rattle.table.specs.declared.Verdict.{Verdict}
 use Rattle.table.specs.Check.{VerdictIs}
 
 -- What is put right behind a list belongs to it.
-put-behind : (o : List ℕ) (i : ℕ) (ws : List ℕ) (j : ℕ) (vs : List ℕ) → j ≡ i + length ws → j ≤ length o → over (over o i ws) j vs ≡ over o i (ws ++ vs)
+pub put-behind : (o : List ℕ) (i : ℕ) (ws : List ℕ) (j : ℕ) (vs : List ℕ) → j ≡ i + length ws → j ≤ length o → over (over o i ws) j vs ≡ over o i (ws ++ vs)
 put-behind o i ws j vs next fits = rw next (over-over o i ws (rw next at fits) vs)
 
 -- ---- the digits of a word, one behind the other
@@ -64,7 +64,7 @@ module _ (o₀ o : List ℕ) (at v i : ℕ) (so-far : o ≡ over o₀ at (take i
 -- ---- words, the line feed and lines, one behind the other
 
 -- The digits of one word more.
-word-next : (t : List ℕ) (k : ℕ) → k < length t → wordDigits (take (suc k) t) ≡ wordDigits (take k t) ++ hexDigits 8 (getD t k 0)
+pub word-next : (t : List ℕ) (k : ℕ) → k < length t → wordDigits (take (suc k) t) ≡ wordDigits (take k t) ++ hexDigits 8 (getD t k 0)
 unfolding wordDigits
 word-next [] k h = absurd (omega arith)
 word-next (v ∷ t) zero h = append-nil (hexDigits 8 v)
@@ -84,18 +84,18 @@ module _ (t : List ℕ) (at k : ℕ) (o₀ : List ℕ) (i : ℕ) (o : List ℕ) 
   pub feed-behind : at + k ≤ length t → i + 8 * k < length o₀ → set o (i + 8 * k) 10 ≡ over o₀ i (lineOf (part t at k))
   feed-behind h fits = rw (so-far, place h) (over-next o₀ i (wordDigits (part t at k)) 10 (rw (place h) at fits))
 
--- Where the lines of i records of t stand, the next record's is put.
-pub line-behind : (t : List ℕ) (i : ℕ) (o₀ o : List ℕ) → o ≡ over o₀ 0 (linesOf 9 i t) → 9 * i ≤ length t → 73 * i ≤ length o₀
-    → over o (73 * i) (lineOf (part t (9 * i) 9)) ≡ over o₀ 0 (linesOf 9 (i + 1) t)
-line-behind t i o₀ o so-far h fits =
-    rw (so-far, put-behind o₀ 0 (linesOf 9 i t) (73 * i) (lineOf (part t (9 * i) 9)) (omega (arith, lines-length i t h)) fits)
-    (rw (add-one i) (ap (over o₀ 0) (sym (lines-next i t))))
+-- Where the lines of i records of t stand, of w words each, the next record's is put.
+pub line-behind : (w : ℕ) (t : List ℕ) (i : ℕ) (o₀ o : List ℕ) → o ≡ over o₀ 0 (linesOf w i t) → w * i ≤ length t → (8 * w + 1) * i ≤ length o₀
+    → over o ((8 * w + 1) * i) (lineOf (part t (w * i) w)) ≡ over o₀ 0 (linesOf w (i + 1) t)
+line-behind w t i o₀ o so-far h fits =
+    let line = lineOf (part t (w * i) w) in
+    rw (so-far, put-behind o₀ 0 (linesOf w i t) ((8 * w + 1) * i) line (omega (arith, lines-length w i t h)) fits) (rw (add-one i) (ap (over o₀ 0) (sym (lines-next w i t))))
 
 -- ---- the answer, by the verdict on the words
 
 -- How many bytes the lines of a table have.
 lines-long : (t : List ℕ) → length (tableLines t) ≡ 73 * (length t / 9)
-lines-long t = lines-length (length t / 9) t (omega arith)
+lines-long t = lines-length 9 (length t / 9) t (omega arith)
 
 module _ (d : ℕ) (t : List ℕ) {r : Verdict} (v : VerdictIs d t r) where
   -- Words of that verdict are within the limits and form a table.
@@ -123,10 +123,10 @@ module _ (d : ℕ) (t : List ℕ) {r : Verdict} (v : VerdictIs d t r) where
 
     -- The output is too short for its lines (13).
     pub lines-full : r ≡ Verdict.Table → length o < 73 * (length t / 9) → WriteLinesIs d t o (no outputFull 0) o
-    lines-full e h = lines-fit e (rw (storing-full t (length o) (rw (lines-long t) h)) (record { answer-is = refl; output-is = refl }))
+    lines-full e h = lines-fit e (rw (fitting-full (tableLines t) (length o) (rw (lines-long t) h)) (record { answer-is = refl; output-is = refl }))
 
     -- Its lines are put.
     pub lines-put : {o′ : List ℕ} → r ≡ Verdict.Table → 73 * (length t / 9) ≤ length o → o′ ≡ over o 0 (tableLines t)
         → WriteLinesIs d t o (got (73 * (length t / 9))) o′
     lines-put e h p =
-        lines-fit e (rw (storing-fits t (length o) (rw (lines-long t) h)) (record { answer-is = ap got (sym (lines-long t)); output-is = p }))
+        lines-fit e (rw (fitting-fits (tableLines t) (length o) (rw (lines-long t) h)) (record { answer-is = ap got (sym (lines-long t)); output-is = p }))

@@ -1,6 +1,6 @@
 -- What the contracts of stored lines cite: the answer as document 02 has it, and lines as the code comes upon them.
 -- Assumes nothing.
-use Prim.Native.Nat.{ℕ, _+_, _/_, _≤_}
+use Prim.Native.Nat.{ℕ, _+_, _*_, _/_, _≤_}
 use mathlib.Core.Path.{_≡_}
 use mathlib.Core.List.{List, [], _∷_}
 use mathlib.Core.Bool.{Bool, true, _&&_}
@@ -25,20 +25,20 @@ feeds (b ∷ bs) = pick (eqb b lineFeed) 1 0 + feeds bs
 unfoldable pub fedAt : List ℕ → ℕ → Bool
 fedAt s at = ltb at (length s) && eqb (getD s at 0) lineFeed
 
--- A good line at the front of some bytes takes 73 of them.
-pub record GoodLine (s : List ℕ) (line : TextLine) (later : List TextLine) : Type 0 where
-  pub long : 73 ≤ length s
-  pub digits : allDigits (take 72 s) ≡ true
-  pub bytes-are : line .bytes ≡ take 72 s
-  pub goes-on : later ≡ linesIn (drop 73 s)
+-- A good line of w words at the front of some bytes takes eight of them for each word, and one.
+pub record GoodLine (w : ℕ) (s : List ℕ) (line : TextLine) (later : List TextLine) : Type 0 where
+  pub long : 8 * w + 1 ≤ length s
+  pub digits : allDigits (take (8 * w) s) ≡ true
+  pub bytes-are : line .bytes ≡ take (8 * w) s
+  pub goes-on : later ≡ linesIn (drop (8 * w + 1) s)
 
--- The first of the lines that bytes are, and whether it is good.
-pub record FirstLine (s : List ℕ) (good : Bool) : Type 0 where
+-- The first of the lines that bytes are, and whether it is good, of w words.
+pub record FirstLine (w : ℕ) (s : List ℕ) (good : Bool) : Type 0 where
   pub line : TextLine
   pub later : List TextLine
   pub lines-are : linesIn s ≡ line ∷ later
-  pub told : good ≡ isLine 9 line
-  pub front : good ≡ true → GoodLine s line later
+  pub told : good ≡ isLine w line
+  pub front : good ≡ true → GoodLine w s line later
 
 -- The table after line by line: the words read from 0 on and the rest as it was; after a refusal only its length is told.
 abbrev pub Put : Out (List ℕ) → List ℕ → List ℕ → Type 0

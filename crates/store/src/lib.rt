@@ -10,12 +10,12 @@ ghost use Rattle.store.specs.Steps.{answerOut, feeds, fedAt, FirstLine, 
 use table::Verdict;
 
 // The digits of a word, and those of a record.
-const WORD_DIGITS: usize = 8;
+pub const WORD_DIGITS: usize = 8;
 
 const DIGITS: usize = WORD_DIGITS * table::WORDS;
 
 // The bytes of a line.
-const LINE: usize = DIGITS + 1;
+pub const LINE: usize = DIGITS + 1;
 
 // The answer: how many bytes were written, or how many records read; or the number and the place of the refusal.
 pub enum Answer {
@@ -35,7 +35,7 @@ fn digit(n: u8) -> u8
 }
 
 // The eight digits of a word put at `at`, the highest first. None waits for another, so that the compiler puts many at once.
-fn put_word(out: &mut [u8], at: usize, word: u32)
+pub fn put_word(out: &mut [u8], at: usize, word: u32)
     requires { ⌜ at + 8 ≤ length (now out) ⌝ }
     ensures { λ _. ⌜ now (out .exit) ≡ over (now (out .entry)) at (hexDigits 8 word) ⌝ }
 {
@@ -116,7 +116,7 @@ fn count_feeds(lines: &[u8]) -> usize
 }
 
 // How many lines there are: one for each line feed, and one more where the last is unended.
-fn count_lines(lines: &[u8]) -> usize
+pub fn count_lines(lines: &[u8]) -> usize
     ensures { λ r. ⌜ r ≡ length (linesIn (now (lines .entry))) ⌝ }
 {
     let n = count_feeds(lines);
@@ -149,14 +149,14 @@ fn digit_of(b: u8) -> u8
     16
 }
 
-// Whether a record's digits stand at `at`. The largest value is kept and all are looked at, so that the compiler takes many at once.
-fn digits_at(lines: &[u8], at: usize) -> bool
-    requires { ⌜ at + 72 ≤ length (now lines) ⌝ }
-    ensures { λ r. ⌜ r ≡ allDigits (part (now (lines .entry)) at 72) ⌝ }
+// Whether so many digits stand at `at`. The largest value is kept and all are looked at, so that the compiler takes many at once.
+fn digits_at(lines: &[u8], at: usize, count: usize) -> bool
+    requires { ⌜ at + count ≤ length (now lines) ⌝ }
+    ensures { λ r. ⌜ r ≡ allDigits (part (now (lines .entry)) at count) ⌝ }
 {
     let mut largest: u8 = 0;
     let mut k: usize = 0;
-    while k < DIGITS {
+    while k < count {
         let value = digit_of(lines[at + k]);
         if largest < value {
             largest = value;
@@ -176,13 +176,14 @@ fn fed(lines: &[u8], at: usize) -> bool
     lines[at] == b'\n'
 }
 
-// Whether the line that begins at `at` is good (29).
-fn is_line(lines: &[u8], at: usize) -> bool
-    requires { ⌜ at < length (now lines) ⌝ }
-    ensures { λ r. ⌜ FirstLine (drop at (now (lines .entry))) r ⌝ }
+// Whether the line that begins at `at` is good, a line of so many words (29). [8] reads lines of eight too.
+pub fn is_line(lines: &[u8], at: usize, words: usize) -> bool
+    requires { ⌜ (at < length (now lines)) × (words ≤ 9) ⌝ }
+    ensures { λ r. ⌜ FirstLine words (drop at (now (lines .entry))) r ⌝ }
 {
-    if fed(lines, at + DIGITS) {
-        return digits_at(lines, at);
+    let digits = WORD_DIGITS * words;
+    if fed(lines, at + digits) {
+        return digits_at(lines, at, digits);
     }
     false
 }
@@ -199,7 +200,7 @@ fn value_of(b: u8) -> u8
 }
 
 // The word that eight digits at `at` are, as a sum: here too none waits for another.
-fn word_at(lines: &[u8], at: usize) -> u32
+pub fn word_at(lines: &[u8], at: usize) -> u32
     requires { ⌜ (at + 8 ≤ length (now lines)) × (allDigits (part (now lines) at 8) ≡ true) ⌝ }
     ensures { λ r. ⌜ r ≡ hexValue (part (now (lines .entry)) at 8) ⌝ }
 {
@@ -231,7 +232,7 @@ fn take_lines(lines: &[u8], table: &mut [u32]) -> Answer
     let room = table.len() / table::WORDS;
     let mut n: usize = 0;
     while LINE * n < lines.len() {
-        if !is_line(lines, LINE * n) {
+        if !is_line(lines, LINE * n, table::WORDS) {
             return Answer::Refused {
                 number: form::BAD_LINE,
                 place: n + 1,

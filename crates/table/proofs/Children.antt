@@ -2,43 +2,41 @@
 -- Assumes nothing.
 use Prim.Native.Nat.{ℕ, suc, _+_, _≤_, _<_}
 use mathlib.Core.Path.{_≡_, sym, subst}
-use mathlib.Core.List.{List}
 use mathlib.Core.Bool.{Bool}
 use native.Mathlib.Omega.{arith}
-use Rattle.form.specs.Table.{word}
 use Rattle.form.specs.Rows.{ChildIs, Chain, stop, hop}
 
 -- A chain from a record that is a child.
-record Unhopped (t : List ℕ) (l : Bool) (q e j : ℕ) : Type 0 where
-  child : ChildIs t l q e j
+record Unhopped (get : ℕ → ℕ → ℕ) (up l : Bool) (q e j : ℕ) : Type 0 where
+  child : ChildIs get up l q e j
   left : ℕ
-  rest : Chain t l q e (word t j 7) left
+  rest : Chain get up l q e (get j 7) left
 
 -- A chain that is not at its end begins with a child.
-unhop : (t : List ℕ) (l : Bool) (q e : ℕ) {j m : ℕ} → Chain t l q e j m → j < e → Unhopped t l q e j
-unhop t l q e stop h = absurd (omega arith)
-unhop t l q e (hop {c = c} child ch) h = record { child = child; left = c; rest = ch }
+unhop : (get : ℕ → ℕ → ℕ) (up l : Bool) (q e : ℕ) {j m : ℕ} → Chain get up l q e j m → j < e → Unhopped get up l q e j
+unhop get up l q e stop h = absurd (omega arith)
+unhop get up l q e (hop {c = c} child ch) h = record { child = child; left = c; rest = ch }
 
 -- After c hops, at record j: a chain from here on is one from the start with c children more, and a chain from the start comes here.
-pub record Hopped (t : List ℕ) (l : Bool) (q e from j c : ℕ) : Type 0 where
+pub record Hopped (get : ℕ → ℕ → ℕ) (up l : Bool) (q e from j c : ℕ) : Type 0 where
   pub high : j ≤ e
   pub few : from + c ≤ j
-  pub ahead : (m : ℕ) → Chain t l q e j m → Chain t l q e from (c + m)
-  pub back : (m : ℕ) → Chain t l q e from m → (k : ℕ) × Chain t l q e j k
+  pub ahead : (m : ℕ) → Chain get up l q e j m → Chain get up l q e from (c + m)
+  pub back : (m : ℕ) → Chain get up l q e from m → (k : ℕ) × Chain get up l q e j k
 
-module _ (t : List ℕ) (l : Bool) (q e from : ℕ) where
+module _ (get : ℕ → ℕ → ℕ) (up l : Bool) (q e from : ℕ) where
   -- At the start.
-  pub hop-none : from ≤ e → Hopped t l q e from from 0
+  pub hop-none : from ≤ e → Hopped get up l q e from from 0
   hop-none h = record {
     high = h;
     few = omega arith;
-    ahead = λ m ch. (let z : 0 + m ≡ m = omega arith in subst (λ (x : ℕ). Chain t l q e from x) (sym z) ch);
+    ahead = λ m ch. (let z : 0 + m ≡ m = omega arith in subst (λ (x : ℕ). Chain get up l q e from x) (sym z) ch);
     back = λ m ch. (m, ch);
   }
 
-  module _ (j c : ℕ) (inv : Hopped t l q e from j c) where
+  module _ (j c : ℕ) (inv : Hopped get up l q e from j c) where
     -- One hop on.
-    pub hop-more : j < e → ChildIs t l q e j → (n : ℕ) → n ≡ word t j 7 → Hopped t l q e from n (c + 1)
+    pub hop-more : j < e → ChildIs get up l q e j → (n : ℕ) → n ≡ get j 7 → Hopped get up l q e from n (c + 1)
     hop-more h child n p =
         let few = inv .few in
         let on = child .on in
@@ -48,21 +46,21 @@ module _ (t : List ℕ) (l : Bool) (q e from : ℕ) where
           few = omega arith;
           ahead = λ m ch.
               (let z : c + suc m ≡ c + 1 + m = omega arith in
-              subst (λ (x : ℕ). Chain t l q e from x) z (inv .ahead (suc m) (hop {j = j} child (subst (λ (x : ℕ). Chain t l q e x m) p ch))));
+              subst (λ (x : ℕ). Chain get up l q e from x) z (inv .ahead (suc m) (hop {j = j} child (subst (λ (x : ℕ). Chain get up l q e x m) p ch))));
           back = λ m ch.
               (let k = inv .back m ch in
-              let u = unhop t l q e (k .1) h in
-              (u .left, subst (λ (x : ℕ). Chain t l q e x (u .left)) (sym p) (u .rest)));
+              let u = unhop get up l q e (k .1) h in
+              (u .left, subst (λ (x : ℕ). Chain get up l q e x (u .left)) (sym p) (u .rest)));
         }
 
     -- At the end.
-    pub hop-done : e ≤ j → Chain t l q e from c
+    pub hop-done : e ≤ j → Chain get up l q e from c
     hop-done h =
         let high = inv .high in
         let p : e ≡ j = omega arith in
         let z : c + 0 ≡ c = omega arith in
-        subst (λ (x : ℕ). Chain t l q e from x) z (inv .ahead 0 (subst (λ (x : ℕ). Chain t l q e x 0) p stop))
+        subst (λ (x : ℕ). Chain get up l q e from x) z (inv .ahead 0 (subst (λ (x : ℕ). Chain get up l q e x 0) p stop))
 
     -- At a record that is no child.
-    pub hop-broken : j < e → (ChildIs t l q e j → ⊥) → (m : ℕ) → Chain t l q e from m → ⊥
-    hop-broken h f m ch = let k = inv .back m ch in f (unhop t l q e (k .1) h .child)
+    pub hop-broken : j < e → (ChildIs get up l q e j → ⊥) → (m : ℕ) → Chain get up l q e from m → ⊥
+    hop-broken h f m ch = let k = inv .back m ch in f (unhop get up l q e (k .1) h .child)

@@ -1,4 +1,4 @@
 -- Laws on plain values, for the proofs of this crate, and that the check's answer is determined.
-mod Tests
-mod Children
+pub mod Tests
+pub mod Children
 pub mod Verdicts

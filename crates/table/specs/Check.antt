@@ -35,6 +35,6 @@ pub record Says (r : Bool) (P : Type 0) : Type 0 where
   pub no : r ≡ false → P → ⊥
 
 -- The children from record j up to e are so many, or do not tile that range.
-abbrev pub HopsAre : List ℕ → Bool → ℕ → ℕ → ℕ → Hops → Type 0
-HopsAre t l p e j (Hops.All c) = Chain t l p e j c
-HopsAre t l p e j Hops.Broken = (c : ℕ) → Chain t l p e j c → ⊥
+abbrev pub HopsAre : (ℕ → ℕ → ℕ) → Bool → Bool → ℕ → ℕ → ℕ → Hops → Type 0
+HopsAre get up l p e j (Hops.All c) = Chain get up l p e j c
+HopsAre get up l p e j Hops.Broken = (c : ℕ) → Chain get up l p e j c → ⊥

@@ -152,7 +152,7 @@ pub enum Verdict {
 }
 
 // The children of a container: how many there are, or that they do not tile it.
-enum Hops {
+pub enum Hops {
     All(usize),
     Broken,
 }
@@ -200,7 +200,7 @@ pub fn width_of(kind: usize) -> usize
 }
 
 // Whether a span lies in a document.
-fn span_fits(start: usize, len: usize, doc_len: usize) -> bool
+pub fn span_fits(start: usize, len: usize, doc_len: usize) -> bool
     ensures { λ r. ⌜ Says r (start + len ≤ «doc_len») ⌝ }
 {
     if doc_len < len {
@@ -210,7 +210,7 @@ fn span_fits(start: usize, len: usize, doc_len: usize) -> bool
 }
 
 // Rule 4: the payload's length and the count of what holds no records.
-fn leaf_fits(kind: usize, len: usize, count: usize) -> bool
+pub fn leaf_fits(kind: usize, len: usize, count: usize) -> bool
     requires { ⌜ count < 2 ^ 32 ⌝ }
     ensures { λ r. ⌜ r ≡ leafFits kind len count ⌝ }
 {
@@ -235,7 +235,7 @@ fn leaf_fits(kind: usize, len: usize, count: usize) -> bool
 // Whether record i agrees with rules 4 and 6 as one that holds no records.
 fn leaf_agrees(doc_len: usize, table: &[u32], i: usize) -> bool
     requires { ⌜ 9 * i + 9 ≤ length (now table) ⌝ }
-    ensures { λ r. ⌜ Says r (LeafRow «doc_len» (now (table .entry)) i) ⌝ }
+    ensures { λ r. ⌜ Says r (LeafRow «doc_len» (wordOf (now (table .entry))) i) ⌝ }
 {
     let len = word(table, i, LENGTH);
     if !leaf_fits(word(table, i, KIND), len, word(table, i, COUNT)) {
@@ -254,7 +254,7 @@ fn leaf_agrees(doc_len: usize, table: &[u32], i: usize) -> bool
 // a list have no name.
 fn child_agrees(table: &[u32], parent: usize, end: usize, list: bool, j: usize) -> bool
     requires { ⌜ 9 * j + 9 ≤ length (now table) ⌝ }
-    ensures { λ r. ⌜ Says r (ChildIs (now (table .entry)) list parent end j) ⌝ }
+    ensures { λ r. ⌜ Says r (ChildIs (wordOf (now (table .entry))) true list parent end j) ⌝ }
 {
     let next = word(table, j, END);
     if next <= j {
@@ -279,7 +279,7 @@ fn child_agrees(table: &[u32], parent: usize, end: usize, list: bool, j: usize) 
 // is a child of two containers, so all hops together are no more than the records.
 fn hop_through(table: &[u32], parent: usize, from: usize, end: usize, list: bool) -> Hops
     requires { ⌜ (from ≤ end) × (9 * end ≤ length (now table)) ⌝ }
-    ensures { λ r. ⌜ HopsAre (now (table .entry)) list parent end from r ⌝ }
+    ensures { λ r. ⌜ HopsAre (wordOf (now (table .entry))) true list parent end from r ⌝ }
 {
     let mut j = from;
     let mut count = 0;
@@ -296,7 +296,7 @@ fn hop_through(table: &[u32], parent: usize, from: usize, end: usize, list: bool
 // The list kind that record i of n must have.
 fn list_kind_at(table: &[u32], n: usize, i: usize) -> usize
     requires { ⌜ (i < n) × (length (now table) ≡ 9 * n) ⌝ }
-    ensures { λ r. ⌜ r ≡ listKindAt (now (table .entry)) i ⌝ }
+    ensures { λ r. ⌜ r ≡ listKindAt (wordOf (now (table .entry))) i ⌝ }
 {
     if word(table, i, KIND) != 9 {
         return 0;
@@ -313,7 +313,7 @@ fn list_kind_at(table: &[u32], n: usize, i: usize) -> usize
 // Whether record i of n, a list or a compound, agrees with rule 6, and its children tile it.
 fn container_agrees(table: &[u32], n: usize, i: usize) -> bool
     requires { ⌜ (i < n) × (length (now table) ≡ 9 * n) × (holds (wordOf (now table) i 0) ≡ true) ⌝ }
-    ensures { λ r. ⌜ Says r (ContainerRow (now (table .entry)) n i) ⌝ }
+    ensures { λ r. ⌜ Says r (ContainerRow (wordOf (now (table .entry))) true n i) ⌝ }
 {
     if word(table, i, START) != 0 {
         return false;
@@ -341,7 +341,7 @@ fn container_agrees(table: &[u32], n: usize, i: usize) -> bool
 // Whether record i of n agrees with rules 4 and 6.
 fn record_agrees(doc_len: usize, table: &[u32], n: usize, i: usize) -> bool
     requires { ⌜ (i < n) × (length (now table) ≡ 9 * n) ⌝ }
-    ensures { λ r. ⌜ Says r (RowIs «doc_len» (now (table .entry)) n i) ⌝ }
+    ensures { λ r. ⌜ Says r (RowIs «doc_len» (wordOf (now (table .entry))) true n i) ⌝ }
 {
     if !span_fits(word(table, i, NAME), word(table, i, NAME_LENGTH), doc_len) {
         return false;
@@ -355,7 +355,7 @@ fn record_agrees(doc_len: usize, table: &[u32], n: usize, i: usize) -> bool
 // Whether each of n records agrees with rules 4 and 6; the first that does not ends the search.
 fn records_agree(doc_len: usize, table: &[u32], n: usize) -> bool
     requires { ⌜ length (now table) ≡ 9 * n ⌝ }
-    ensures { λ r. ⌜ Says r ((i : ℕ) → i < n → RowIs «doc_len» (now (table .entry)) n i) ⌝ }
+    ensures { λ r. ⌜ Says r ((i : ℕ) → i < n → RowIs «doc_len» (wordOf (now (table .entry))) true n i) ⌝ }
 {
     let mut i = 0;
     while i < n {

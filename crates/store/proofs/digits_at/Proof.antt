@@ -15,10 +15,10 @@ use Rattle.store.proofs.digits_at.Statement.{statement}
 use Rattle.store.proofs.digits_at.Tie as tie
 
 abbrev Inv-loop : tie.InvT-loop
-Inv-loop lines at largest₀ k₀ largest k = (ltb largest 16 ≡ allDigits (part lines at k)) × (k ≤ 72)
+Inv-loop lines at count largest₀ k₀ largest k = (ltb largest 16 ≡ allDigits (part lines at k)) × (k ≤ count)
 
 abbrev μ-loop : tie.MeasureT-loop
-μ-loop lines at largest₀ k₀ largest k = 72 - k
+μ-loop lines at count largest₀ k₀ largest k = count - k
 
 -- Where the function starts, from its loop.
 abbrev start-of : tie.At-loop Inv-loop μ-loop → tie.Start Inv-loop μ-loop

@@ -1,4 +1,4 @@
--- `store::is_line` meets its contract: a good line is known by its 73 bytes, and bytes that begin otherwise begin with a bad one.
+-- `store::is_line` meets its contract: a good line is known by its bytes, and bytes that begin otherwise begin with a bad one.
 -- Assumes nothing.
 use borrow.Author.Needs.{needs}
 use mathlib.Core.Path.{subst, sym, _∙_}
@@ -23,14 +23,14 @@ returns : tie.Need-returns
 returns c =
     let at-fed = c .before .before in
     let start = start-of at-fed in
-    subst (FirstLine (drop (start .args .at) (start .args .lines .now))) (sym (c .digits-at .ensures))
-    (told-line _ (start .args .at) (start .pre) (sym (at-fed .fed .ensures) ∙ c .before .if1 .taken))
+    subst (FirstLine (start .args .words) (drop (start .args .at) (start .args .lines .now))) (sym (c .digits-at .ensures))
+    (told-line (start .args .words) _ (start .args .at) (start .pre .0) (sym (at-fed .fed .ensures) ∙ c .before .if1 .taken))
 
 returns-2 : tie.Need-returns-2
 returns-2 c =
     let at-fed = c .before in
     let start = start-of at-fed in
-    unfed-line _ (start .args .at) (start .pre) (sym (at-fed .fed .ensures) ∙ c .if1 .left)
+    unfed-line (start .args .words) _ (start .args .at) (start .pre .0) (sym (at-fed .fed .ensures) ∙ c .if1 .left)
 
 pub is-line-spec : {M : Type 1} → statement M
-is-line-spec = tie.close (tie.spec (λ c. omega (arith, c .before .pre, c .before .good .0 .1)) (λ c κs. search needs) digits-at-requires returns returns-2)
+is-line-spec = tie.close (tie.spec (λ c. omega (arith, c .before .pre .1)) (λ c. omega (arith, c .before .pre .0, c .before .pre .1, c .before .good .0 .1)) (λ c κs. search needs) digits-at-requires returns returns-2)

@@ -30,7 +30,7 @@ loop-again c =
     let at-lists = at-loop .before in
     let l = at-loop .loop in
     let a = at-lists .before .before .args in (
-      at-put .put-line .ensures ∙ line-behind (a .table .now) (l .i) (a .out .now) (l .out) (l .inv .0) (omega arith) (omega arith),
+      at-put .put-line .ensures ∙ line-behind 9 (a .table .now) (l .i) (a .out .now) (l .out) (l .inv .0) (omega arith) (omega arith),
       at-put .put-line .kept .1 .1 .0 ∙ l .inv .1,
       omega arith,
     )

@@ -35,8 +35,8 @@ loop-of c = c .before .before
 
 -- The line that stands next, known to be good or bad.
 line-next : (c : tie.After-is-line Inv-loop μ-loop) (good : Bool) → c .is-line .result ≡ good
-    → FirstLine (drop (73 * c .before .before .loop .n) (start-of (c .before .before) .args .lines .now)) good
-line-next c good e = subst (FirstLine _) e (c .is-line .ensures)
+    → FirstLine 9 (drop (73 * c .before .before .loop .n) (start-of (c .before .before) .args .lines .now)) good
+line-next c good e = subst (FirstLine _ _) e (c .is-line .ensures)
 
 returns : tie.Need-returns Inv-loop μ-loop
 returns c =
@@ -93,7 +93,7 @@ take-lines-spec =
     (λ c. sofar-start _ _)
     (λ c. omega (arith, c .loop .inv .begun, start-of c .good .0 .1))
     (λ c. omega (arith, c .before .loop .inv .begun, start-of (c .before) .good .0 .1))
-    (λ c κs. c .loop-test .taken)
+    (λ c κs. (c .loop-test .taken, omega arith))
     (λ c. omega (arith, few (loop-of (c .before))))
     (λ c. same (loop-of (c .before)))
     returns

@@ -2,7 +2,7 @@
 -- Assumes nothing.
 use borrow.Author.Needs.{needs}
 use borrow.Author.Tests.{not-true, not-false}
-use mathlib.Core.Path.{sym, _∙_}
+use mathlib.Core.Path.{refl, sym, _∙_}
 use native.Mathlib.Omega.{arith}
 use Rattle.table.proofs.Tests.{apart, says-yes, says-no, says-eqb}
 use Rattle.table.proofs.child_agrees.Statement.{statement}
@@ -15,7 +15,7 @@ returns-2 : tie.Need-returns-2
 returns-2 c = says-no (λ is. let e = c .before .before .word .ensures in let le = is .within in let t = c .if2 .taken in omega arith)
 
 returns-3 : tie.Need-returns-3
-returns-3 c = says-no (λ is. c .if3 .taken (c .before .word2 .ensures ∙ is .parent))
+returns-3 c = says-no (λ is. c .if3 .taken (c .before .word2 .ensures ∙ is .parent refl))
 
 returns-4 : tie.Need-returns-4
 returns-4 c =
@@ -28,7 +28,7 @@ returns-4 c =
       on = omega arith;
       within = omega arith;
       nameless = λ p. absurd (apart _ p (not-true _ (c .if4 .taken)));
-      parent = sym (at-parent .before .word2 .ensures) ∙ at-parent .if3 .left;
+      parent = λ _. sym (at-parent .before .word2 .ensures) ∙ at-parent .if3 .left;
     })
 
 returns-5 : tie.Need-returns-5
@@ -48,7 +48,7 @@ returns-6 c =
       on = omega arith;
       within = omega arith;
       nameless = λ _. (sym (at-name .before .word3 .ensures) ∙ at-name .if5 .left, sym (c .word4 .ensures) ∙ p);
-      parent = sym (at-parent .before .word2 .ensures) ∙ at-parent .if3 .left;
+      parent = λ _. sym (at-parent .before .word2 .ensures) ∙ at-parent .if3 .left;
     })
     (λ is. c .word4 .ensures ∙ is .nameless (not-false _ (at-list .if4 .left)) .1)
 

@@ -17,14 +17,14 @@ returns-3 : tie.Need-returns-3
 returns-3 c = says-no (λ is. c .if3 .taken (c .before .before .word3 .ensures ∙ is .listed ∙ sym (c .before .list-kind-at .ensures)))
 
 returns-4 : tie.Need-returns-4
-returns-4 c = says-no (λ is. let e = c .before .word4 .ensures in let on = container-on _ _ _ is in let t = c .if4 .taken in omega arith)
+returns-4 c = says-no (λ is. let e = c .before .word4 .ensures in let on = container-on _ _ _ _ is in let t = c .if4 .taken in omega arith)
 
 returns-5 : tie.Need-returns-5
 returns-5 c = says-no (λ is. let e = c .before .before .word4 .ensures in let le = is .within in let t = c .if5 .taken in omega arith)
 
 returns-6 : tie.Need-returns-6
 returns-6 c =
-    container-all _ _ _ _ _ (c .before .before .before .before .word6 .ensures) (c .before .before .before .before .before .before .before .before .word4 .ensures) (c .before .before .before .hop-through .result) (c .before .before .before .hop-through .ensures)
+    container-all _ _ _ _ _ _ (c .before .before .before .before .word6 .ensures) (c .before .before .before .before .before .before .before .before .word4 .ensures) (c .before .before .before .hop-through .result) (c .before .before .before .hop-through .ensures)
     (c .before .before .before .before .before .before .before .before .before .before .before .before .before .before .before .before .before .pre .2) (sym (c .before .before .before .before .before .before .before .before .before .before .before .before .before .before .before .word .ensures) ∙ c .before .before .before .before .before .before .before .before .before .before .before .before .before .before .if1 .left) (sym (c .before .before .before .before .before .before .before .before .before .before .before .before .before .word2 .ensures) ∙ c .before .before .before .before .before .before .before .before .before .before .before .before .if2 .left)
     (sym (c .before .before .before .before .before .before .before .before .before .before .before .word3 .ensures) ∙ c .before .before .before .before .before .before .before .before .before .if3 .left ∙ c .before .before .before .before .before .before .before .before .before .before .list-kind-at .ensures)
     (rw (c .before .before .before .before .before .before .before .before .word4 .ensures) at (c .before .before .before .before .before .before .if5 .left))
@@ -32,7 +32,7 @@ returns-6 c =
 
 returns-7 : tie.Need-returns-7
 returns-7 c =
-    container-broken _ _ _ _ _ (c .before .before .before .word6 .ensures) (c .before .before .before .before .before .before .before .word4 .ensures) (c .before .before .hop-through .result) (c .before .before .hop-through .ensures)
+    container-broken _ _ _ _ _ _ (c .before .before .before .word6 .ensures) (c .before .before .before .before .before .before .before .word4 .ensures) (c .before .before .hop-through .result) (c .before .before .hop-through .ensures)
     (c .enum-told .given .1)
 
 pub container-agrees-spec : {M : Type 1} → statement M

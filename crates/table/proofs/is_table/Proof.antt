@@ -1,7 +1,7 @@
 -- `table::is_table` meets its contract: the limits first, then the records one by one, which agree exactly if the words form a table.
 -- Assumes nothing.
 use borrow.Author.Needs.{needs}
-use mathlib.Core.Path.{sym, _∙_}
+use mathlib.Core.Path.{refl, sym, _∙_}
 use native.Mathlib.Omega.{arith}
 use Rattle.form.proofs.Tables.{table-length}
 use Rattle.form.proofs.Rows.{table-rows, rows-table}
@@ -53,7 +53,7 @@ returns-7 c =
     let at-rows = at-kind .before .before .before in
     verdict-is _ _ Verdict.NoTable (
       record { bytes = at-rows .before .before .if1 .left; words = at-rows .before .if2 .left },
-      λ t. c .if7 .taken (c .before .word3 .ensures ∙ table-rows _ _ _ (at-rows .if3 .left) t .top),
+      λ t. c .if7 .taken (c .before .word3 .ensures ∙ table-rows _ _ _ (at-rows .if3 .left) t .top refl),
     )
 
 returns-8 : tie.Need-returns-8
@@ -68,7 +68,7 @@ returns-8 c =
         some = (let n = at-kind .before .before .if4 .left in omega arith);
         compound = sym (at-kind .before .word .ensures) ∙ at-kind .if5 .left;
         whole = sym (at-end .before .word2 .ensures) ∙ at-end .if6 .left;
-        top = sym (at-top .before .word3 .ensures) ∙ at-top .if7 .left;
+        top = λ _. sym (at-top .before .word3 .ensures) ∙ at-top .if7 .left;
         each = c .before .records-agree .ensures .yes (c .if8 .taken);
       }),
     )

@@ -3,6 +3,8 @@
 use borrow.Author.Needs.{needs}
 use mathlib.Core.Path.{sym, _∙_}
 use native.Mathlib.Omega.{arith}
+use Prim.Native.Nat.{_+_}
+use Rattle.form.proofs.Tables.{word-past}
 use Rattle.form.proofs.Rows.{kind-other, kind-empty, kind-past, kind-first}
 use Rattle.table.proofs.list_kind_at.Statement.{statement}
 use Rattle.table.proofs.list_kind_at.Tie as tie
@@ -17,8 +19,11 @@ returns-2 c =
 
 returns-3 : tie.Need-returns-3
 returns-3 c =
-    kind-past _ _ (sym (c .before .before .before .before .word .ensures) ∙ c .before .before .before .if1 .left)
-    (λ e. c .before .if2 .left (c .before .before .word2 .ensures ∙ e)) (omega arith)
+    let at-count = c .before in
+    let at-kind = at-count .before .before in
+    let start = at-kind .before .before .before in
+    kind-past _ _ (sym (at-kind .before .word .ensures) ∙ at-kind .if1 .left)
+    (λ e. at-count .if2 .left (at-count .before .word2 .ensures ∙ e)) (word-past (start .args .table .now) (start .args .i + 1) (omega arith))
 
 returns-4 : tie.Need-returns-4
 returns-4 c =

@@ -17,13 +17,13 @@ container-agrees-requires c κs =
 
 returns-2 : tie.Need-returns-2
 returns-2 c =
-    row-container _ _ _ _ (rw (c .before .before .before .before .before .before .before .word .ensures, c .before .before .before .before .before .before .word2 .ensures) at (c .before .before .before .before .before .span-fits .ensures .yes (not-false _ (c .before .before .before .before .if1 .left))))
+    row-container _ _ _ _ _ (rw (c .before .before .before .before .before .before .before .word .ensures, c .before .before .before .before .before .before .word2 .ensures) at (c .before .before .before .before .before .span-fits .ensures .yes (not-false _ (c .before .before .before .before .if1 .left))))
     (rw (c .before .before .before .word3 .ensures) at (sym (c .before .before .is-container .ensures) ∙ c .before .if2 .taken))
     (c .container-agrees .result) (c .container-agrees .ensures)
 
 returns-3 : tie.Need-returns-3
 returns-3 c =
-    row-leaf _ _ _ _ (rw (c .before .before .before .before .before .before .before .word .ensures, c .before .before .before .before .before .before .word2 .ensures) at (c .before .before .before .before .before .span-fits .ensures .yes (not-false _ (c .before .before .before .before .if1 .left))))
+    row-leaf _ _ _ _ _ (rw (c .before .before .before .before .before .before .before .word .ensures, c .before .before .before .before .before .before .word2 .ensures) at (c .before .before .before .before .before .span-fits .ensures .yes (not-false _ (c .before .before .before .before .if1 .left))))
     (rw (c .before .before .before .word3 .ensures) at (sym (c .before .before .is-container .ensures) ∙ c .before .if2 .left))
     (c .leaf-agrees .result) (c .leaf-agrees .ensures)
 

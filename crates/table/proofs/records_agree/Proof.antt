@@ -4,13 +4,15 @@ use borrow.Author.Count.{below-more}
 use borrow.Author.Tests.{not-true, not-false}
 use Prim.Native.Nat.{ℕ, _-_, _≤_, _<_}
 use native.Mathlib.Omega.{arith}
+use mathlib.Core.Bool.{true}
+use Rattle.form.specs.Table.{word}
 use Rattle.form.specs.Rows.{RowIs}
 use Rattle.table.proofs.Tests.{says-yes, says-no}
 use Rattle.table.proofs.records_agree.Statement.{statement}
 use Rattle.table.proofs.records_agree.Tie as tie
 
 abbrev Inv-loop : tie.InvT-loop
-Inv-loop doc-len table n i₀ i = (i ≤ n) × ((k : ℕ) → k < i → RowIs doc-len table n k)
+Inv-loop doc-len table n i₀ i = (i ≤ n) × ((k : ℕ) → k < i → RowIs doc-len (word table) true n k)
 
 abbrev μ-loop : tie.MeasureT-loop
 μ-loop doc-len table n i₀ i = n - i

@@ -16,12 +16,22 @@ pub enum Command {
     Hex,
 }
 
+/// Which way lines are moved: from eight words to nine, or back.
+#[derive(Clone, Copy, PartialEq, Eq)]
+pub enum Way {
+    Up,
+    Down,
+}
+
 pub struct Args {
     pub command: Command,
     pub query: Query,
     pub files: Vec<OsString>,
     pub out: Option<OsString>,
     pub lines: Option<OsString>,
+    way: Option<Way>,
+    length: Option<usize>,
+    pub in_place: bool,
     pub json: bool,
     pub full: bool,
     pub line: bool,
@@ -43,11 +53,14 @@ tile: looks into NBT documents, with every answer from a proved library.
   tile write FILE -o FILE     a document read and written again
   tile rescue FILE… -o FILE   a whole document of one that was cut in transfer
   tile lines FILE… [-o FILE]  the table as lines of digits, to be kept
+  tile lines --up|--down …    lines that were kept before they named parents, brought along, or back
   tile hex FILE…              the bytes
 
   -o FILE       where to write; - is standard output; a folder holds what is rescued, and lines, under the names of the files
   --lines FILE  lines that were kept, taken in place of reading the document (list, query, write, lines), or compared with it (check);
                 of a folder, its NAME.lines
+  --length N    how many bytes the document has that the lines to be moved are of (lines --up and --down)
+  --in-place    the moved lines take the place of the old ones, in the same file (lines --up and --down)
   --json        one JSON object for each file, on a line of its own (list, check, query, rescue)
   --full        strings and arrays whole, however long (list, query)
   --line        the bytes as one line of digits (hex)
@@ -140,6 +153,7 @@ ends before the root's name does: exit status 1. Several files are saved in a fo
 
 const ABOUT_LINES: &str = "\
 tile lines [--lines FILE] FILE… [-o FILE]
+tile lines --up|--down --length N FILE… [-o FILE | --in-place]
 
 Writes a document's table as lines, to be kept: for each tag the nine words of its record, each as eight digits 0 to 9 and a to f, and a
 line feed. They go to standard output unless -o says where. A folder holds them as NAME.lines, NAME being the file's own name without .gz;
@@ -149,10 +163,20 @@ With --lines, list, query, write and lines take the table from such lines and do
 Lines that are bad, or that form no table over a document of this length, are refused: exit status 1. No more than that is asked of them
 (rule 7: every name and payload lies in the document, and the records form a tree, in which each names its parent). So they must be the
 document's own, as it is now; tile check --lines reads it, and tells whether they are. Lines of eight words, as they were before they named
-parents, are bad: tile lines makes new ones of the document.
+parents, are bad: tile lines --up brings them along, and tile lines makes new ones of the document.
+
+With --up or --down, FILE is no document but such lines. --up moves lines of eight words to lines of nine, with the parents worked out;
+--down drops the parents, for whoever still reads eight words. Up and down again, or down and up, gives the first lines. --length N is how
+many bytes the document has (inflated, if it is gzip'd), by which names and payloads are judged; it holds for every FILE. Lines of another
+width than the one that is moved, or of both widths, and lines that form no table are refused, and nothing is written of them. The others
+go to standard output or where -o says; a folder holds them under the files' own names. With --in-place each file is replaced by its moved
+lines at one stroke, once they are written whole in a new file beside it; it keeps its owner and permissions. A file that is refused, or
+whose lines can't be written, stays as it was.
 
   tile lines tiles/*.nbt -o kept/
   tile query --lines kept/ 'root/**/SceneId' tiles/*.nbt
+  tile lines --up --length 110 samples/reef-old.lines
+  tile lines --up --length $(wc -c <tiles/reef.nbt) kept/reef.nbt.lines --in-place
 ";
 
 const ABOUT_HEX: &str = "\
@@ -225,7 +249,19 @@ pub fn parse(words: impl Iterator<Item = OsString>) -> Result<Args, Instead> {
     let Some(command) = command else {
         return fault(format!("there is no command {}", first.to_string_lossy()));
     };
-    let mut args = Args { command, query: Query::new(), files: Vec::new(), out: None, lines: None, json: false, full: false, line: false };
+    let mut args = Args {
+        command,
+        query: Query::new(),
+        files: Vec::new(),
+        out: None,
+        lines: None,
+        way: None,
+        length: None,
+        in_place: false,
+        json: false,
+        full: false,
+        line: false,
+    };
     options(&mut args, words)?;
     path(&mut args)?;
     complete(args)
@@ -241,6 +277,10 @@ fn options(args: &mut Args, mut words: impl Iterator<Item = OsString>) -> Result
             Some("--full") => args.full = true,
             Some("--line") => args.line = true,
             Some("-o" | "--output") => args.out = Some(given(words.next(), "-o wants a file")?),
+            Some("--up") => way(args, Way::Up)?,
+            Some("--down") => way(args, Way::Down)?,
+            Some("--length") => args.length = Some(length(words.next())?),
+            Some("--in-place") => args.in_place = true,
             Some("--lines") => args.lines = Some(given(words.next(), "--lines wants a file or a folder")?),
             Some(option) if option.starts_with('-') && option != "-" => return fault(format!("there is no option {option}")),
             _ => args.files.push(word),
@@ -251,6 +291,22 @@ fn options(args: &mut Args, mut words: impl Iterator<Item = OsString>) -> Result
 
 fn given(word: Option<OsString>, wanted: &str) -> Result<OsString, Instead> {
     word.map_or_else(|| fault(wanted.to_owned()), Ok)
+}
+
+fn way(args: &mut Args, way: Way) -> Result<(), Instead> {
+    if args.way.is_some_and(|other| other != way) {
+        return fault("lines are moved --up or --down, not both".to_owned());
+    }
+    args.way = Some(way);
+    Ok(())
+}
+
+/// A number of bytes. One that is beyond every limit is one all the same, and refused as such.
+fn length(word: Option<OsString>) -> Result<usize, Instead> {
+    match word.as_deref().and_then(OsStr::to_str) {
+        Some(digits) if !digits.is_empty() && digits.bytes().all(|byte| byte.is_ascii_digit()) => Ok(digits.parse().unwrap_or(usize::MAX)),
+        _ => fault("--length wants the number of bytes that the document has".to_owned()),
+    }
 }
 
 /// Takes a query's path from the front of the files.
@@ -286,9 +342,15 @@ impl Args {
         }
     }
 
+    /// Which way lines are to be moved, and the length of their document.
+    pub fn moving(&self) -> Option<(Way, usize)> {
+        Some((self.way?, self.length?))
+    }
+
     /// The name that what is made of a file has in a folder.
     fn saved_name(&self, file: &OsStr) -> OsString {
         match self.command {
+            Command::Lines if self.way.is_some() => Path::new(file).file_name().unwrap_or_default().to_owned(),
             Command::Lines => lines_name(file),
             _ => own_name(file),
         }
@@ -335,7 +397,7 @@ fn not_a_folder(option: &str, name: Option<&OsStr>, files: usize) -> Result<(), 
 
 /// Whether what is made of the files has places to go to, and each its own.
 fn folder(args: &Args) -> Result<(), Instead> {
-    if !args.command.fills_folders() {
+    if !args.command.fills_folders() || args.in_place {
         return Ok(());
     }
     if args.folder().is_none() {
@@ -367,6 +429,39 @@ fn lines(args: &Args) -> Result<(), Instead> {
     }
 }
 
+/// Whether lines are to be moved, and all is said that a move wants.
+fn moves(args: &Args) -> Result<(), Instead> {
+    let Some(way) = args.way else {
+        return match (args.length, args.in_place) {
+            (Some(_), _) => fault("--length goes with lines --up and lines --down".to_owned()),
+            (None, true) => fault("--in-place goes with lines --up and lines --down".to_owned()),
+            (None, false) => Ok(()),
+        };
+    };
+    let way = if way == Way::Up { "--up" } else { "--down" };
+    if args.command != Command::Lines {
+        return fault(format!("{way} goes with lines"));
+    }
+    if args.lines.is_some() {
+        return fault(format!("{way} takes each file itself as lines, so --lines has no place beside it"));
+    }
+    if args.length.is_none() {
+        return fault(format!("{way} wants to know how many bytes the document has: --length N"));
+    }
+    in_place(args)
+}
+
+/// Whether the files can be replaced, if that is asked for.
+fn in_place(args: &Args) -> Result<(), Instead> {
+    if args.in_place && args.out.is_some() {
+        return fault("the moved lines go into the same file (--in-place) or where -o says, not both".to_owned());
+    }
+    if args.in_place && args.files.iter().any(|file| file == "-") {
+        return fault("standard input is no file that could be replaced: --in-place wants files".to_owned());
+    }
+    Ok(())
+}
+
 /// Whether -o is there where it must be, and only where it may.
 fn output(args: &Args) -> Result<(), Instead> {
     let writes = args.command.writes();
@@ -386,6 +481,7 @@ fn complete(args: Args) -> Result<Args, Instead> {
     if args.lines.is_some() && !args.command.takes_lines() {
         return fault("--lines goes with list, check, query, write and lines".to_owned());
     }
+    moves(&args)?;
     if args.files.is_empty() {
         return fault("no file is given; - is standard input".to_owned());
     }

@@ -15,12 +15,16 @@ pub enum Trouble {
     Refused(Refusal, Vec<u8>),
     /// The library refuses these lines, or what is done with their table; with the bytes that the place counts.
     Lines(String, Refusal, Vec<u8>),
+    /// These lines have eight words each, and the library can move them to nine; with the bytes that the place counts, and the command.
+    OldLines(String, Refusal, Vec<u8>, String),
+    /// The library refuses to move these lines; with their bytes, and how many the document is said to have.
+    Unmoved(Refusal, Vec<u8>, usize),
     /// These lines are another document's: the first that differs, from 1.
     Foreign(String, usize),
 }
 
 impl Trouble {
-    fn unread(error: io::Error) -> Trouble {
+    pub fn unread(error: io::Error) -> Trouble {
         Trouble::Io(format!("can't be read: {error}"))
     }
 

@@ -89,8 +89,10 @@ pub fn trouble(trouble: &Trouble) -> String {
     match trouble {
         Trouble::Io(words) => format!("\"error\":{}", string(words)),
         Trouble::Packed(words) => format!("\"message\":{}", string(words)),
-        Trouble::Refused(refusal, _) => refused(refusal, &refusal.to_string()),
-        Trouble::Lines(lines, refusal, _) => format!("\"lines\":true,{}", refused(refusal, &show::unfit(lines, refusal))),
+        Trouble::Refused(refusal, _) | Trouble::Unmoved(refusal, ..) => refused(refusal, &refusal.to_string()),
+        Trouble::Lines(lines, refusal, _) | Trouble::OldLines(lines, refusal, ..) => {
+            format!("\"lines\":true,{}", refused(refusal, &show::unfit(lines, refusal)))
+        }
         Trouble::Foreign(lines, first) => format!("\"lines\":true,{}", at(Place::Line(*first), &show::foreign(lines, *first))),
     }
 }

@@ -3,7 +3,7 @@ use crate::args::{Args, Command};
 use crate::input::{self, Input, Trouble};
 use crate::show;
 use std::ffi::OsStr;
-use tikfazrul::{read, Refusal, Table, WORDS};
+use tikfazrul::{lines_up, read, Refusal, Table, WORDS};
 
 /// A document with its table.
 pub struct Loaded {
@@ -63,9 +63,19 @@ pub fn parsed(text: Vec<u8>) -> Result<Vec<u8>, Trouble> {
 
 /// The table that was kept in a file of lines.
 fn table(kept: &OsStr, input: &Input) -> Result<Table, Trouble> {
+    let lines = input::lines(kept).map_err(|error| Trouble::Io(format!("{} can't be read: {error}", show::lines(kept))))?;
+    Table::from_lines(&lines, input.bytes.len()).map_err(|refusal| unfit(kept, refusal, lines, input.bytes.len()))
+}
+
+/// Lines that are of no use for a document of so many bytes. Where a move of old ones would help, it is named.
+fn unfit(kept: &OsStr, refusal: Refusal, lines: Vec<u8>, length: usize) -> Trouble {
     let name = show::lines(kept);
-    let lines = input::lines(kept).map_err(|error| Trouble::Io(format!("{name} can't be read: {error}")))?;
-    Table::from_lines(&lines, input.bytes.len()).map_err(|refusal| Trouble::Lines(name, refusal, lines))
+    // 02, [8]: not so of lines of both widths, nor of those that form no table
+    if !matches!(refusal, Refusal::BadLine(_)) || lines_up(&lines, length).is_err() {
+        return Trouble::Lines(name, refusal, lines);
+    }
+    let file = if kept == "-" { "-".to_owned() } else { show::name(kept) };
+    Trouble::OldLines(name, refusal, lines, format!("tile lines --up --length {length} {file} -o …"))
 }
 
 /// Whether the table that was kept in a file of lines is the one that was read.

@@ -3,6 +3,7 @@ mod args;
 mod input;
 mod json;
 mod load;
+mod moves;
 mod progress;
 mod show;
 
@@ -105,7 +106,10 @@ fn one(args: &Args, file: &OsStr, said: &mut Vec<u8>) -> Result<(), Trouble> {
         Command::Text => save(args, file, &load::parsed(input::raw(file)?)?, said)?,
         Command::Write => save(args, file, &again(load(args, file)?)?, said)?,
         Command::Rescue => salvage(args, file, input::arrived(file)?, said)?,
-        Command::Lines => save(args, file, &lines(&load(args, file)?)?, said)?,
+        Command::Lines => match args.moving() {
+            Some((way, length)) => moves::bring(args, file, way, length, said)?,
+            None => save(args, file, &lines(&load(args, file)?)?, said)?,
+        },
         Command::List | Command::Check | Command::Query => answer(args, file, &load(args, file)?, said)?,
     }
     Ok(())
@@ -154,7 +158,8 @@ fn over_itself(args: &Args, file: &OsStr) -> Result<(), Trouble> {
         return Ok(());
     };
     if args.command.fills_folders() && real(Path::new(file)).as_ref() == Some(&target) {
-        return Err(Trouble::Io("is not written over itself".to_owned()));
+        let way_out = if args.moving().is_some() { "; --in-place replaces it" } else { "" };
+        return Err(Trouble::Io(format!("is not written over itself{way_out}")));
     }
     match args.lines_of(file).and_then(|lines| real(Path::new(&lines))) {
         Some(lines) if lines == target => Err(Trouble::Io("is not written over its lines".to_owned())),

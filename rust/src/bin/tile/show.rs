@@ -127,6 +127,10 @@ pub fn trouble(trouble: &Trouble) -> String {
         Trouble::Io(words) => words.clone(),
         Trouble::Packed(words) => format!("refused: {words}"),
         Trouble::Lines(lines, refusal, bytes) => format!("refused: {}{}", unfit(lines, refusal), window(refusal, bytes)),
+        Trouble::OldLines(lines, refusal, bytes, command) => {
+            format!("refused: {}{}\n{command} brings them along", unfit(lines, refusal), window(refusal, bytes))
+        }
+        Trouble::Unmoved(refusal, bytes, length) => format!("refused: {refusal}{}{}", said(refusal, *length), window(refusal, bytes)),
         Trouble::Foreign(lines, first) => format!("refused: {}", foreign(lines, *first)),
         Trouble::Refused(refusal, bytes) => {
             let position = match refusal.place() {
@@ -135,6 +139,14 @@ pub fn trouble(trouble: &Trouble) -> String {
             };
             format!("refused: {refusal}{position}{}", window(refusal, bytes))
         }
+    }
+}
+
+/// What to look at where lines form no table: the length that they were judged by.
+fn said(refusal: &Refusal, length: usize) -> String {
+    match refusal {
+        Refusal::NoTable(_) => format!(", which has {} by --length", plural(length, "byte", "bytes")),
+        _ => String::new(),
     }
 }
 

@@ -1,0 +1,29 @@
+-- `replay_moves::print_spelt` is safe and ends: i rises to the length.
+-- Assumes nothing.
+use borrow.Author.Needs.{needs}
+use Prim.Native.Nat.{_-_, _≤_}
+use lib.ListN.{length}
+use Rattle.replay_moves.proofs.print_spelt.Statement.{statement}
+use Rattle.replay_moves.proofs.print_spelt.Tie as tie
+
+abbrev Inv-loop : tie.InvT-loop
+Inv-loop out i₀ i = i ≤ length out
+
+abbrev μ-loop : tie.MeasureT-loop
+μ-loop out i₀ i = length out - i
+
+pub print-spelt-spec : {M : Type 1} → statement M
+print-spelt-spec =
+    tie.close
+    (tie.spec
+    Inv-loop
+    μ-loop
+    (λ c. search needs)
+    (λ c. search needs)
+    (λ c κs. search needs)
+    (λ c. search needs)
+    (λ c κs. search needs)
+    (λ c. search needs)
+    (λ c. search needs)
+    (λ c. search needs)
+    (λ c. search needs))
