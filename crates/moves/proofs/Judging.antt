@@ -8,7 +8,6 @@ use mathlib.Core.Bool.{Bool, true, false, not}
 use native.Mathlib.Omega.{arith}
 use lib.ListN.{length}
 use Rattle.form.specs.Answer.{Out, got, no, documentLimit, noTable, outputFull}
-use Rattle.form.specs.Spans.{over}
 use Rattle.form.specs.Table.{Forest, none, node, size}
 use Rattle.form.specs.Rows.{RowsAre}
 use Rattle.form.specs.Records.{SitsAt}
@@ -53,7 +52,7 @@ ninth-in : (e : Edition) → parented e ≡ true → 8 < wordsIn e
 ninth-in eight h = absurd (let z : _≡_ {A = ℕ} 0 1 = cc in omega arith)
 ninth-in nine h = omega arith
 
--- Word 8 of a record is a word like the others.
+-- As many words are as many records.
 words-one : (e : Edition) (a b : ℕ) → wordsIn e * a ≡ wordsIn e * b → a ≡ b
 words-one eight a b h = omega arith
 words-one nine a b h = omega arith
@@ -86,8 +85,9 @@ module _ (e : Edition) (d : ℕ) (s ws : List ℕ) (n : ℕ) (w : AreWords e s n
   tree-sits t =
       let u = formed e d ws t in
       let f : Forest = node (u .head) (u .inner) none in
+      let sits : SitsAt (wordIn e ws) 0 f = subst (λ x. SitsAt (wordIn e x) 0 f) (sym (u .these)) (flat-in-sits e f) in
       rw (formed-tree e d ws t)
-      (sits-too (wordIn e ws) (lineWord e s) 0 f (subst (λ x. SitsAt (wordIn e x) 0 f) (sym (u .these)) (flat-in-sits e f)) (λ i lo hi k l. sym (w .each i (omega (arith, formed-size u)) k (eight-in e k l))))
+      (sits-too (wordIn e ws) (lineWord e s) 0 f sits (λ i lo hi k l. sym (w .each i (omega (arith, formed-size u)) k (eight-in e k l))))
 
   tree-size : (t : Forms e d ws) → size (treeIn e d ws t) ≡ n
   tree-size t = ap size (formed-tree e d ws t) ∙ formed-size (formed e d ws t)

@@ -73,14 +73,16 @@ parent-innermost get h inner s u i l = go (ℕ-discrete i 0)
     go (yes e) = subst (Innermost get i) (sym (ap (λ x. get x 8) e ∙ above-first get true 0 0 h inner none u refl)) (root-innermost get i e)
     go (no n) =
         let some : 0 < i = omega arith in
-        let above = held-by get 0 (0 + 1) inner (at-inner get 0 h inner none s) (above-inner get true 0 0 h inner none u) i (omega arith) (omega arith) in
+        let below = at-inner get 0 h inner none s in
+        let under = above-inner get true 0 0 h inner none u in
+        let above = held-by get 0 (0 + 1) inner below under i (omega arith) (omega arith) in
         record {
           root = λ e. absurd (n e);
           before = λ _. ⊎-elim (λ e. omega arith) (λ k. k .before) above;
           around = λ _. ⊎-elim (λ e. rw e (omega (arith, end))) (λ k. k .inside) above;
           ended = λ m lo hi.
               ⊎-elim
-              (λ open-at. absurd (let held = held-inside get 0 (0 + 1) inner (at-inner get 0 h inner none s) (above-inner get true 0 0 h inner none u) m i (omega arith) hi (omega arith) open-at in omega arith))
+              (λ k. absurd (let held = held-inside get 0 (0 + 1) inner below under m i (omega arith) hi (omega arith) k in omega arith))
               (λ h. h)
               (lt-or i (get m 7));
         }

@@ -3,25 +3,23 @@
 use Prim.Native.Nat.{ℕ, zero, suc, _+_, _*_, _^_, _≤_, _<_}
 use mathlib.Core.Path.{_≡_, refl, sym, ap, subst, _∙_}
 use mathlib.Core.List.{List, [], _∷_, _++_, append-assoc}
-use mathlib.Core.Bool.{true}
 use native.Mathlib.Omega.{arith}
 use native.Mathlib.Decide.{ℕ-discrete}
 use native.Mathlib.Nat.{mod-eq-of-lt}
-use lib.ListN.{length, getD, take, drop, length-drop, length-append}
+use lib.ListN.{length, getD, take, drop, length-drop}
 use lib.Seq.{take-at, drop-at, drop-drop, getD-drop, take-append-le, drop-append-le, length-take-le}
 use Rattle.form.specs.Spans.{part, over}
 use Rattle.form.specs.Table.{Forest, none, node, size, word, flat}
-use Rattle.form.specs.Eight.{oldWord, oldFlat}
-use Rattle.form.specs.Records.{SitsAt}
+use Rattle.form.specs.Eight.{oldFlat}
 use Rattle.form.specs.Stored.{hexDigits, wordDigits, lineOf, linesOf, allDigits, hexValue}
-use Rattle.form.specs.Moved.{Edition, eight, nine, other, wordsIn, wordIn, flatIn, treeLines}
+use Rattle.form.specs.Moved.{Edition, eight, nine, other, wordIn, flatIn, treeLines}
 use Rattle.form.proofs.Table.{flat-length}
 use Rattle.form.proofs.Records.{at-first, same-words, one-forest, sits-at, under-above}
 use Rattle.form.proofs.Eight.{old-length, flat-sits}
 use Rattle.form.proofs.Moved.{flat-in-sits}
 use Rattle.form.proofs.Stored.{digits-length, digits-all, digits-value, word-digits-length, line-length, lines-length}
 use Rattle.store.proofs.Writing.{word-next, line-behind}
-use Rattle.stored_table.specs.Words.{lineWord, WordAt, Lined}
+use Rattle.stored_table.specs.Words.{lineWord}
 use Rattle.stored_table.proofs.Words.{word-small}
 use Rattle.moves.specs.Steps.{Innermost, Climbable, Planted, PutIs}
 use Rattle.moves.proofs.Parents.{one-innermost, parent-innermost}

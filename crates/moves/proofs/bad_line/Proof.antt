@@ -1,7 +1,6 @@
 -- `moves::bad_line` meets its contract: by how many lines there are.
 -- Assumes nothing.
 use borrow.Author.Needs.{needs}
-use mathlib.Core.Path.{subst}
 use native.Mathlib.Omega.{arith}
 use Rattle.moves.proofs.Taking.{bad-many, bad-few}
 use Rattle.moves.proofs.bad_line.Statement.{statement}
