@@ -43,7 +43,7 @@ use Rattle.demands.proofs.Reading.{sound}
 use Rattle.demands.proofs.Texts.{text-fills}
 use Rattle.demands.proofs.Numbers.{read-numbers, write-refusals, write-lines-refusals, read-lines-numbers, query-refusals, token-numbers, content-numbers, parse-numbers}
 use Rattle.demands.proofs.Stored.{lines-are}
-use Rattle.demands.proofs.Decided.{in-each-move}
+use Rattle.form.proofs.Decided.{in-each-move}
 use Rattle.demands.proofs.Moved.{move-refusals}
 use Rattle.demands.proofs.Rescue.{Way, rescue-way}
 use Rattle.demands.proofs.Outcomes.{one-table-called, one-write-called, one-write-lines-called, one-move-called, one-query-called}

@@ -14,7 +14,6 @@ pub mod Judged
 pub mod Tabled
 pub mod Near
 pub mod Meant
-pub mod Decided
 pub mod Numbers
 pub mod Stored
 pub mod Moved

@@ -22,7 +22,8 @@ use Rattle.form.proofs.Picks.{lt-or}
 use Rattle.form.proofs.Records.{same-words, held-by}
 use Rattle.form.proofs.Eight.{narrow-flat}
 use Rattle.form.proofs.Stored.{no-lines, each-none, each-bad, each-good, good-long, fitting-fits}
-use Rattle.form.proofs.Moved.{flat-in-length, flat-in-sits, flat-in-under, formed, movable-lines, movable-large}
+use Rattle.form.proofs.Moved.{flat-in-length, flat-in-sits, flat-in-under, formed, records-of, formed-length, movable-lines, movable-large}
+use Rattle.form.proofs.Decided.{in-each-move}
 use Rattle.text_form.specs.Lexing.{among}
 use Rattle.calls.specs.Words.{countWords}
 use Rattle.calls.specs.Calls.{MoveCalled}
@@ -30,7 +31,6 @@ use Rattle.demands.specs.Marked.{ascii}
 use Rattle.demands.specs.Numbers.{moveNumbers, IsMoveRefusals}
 use Rattle.demands.specs.Stored.{Words, AreLines, FirstRefused}
 use Rattle.demands.specs.Moved.{IsNarrowed, IsMoved, IsMovedTable, IsThereAndBack, IsNoneMoved, IsOtherWidth, IsOneMove, examples, AreMovedExamples}
-use Rattle.demands.proofs.Decided.{formed-length, records-of, in-each-move}
 use Rattle.demands.proofs.Stored.{lines-are, lines-refused, counted-is, written-bytes}
 
 pub narrowed : IsNarrowed

@@ -6,8 +6,7 @@ use mathlib.Core.List.{List, [], _∷_, _++_, append-assoc, append-nil}
 use native.Mathlib.Omega.{arith}
 use lib.ListN.{length, getD, take, drop, length-append, length-drop, List·getD-append}
 use lib.Seq.{drop-at, drop-append-le, take-append-le, getD-drop, ext-getD, length-take-le}
-use Rattle.form.specs.Spans.{part}
-use Rattle.form.specs.Table.{Head, Forest, none, node, size, words, word, flat}
+use Rattle.form.specs.Table.{Forest, none, node, size, word, flat}
 use Rattle.form.specs.Eight.{oldWords, oldWord, oldFlat, narrow}
 use Rattle.form.specs.Records.{Sits, Under, SitsAt}
 use Rattle.form.proofs.Table.{flat-length}

@@ -32,3 +32,4 @@ pub mod Moved
 pub mod Paths
 pub mod Depths
 pub mod Outcomes
+pub mod Decided

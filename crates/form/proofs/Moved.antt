@@ -1,21 +1,21 @@
 -- Laws of the two editions (Moved.antt): words form a table exactly if a tree's records are got from them, and are then that tree's.
 -- Assumes nothing.
-use Prim.Native.Nat.{ℕ, _+_, _*_, _≤_, _<_}
+use Prim.Native.Nat.{ℕ, _+_, _*_, _/_, _≤_, _<_}
 use mathlib.Core.Path.{_≡_, refl, sym, ap, subst, _∙_}
 use mathlib.Core.List.{List, [], _++_, append-nil}
-use mathlib.Core.Bool.{true, false}
+use mathlib.Core.Bool.{false}
 use native.Mathlib.Omega.{arith}
 use lib.ListN.{length, drop}
 use lib.Seq.{drop-length}
 use borrow.Author.Tests.{le-leb, lt-leb}
 use Rattle.form.specs.Answer.{no, overLimit, documentLimit, recordLimit}
-use Rattle.form.specs.Table.{Head, Forest, none, node, size, word, flat}
-use Rattle.form.specs.Tables.{Fair, IsTable}
-use Rattle.form.specs.Eight.{oldWord, oldFlat, OldTable}
+use Rattle.form.specs.Table.{Head, Forest, none, node, size, flat}
+use Rattle.form.specs.Tables.{Fair}
+use Rattle.form.specs.Eight.{oldWord, oldFlat}
 use Rattle.form.specs.Stored.{linesRead}
 use Rattle.form.specs.Moved.{Edition, eight, nine, wordsIn, parented, wordIn, flatIn, Forms, treeIn, movable}
 use Rattle.form.specs.Records.{SitsAt, UnderAt}
-use Rattle.form.proofs.Table.{flat-length}
+use Rattle.form.proofs.Table.{size-one, flat-length}
 use Rattle.form.proofs.Tables.{sits-words}
 use Rattle.form.proofs.Records.{sits-at, at-sits, under-above, above-under, above-free}
 use Rattle.form.proofs.Rows.{Grown}
@@ -76,7 +76,21 @@ unfolding formed
 formed-tree eight d ws t = refl
 formed-tree nine d ws t = refl
 
+-- How many records so many words are.
+pub records-of : (e : Edition) (k m : ℕ) → k ≡ wordsIn e * m → k / wordsIn e ≡ m
+records-of eight k m h = omega arith
+records-of nine k m h = omega arith
+
 module _ (e : Edition) (d : ℕ) (ws : List ℕ) where
+  -- A table has so many words for each of its records,
+  pub formed-length : (t : Formed e d ws) → length ws ≡ wordsIn e * (1 + size (t .inner))
+  formed-length t =
+      ap length (t .these) ∙ flat-in-length e (node (t .head) (t .inner) none) ∙ ap (λ (k : ℕ). wordsIn e * k) (size-one (t .head) (t .inner))
+
+  -- and so as many records as its words are.
+  pub formed-records : (t : Formed e d ws) (n : ℕ) → length ws ≡ wordsIn e * n → 1 + size (t .inner) ≡ n
+  formed-records t n long = sym (records-of e (length ws) (1 + size (t .inner)) (formed-length t)) ∙ records-of e (length ws) n long
+
   -- The records of a table are a tree's,
   pub formed-grown : (t : Formed e d ws) → Grown d (wordIn e ws) (parented e) (1 + size (t .inner))
   formed-grown t = record {

@@ -2,7 +2,7 @@
 -- tree by the words, and in which record each one sits.
 -- Assumes nothing.
 use Prim.Native.Nat.{ℕ, zero, suc, _+_, _*_, _≤_, _<_}
-use mathlib.Core.Path.{_≡_, refl, sym, ap, subst, _∙_}
+use mathlib.Core.Path.{_≡_, refl, sym, subst, _∙_}
 use mathlib.Core.Logic.{_⊎_, inl, inr, ⊎-elim}
 use mathlib.Core.List.{List}
 use mathlib.Core.Bool.{Bool, true, false}
@@ -11,7 +11,7 @@ use native.Mathlib.Decide.{ℕ-discrete, decLt}
 use lib.ListN.{length, getD}
 use Rattle.form.specs.Table.{Head, Forest, none, node, size, word}
 use Rattle.form.specs.Eight.{oldWords}
-use Rattle.form.specs.Records.{Stands, Sits, Under, StandsAt, SitsAt, UnderAt}
+use Rattle.form.specs.Records.{Sits, Under, StandsAt, SitsAt, UnderAt}
 
 -- ---- what stands together
 

@@ -12,8 +12,8 @@ use lib.Seq.{drop-length}
 use lib.Dec.{eqb}
 use borrow.Author.Tests.{ne-eqb}
 use Rattle.form.specs.Answer.{pick}
-use Rattle.form.specs.Table.{Head, Forest, none, node, size, width, word, flat, holds}
-use Rattle.form.specs.Tables.{firstKind, LeafIs, ContainerIs, Fair, IsTable}
+use Rattle.form.specs.Table.{Head, Forest, none, node, size, width, word, flat}
+use Rattle.form.specs.Tables.{firstKind, LeafIs, ContainerIs, NameIs, Fair, IsTable}
 use Rattle.form.specs.Rows.{ChildIs, Chain, stop, hop, LeafRow, listKindAt, ContainerRow, RowIs, RowsAre}
 use Rattle.form.specs.Records.{StandsAt, SitsAt, UnderAt}
 use Rattle.form.proofs.Table.{size-none, width-none}
@@ -281,11 +281,12 @@ rows-grown d get up n t =
     inside d get up n 0 row (λ is. build d get up n (t .each) n (eqb (get 0 0) 9) 0 (get 0 7) (is .within) (is .tiled) (omega (arith, is .within))) in
     let p = i .ends in
     let h = headAt get 0 in
+    let name : NameIs d false h = record { within = row .name; nameless = λ (e : false ≡ true). absurd (let y : _≡_ {A = ℕ} 0 1 = cc in omega arith) } in
     record {
       head = h;
       inner = i .inner;
       compound = t .compound;
-      fair = fair-node d false h (i .inner) none (record { within = row .name; nameless = λ (e : false ≡ true). absurd (let y : _≡_ {A = ℕ} 0 1 = cc in omega arith) }) (i .sort) (i .fair) (fair-none d false);
+      fair = fair-node d false h (i .inner) none name (i .sort) (i .fair) (fair-none d false);
       sits = at-node get 0 h (i .inner) none (stands-here d get up 0 (0 + 1 + size (i .inner)) p) (i .sits) (at-none get (0 + 1 + size (i .inner)));
       under = above-node get up 0 0 h (i .inner) none (t .top) (i .under) (above-none get up 0 (0 + 1 + size (i .inner)));
       sized = omega (arith, p, t .whole);

@@ -1,7 +1,7 @@
 -- Laws for the judgement of lines and the answer of a move: the words of good lines form a table exactly if rule 7 holds record by record of
 -- the digits, and what is put then is the other edition's lines of the same tree.
 -- Assumes nothing.
-use Prim.Native.Nat.{ℕ, _+_, _*_, _≤_, _<_}
+use Prim.Native.Nat.{ℕ, _*_, _≤_, _<_}
 use mathlib.Core.Path.{_≡_, refl, sym, ap, subst, _∙_}
 use mathlib.Core.List.{List}
 use mathlib.Core.Bool.{Bool, true, false, not}
@@ -15,10 +15,11 @@ use Rattle.form.specs.Stored.{fitting}
 use Rattle.form.specs.Moved.{Edition, eight, nine, other, wordsIn, parented, wordIn, Forms, treeIn, treeLines, movable, MoveIs}
 use Rattle.form.specs.Writing.{lengthOf, Gives}
 use Rattle.form.proofs.Answer.{got-no}
+use Rattle.form.proofs.Table.{size-one}
 use Rattle.form.proofs.Records.{sits-too, above-too}
 use Rattle.form.proofs.Rows.{Grown, grown-rows, rows-grown}
 use Rattle.form.proofs.Stored.{lines-length, fitting-fits, fitting-full}
-use Rattle.form.proofs.Moved.{flat-in-length, flat-in-sits, Formed, forms, formed, formed-tree, formed-grown, grown-formed, movable-lines, movable-large}
+use Rattle.form.proofs.Moved.{flat-in-length, flat-in-sits, Formed, forms, formed, formed-tree, formed-records, formed-grown, grown-formed, movable-lines, movable-large}
 use Rattle.store.specs.declared.Answer.{Answer}
 use Rattle.store.specs.Steps.{answerOut}
 use Rattle.stored_table.specs.Words.{editionOf, lineIn, lineWord}
@@ -52,11 +53,6 @@ ninth-in : (e : Edition) → parented e ≡ true → 8 < wordsIn e
 ninth-in eight h = absurd (let z : _≡_ {A = ℕ} 0 1 = cc in omega arith)
 ninth-in nine h = omega arith
 
--- As many words are as many records.
-words-one : (e : Edition) (a b : ℕ) → wordsIn e * a ≡ wordsIn e * b → a ≡ b
-words-one eight a b h = omega arith
-words-one nine a b h = omega arith
-
 module _ (e : Edition) (d : ℕ) (s ws : List ℕ) (n : ℕ) (w : AreWords e s n ws) where
   -- The words form a table if rule 7 holds of the digits,
   rows-formed : RowsAre d (lineWord e s) (parented e) n → Formed e d ws
@@ -66,14 +62,12 @@ module _ (e : Edition) (d : ℕ) (s ws : List ℕ) (n : ℕ) (w : AreWords e s n
 
   -- A table has as many records as there are lines,
   formed-size : (t : Formed e d ws) → size (node (t .head) (t .inner) none) ≡ n
-  formed-size t = words-one e _ _ (sym (flat-in-length e (node (t .head) (t .inner) none)) ∙ ap length (sym (t .these)) ∙ w .long)
+  formed-size t = size-one (t .head) (t .inner) ∙ formed-records e d ws t n (w .long)
 
   -- and its tree is got from the digits,
   formed-lined : (t : Formed e d ws) → Grown d (lineWord e s) (parented e) n
-  unfolding size
   formed-lined t =
-      let many : 1 + size (t .inner) ≡ n = omega (arith, formed-size t) in
-      grown-too d (wordIn e ws) (lineWord e s) (parented e) n (subst (Grown d (wordIn e ws) (parented e)) many (formed-grown e d ws t))
+      grown-too d (wordIn e ws) (lineWord e s) (parented e) n (subst (Grown d (wordIn e ws) (parented e)) (formed-records e d ws t n (w .long)) (formed-grown e d ws t))
       (λ i h k l. sym (w .each i h k (eight-in e k l))) (λ i h up. sym (w .each i h 8 (ninth-in e up)))
 
   -- so that rule 7 holds of them.

@@ -10,15 +10,14 @@ use native.Mathlib.Omega.{arith}
 use native.Mathlib.Decide.{ℕ-discrete, decLe, decLt, map-dec}
 use lib.Dec.{eqb}
 use lib.ListN.{length}
 use Rattle.form.specs.Answer.{Out, got, no as refused}
-use Rattle.form.specs.Table.{none, node, size, holds}
+use Rattle.form.specs.Table.{holds}
 use Rattle.form.specs.Tables.{leafFits}
 use Rattle.form.specs.Rows.{ChildIs, Chain, stop, hop, LeafRow, listKindAt, ContainerRow, RowIs, RowsAre}
-use Rattle.form.specs.Moved.{Edition, eight, nine, wordsIn, parented, wordIn, Forms, movable}
+use Rattle.form.specs.Moved.{Edition, wordsIn, parented, wordIn, Forms, movable}
 use Rattle.form.proofs.Outcomes.{both}
 use Rattle.form.proofs.Rows.{Grown, grown-rows, rows-grown}
-use Rattle.form.proofs.Table.{size-one}
-use Rattle.form.proofs.Moved.{flat-in-length, Formed, forms, formed, formed-grown, grown-formed}
+use Rattle.form.proofs.Moved.{forms, formed, formed-length, records-of, formed-records, formed-grown, grown-formed}
 
 -- ---- what can be decided
 
@@ -100,16 +99,6 @@ module _ (d : ℕ) (get : ℕ → ℕ → ℕ) (up : Bool) (n : ℕ) where
 
 -- ---- tables
 
--- A table has so many words for each of its records.
-pub formed-length : (e : Edition) (d : ℕ) (ws : List ℕ) (t : Formed e d ws) → length ws ≡ wordsIn e * (1 + size (t .inner))
-formed-length e d ws t =
-    ap length (t .these) ∙ flat-in-length e (node (t .head) (t .inner) none) ∙ ap (λ (k : ℕ). wordsIn e * k) (size-one (t .head) (t .inner))
-
--- How many records so many words are.
-pub records-of : (e : Edition) (k m : ℕ) → k ≡ wordsIn e * m → k / wordsIn e ≡ m
-records-of eight k m h = omega arith
-records-of nine k m h = omega arith
-
 module _ (e : Edition) (d : ℕ) (ws : List ℕ) where
   -- Words of n records form a table exactly if each record is as rule 7 says.
   rows-forms : (n : ℕ) → length ws ≡ wordsIn e * n → RowsAre d (wordIn e ws) (parented e) n → Forms e d ws
@@ -118,8 +107,7 @@ module _ (e : Edition) (d : ℕ) (ws : List ℕ) where
   forms-rows : (n : ℕ) → length ws ≡ wordsIn e * n → Forms e d ws → RowsAre d (wordIn e ws) (parented e) n
   forms-rows n long t =
       let f = formed e d ws t in
-      let many : 1 + size (f .inner) ≡ n = sym (records-of e (length ws) (1 + size (f .inner)) (formed-length e d ws f)) ∙ records-of e (length ws) n long in
-      grown-rows d (wordIn e ws) (parented e) n (subst (λ (k : ℕ). Grown d (wordIn e ws) (parented e) k) many (formed-grown e d ws f))
+      grown-rows d (wordIn e ws) (parented e) n (subst (λ (k : ℕ). Grown d (wordIn e ws) (parented e) k) (formed-records e d ws f n long) (formed-grown e d ws f))
 
   pub forms-decided : Dec (Forms e d ws)
   forms-decided = go (ℕ-discrete (length ws) (wordsIn e * n))
