@@ -15,10 +15,10 @@ import re
 import sys
 
 import store
-from listing import WIDTH, Refused, random_entries, string
+from listing import WIDTH, Refused
 from store import BYTES, RECORDS, line_of, mutated, parted
-from tables import (COUNT, END, KIND, LENGTH, LIST_KIND, NAME, PARENT, START, TREES, THEIR_PARENTS, Reader, agrees, flat, is_table,
-                    made_up, nudged, parents, planted, rows_of, wrong_columns, wrong_parents)
+from tables import (COUNT, END, KIND, LENGTH, LIST_KIND, NAME, PARENT, START, TREES, THEIR_PARENTS, agrees, flat, is_table,
+                    made_up, nudged, parents, planted, rows_of, tables_read, wrong_columns, wrong_parents)
 
 UP, DOWN = "u", "d"
 WAYS = (UP, DOWN)
@@ -498,15 +498,7 @@ def of_overlaps(r, cases):
 
 def from_documents(r, cases):
     """Tables as they are read, told the least length that they agree with and one less; then with words changed."""
-    some = 0
-    while some < 40:
-        doc = bytes([10]) + string(r.choice([b"", b"root", "Höhe".encode()])) + random_entries(r, r.randrange(4))
-        reader = Reader(doc)
-        reader.root()
-        rows = reader.rows
-        if len(rows) > 9:
-            continue
-        some += 1
+    for doc, rows in tables_read(r, 40, 9):
         least = next(size for size in range(len(doc) + 1) if grown(size, [row[:PARENT] for row in rows]))
         cases.both(least, rows, True)
         if least:

@@ -14,9 +14,9 @@ import re
 import struct
 import sys
 
-from listing import WIDTH, Refused, random_entries, string
-from tables import (END, LETTERS, NAME, PARENT, START, TREES, WORDS, Reader, chain, flat, is_table, made_up, nudged, planted, some_records,
-                    with_parent, wrong_columns, wrong_parents)
+from listing import WIDTH, Refused
+from tables import (END, LETTERS, NAME, PARENT, START, TREES, WORDS, chain, flat, is_table, made_up, nudged, planted, some_records,
+                    tables_read, with_parent, wrong_columns, wrong_parents)
 
 RECORDS, BYTES = 1048576, 16777216  # what 01 allows
 UNTOUCHED = 0xAAAAAAAA
@@ -330,17 +330,10 @@ def around(cases, size, words):
 
 def of_documents(r, cases):
     """Tables as they are read, each with rooms around what it needs, a document that is too short, and words that are no table."""
-    some = 0
-    while some < 30:
-        doc = bytes([10]) + string(r.choice([b"", b"root", "Höhe".encode()])) + random_entries(r, r.randrange(4))
-        reader = Reader(doc)
-        reader.root()
-        words = flat(reader.rows)
-        if len(reader.rows) > 8:
-            continue
-        some += 1
+    for doc, rows in tables_read(r, 30, 8):
+        words = flat(rows)
         around(cases, len(doc), words)
-        need = LINE * len(reader.rows)
+        need = LINE * len(rows)
         least = next(size for size in range(len(doc) + 1) if is_table(size, words))
         cases.write(least, words, need, f"done {need}")
         if least:
@@ -350,7 +343,7 @@ def of_documents(r, cases):
         cases.write(len(doc), words[:-r.randrange(1, 9)], need, "refused 10 0")
         cases.write(len(doc), words + words[:r.randrange(1, 10)], need + LINE, "refused 10 0")
         for _ in range(4):
-            changed = nudged(r, reader.rows)
+            changed = nudged(r, rows)
             cases.write(len(doc), changed, r.choice([0, need - 1, need, need + 1]))
 
 

@@ -228,17 +228,21 @@ def chain(deep, kind):
 CUT, ADDED = [2, 3, 4, 5, 6, 7, 8, WORDS], [1, 2, 3, 4, 5, 6, 7, WORDS]
 
 
-def from_documents(r, cases):
-    """Tables as they are read, and each damaged in several ways."""
+def tables_read(r, count, most):
+    """So many documents, each with its table as it is read, of no more records than that."""
     some = 0
-    while some < 250:
+    while some < count:
         doc = bytes([10]) + string(r.choice([b"", b"root", "Höhe".encode()])) + listing.random_entries(r, r.randrange(4))
         reader = Reader(doc)
         reader.root()
-        rows = reader.rows
-        if len(rows) > 40:
-            continue
-        some += 1
+        if len(reader.rows) <= most:
+            some += 1
+            yield doc, reader.rows
+
+
+def from_documents(r, cases):
+    """Tables as they are read, and each damaged in several ways."""
+    for some, (doc, rows) in enumerate(tables_read(r, 250, 40), 1):
         cases.put(doc, flat(rows))
         cases.put(doc, flat(rows), lambda n: n + r.randrange(5))
         cases.put(doc, flat(rows), lambda n: n - r.choice([1, 1, 2, n]))
