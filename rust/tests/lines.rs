@@ -1,7 +1,9 @@
 //! Tables kept as lines: there and back, what is refused and where, and what a refusal leaves.
+mod common;
+
+use common::samples;
 use std::fmt::Write;
-use std::path::PathBuf;
-use tikfazrul::{lines_into, parse, read, read_lines_into, Place, Refusal, Table, LINE, MAX_DOCUMENT, MAX_RECORDS, WORDS};
+use tikfazrul::{lines_into, read, read_lines_into, Place, Refusal, Table, LINE, MAX_DOCUMENT, MAX_RECORDS, WORDS};
 
 const TILE: &[u8] = b"\x0A\0\x01a\x01\0\x01b\xFF\0";
 const FIRST: &str = "0000000a0000000300000001000000000000000000000001000000000000000200000000\n";
@@ -32,24 +34,9 @@ fn spelt(words: &[u32]) -> Vec<u8> {
     lines.into_bytes()
 }
 
-/// The documents among the samples that are accepted.
-fn documents() -> Vec<Vec<u8>> {
-    let samples = PathBuf::from(env!("CARGO_MANIFEST_DIR")).join("../samples");
-    let files = std::fs::read_dir(samples).unwrap().map(|entry| entry.unwrap().path());
-    let document = |path: PathBuf| {
-        let bytes = std::fs::read(&path).unwrap();
-        match path.extension()?.to_str()? {
-            "nbt" => Some(bytes),
-            "snbt" => parse(&bytes).ok().map(|parsed| parsed.document),
-            _ => None,
-        }
-    };
-    files.filter_map(document).filter(|doc| read(doc).is_ok()).collect()
-}
-
 #[test]
 fn the_samples_there_and_back() {
-    let documents = documents();
+    let documents = samples();
     assert!(documents.len() >= 7);
     for doc in documents {
         let read = read(&doc).unwrap();

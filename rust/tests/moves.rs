@@ -1,8 +1,10 @@
 //! Lines of eight words moved to nine, and back: there and back, what is refused and in which order, and what a refusal leaves.
 //! What is expected is spelt from the words of a table that was read or built here, never by the moves.
+mod common;
+
+use common::samples;
 use std::fmt::Write;
-use std::path::PathBuf;
-use tikfazrul::{lines_down, lines_down_into, lines_up, lines_up_into, parse, read};
+use tikfazrul::{lines_down, lines_down_into, lines_up, lines_up_into, read};
 use tikfazrul::{Place, Refusal, Table, LINE, MAX_DOCUMENT, MAX_RECORDS, OLD_LINE, WORDS};
 
 const TILE: &[u8] = b"\x0A\0\x01a\x01\0\x01b\xFF\0";
@@ -148,23 +150,6 @@ fn as_judged(way: Way, doc_len: usize, words: &[u32]) -> bool {
     let wanted = if good { Ok(way.to(&all)) } else { Err(NONE) };
     assert_eq!(way.whole(&way.from(words), doc_len), wanted, "{way:?} {words:?}");
     good
-}
-
-/// The documents among the samples that are accepted.
-fn samples() -> Vec<Vec<u8>> {
-    let samples = PathBuf::from(env!("CARGO_MANIFEST_DIR")).join("../samples");
-    let files = std::fs::read_dir(samples).unwrap().map(|entry| entry.unwrap().path());
-    let document = |path: PathBuf| {
-        let bytes = std::fs::read(&path).unwrap();
-        match path.extension()?.to_str()? {
-            "nbt" => Some(bytes),
-            "snbt" => parse(&bytes).ok().map(|parsed| parsed.document),
-            _ => None,
-        }
-    };
-    let documents: Vec<Vec<u8>> = files.filter_map(document).filter(|doc| read(doc).is_ok()).collect();
-    assert!(documents.len() >= 7);
-    documents
 }
 
 /// Numbers that look like chance and are the same each time.
