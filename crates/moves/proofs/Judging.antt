@@ -151,12 +151,12 @@ module _ (e : Edition) (d : ℕ) (s o : List ℕ) where
 
 -- ---- the judgement, whichever edition is moved
 
-parented-is : (up : Bool) → parented (editionOf up) ≡ up
+parented-is : (ninth : Bool) → parented (editionOf ninth) ≡ ninth
 parented-is true = refl
 parented-is false = refl
 
 -- The bytes of a line of the other edition.
-pub other-line : (up : Bool) → lineIn (editionOf (not up)) ≡ lineIn (other (editionOf up))
+pub other-line : (ninth : Bool) → lineIn (editionOf (not ninth)) ≡ lineIn (other (editionOf ninth))
 other-line true = refl
 other-line false = refl
 
@@ -165,55 +165,55 @@ line-few eight = omega arith
 line-few nine = omega arith
 
 -- What is promised of the answer, where it is known which one it is.
-pub told-taken : (up : Bool) (s : List ℕ) {r x : Answer} → r ≡ x → TakenIs up s (answerOut r) → TakenIs up s (answerOut x)
-told-taken up s e = subst (λ y. TakenIs up s (answerOut y)) e
+pub told-taken : (ninth : Bool) (s : List ℕ) {r x : Answer} → r ≡ x → TakenIs ninth s (answerOut r) → TakenIs ninth s (answerOut x)
+told-taken ninth s e = subst (λ y. TakenIs ninth s (answerOut y)) e
 
-pub told-judged : (up : Bool) (d : ℕ) (s : List ℕ) (room : ℕ) {r x : Answer} → r ≡ x → JudgedIs up d s room (answerOut r) → JudgedIs up d s room (answerOut x)
-told-judged up d s room e = subst (λ y. JudgedIs up d s room (answerOut y)) e
+pub told-judged : (ninth : Bool) (d : ℕ) (s : List ℕ) (room : ℕ) {r x : Answer} → r ≡ x → JudgedIs ninth d s room (answerOut r) → JudgedIs ninth d s room (answerOut x)
+told-judged ninth d s room e = subst (λ y. JudgedIs ninth d s room (answerOut y)) e
 
-module _ (up : Bool) (d : ℕ) (s : List ℕ) (room : ℕ) where
+module _ (ninth : Bool) (d : ℕ) (s : List ℕ) (room : ℕ) where
   abbrev e : Edition
-  e = editionOf up
+  e = editionOf ninth
 
-  pub judged-large : documentLimit < d → JudgedIs up d s room (no 9 0)
+  pub judged-large : documentLimit < d → JudgedIs ninth d s room (no 9 0)
   judged-large h o long = move-bad e d s o 9 0 (movable-large e d s h)
 
   module _ (small : d ≤ documentLimit) where
-    pub judged-bad : (n p : ℕ) → TakenIs up s (no n p) → JudgedIs up d s room (no n p)
+    pub judged-bad : (n p : ℕ) → TakenIs ninth s (no n p) → JudgedIs ninth d s room (no n p)
     judged-bad n p h o long = move-bad e d s o n p (movable-lines e d s small ∙ h)
 
     module _ (n : ℕ) (t : Taken e s n) where
       read : movable e d s ≡ got (t .ws)
       read = movable-lines e d s small ∙ t .read
 
-      by-parents : RowsAre d (lineWord e s) up n → RowsAre d (lineWord e s) (parented e) n
-      by-parents = subst (λ x. RowsAre d (lineWord e s) x n) (sym (parented-is up))
+      by-parents : RowsAre d (lineWord e s) ninth n → RowsAre d (lineWord e s) (parented e) n
+      by-parents = subst (λ x. RowsAre d (lineWord e s) x n) (sym (parented-is ninth))
 
-      pub judged-unfit : (RowsAre d (lineWord e s) up n → ⊥) → JudgedIs up d s room (no 10 0)
+      pub judged-unfit : (RowsAre d (lineWord e s) ninth n → ⊥) → JudgedIs ninth d s room (no 10 0)
       judged-unfit f o long =
           move-unfit e d s o (t .ws) read
-          (λ g. f (subst (λ x. RowsAre d (lineWord e s) x n) (parented-is up) (formed-rows e d s (t .ws) n (t .words) (formed e d (t .ws) g))))
+          (λ g. f (subst (λ x. RowsAre d (lineWord e s) x n) (parented-is ninth) (formed-rows e d s (t .ws) n (t .words) (formed e d (t .ws) g))))
 
-      module _ (rows : RowsAre d (lineWord e s) up n) where
-        pub judged-full : room < lineIn (other e) * n → JudgedIs up d s room (no 13 0)
+      module _ (rows : RowsAre d (lineWord e s) ninth n) where
+        pub judged-full : room < lineIn (other e) * n → JudgedIs ninth d s room (no 13 0)
         judged-full h o long = move-full e d s o (t .ws) read n (t .words) (by-parents rows) (rw long h)
 
-        pub judged-fit : lineIn (other e) * n ≤ room → JudgedIs up d s room (got n)
+        pub judged-fit : lineIn (other e) * n ≤ room → JudgedIs ninth d s room (got n)
         judged-fit h = (record { limit = λ ws k. movable-lines e d s small ∙ k; taken = t; rows = rows }, h)
 
 -- ---- the moves
 
-module _ (up : Bool) (d : ℕ) (s : List ℕ) (n : ℕ) (j : Judged up d s n) where
+module _ (ninth : Bool) (d : ℕ) (s : List ℕ) (n : ℕ) (j : Judged ninth d s n) where
   -- The lines hold a tree.
-  pub planted : Planted (editionOf up) s n
+  pub planted : Planted (editionOf ninth) s n
   planted =
-      let g = rows-grown d (lineWord (editionOf up) s) up n (j .rows) in
+      let g = rows-grown d (lineWord (editionOf ninth) s) ninth n (j .rows) in
       record { lined = j .taken .lined; head = g .head; inner = g .inner; sits = g .sits; sized = g .sized }
 
   -- Its lines of the other edition are put.
-  pub moved : (o o′ : List ℕ) → lineIn (other (editionOf up)) * n ≤ length o → PutIs (editionOf up) s n o o′
-      → MoveIs (editionOf up) d s o (got (lineIn (other (editionOf up)) * n)) o′
+  pub moved : (o o′ : List ℕ) → lineIn (other (editionOf ninth)) * n ≤ length o → PutIs (editionOf ninth) s n o o′
+      → MoveIs (editionOf ninth) d s o (got (lineIn (other (editionOf ninth)) * n)) o′
   moved o o′ room put =
       let t = j .taken in
-      let e = editionOf up in
-      move-put e d s o (t .ws) (j .limit (t .ws) (t .read)) n (t .words) (subst (λ x. RowsAre d (lineWord e s) x n) (sym (parented-is up)) (j .rows)) o′ room put
+      let e = editionOf ninth in
+      move-put e d s o (t .ws) (j .limit (t .ws) (t .read)) n (t .words) (subst (λ x. RowsAre d (lineWord e s) x n) (sym (parented-is ninth)) (j .rows)) o′ room put

@@ -208,10 +208,10 @@ all-taken nine s n f h = record {
 }
 
 -- One is bad.
-pub bad-taken : (up : Bool) (s : List ℕ) (n : ℕ) (f : Sofar (wordsIn (editionOf up)) s n) → FirstLine (wordsIn (editionOf up)) (drop ((8 * wordsIn (editionOf up) + 1) * n) s) false
-    → TakenIs up s (badAt s (n + 1))
-bad-taken up s n f l =
+pub bad-taken : (ninth : Bool) (s : List ℕ) (n : ℕ) (f : Sofar (wordsIn (editionOf ninth)) s n) → FirstLine (wordsIn (editionOf ninth)) (drop ((8 * wordsIn (editionOf ninth) + 1) * n) s) false
+    → TakenIs ninth s (badAt s (n + 1))
+bad-taken ninth s n f l =
     ⊎-elim
-    (λ h. subst (TakenIs up s) (bad-many s (n + 1) h) (read-many (wordsIn (editionOf up)) s h))
-    (λ h. subst (TakenIs up s) (bad-few s (n + 1) h) (sofar-bad (wordsIn (editionOf up)) s n f h l))
+    (λ h. subst (TakenIs ninth s) (bad-many s (n + 1) h) (read-many (wordsIn (editionOf ninth)) s h))
+    (λ h. subst (TakenIs ninth s) (bad-few s (n + 1) h) (sofar-bad (wordsIn (editionOf ninth)) s n f h l))
     (lt-or recordLimit (length (linesIn s)))

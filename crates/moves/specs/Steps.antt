@@ -15,7 +15,7 @@ use Rattle.form.specs.Stored.{badLine, linesIn, linesRead}
 use Rattle.form.specs.Moved.{Edition, eight, nine, other, wordsIn, wordIn, treeLines, movable, MoveIs}
 use Rattle.stored_table.specs.Words.{editionOf, lineIn, lineWord, WordAt, Lined}
 
--- ---- lines taken and judged; `up` says which edition is moved, that whose records name their parents or the one before
+-- ---- lines taken and judged; `ninth` says which edition is moved, that whose records have a ninth word or the one before
 
 -- What a bad line with that number gives: 29, or 9 where the lines are too many.
 unfoldable pub badAt : List ℕ → ℕ → Out ℕ
@@ -36,19 +36,19 @@ pub record Taken (e : Edition) (s : List ℕ) (n : ℕ) : Type 0 where
 
 -- What taking lines one by one answers.
 abbrev pub TakenIs : Bool → List ℕ → Out ℕ → Type 0
-TakenIs up s (got n) = Taken (editionOf up) s n
-TakenIs up s (no n p) = linesRead (wordsIn (editionOf up)) recordLimit s ≡ no n p
+TakenIs ninth s (got n) = Taken (editionOf ninth) s n
+TakenIs ninth s (no n p) = linesRead (wordsIn (editionOf ninth)) recordLimit s ≡ no n p
 
 -- The lines are good, and their words form a table of their edition.
-pub record Judged (up : Bool) (d : ℕ) (s : List ℕ) (n : ℕ) : Type 0 where
-  pub limit : (ws : List ℕ) → linesRead (wordsIn (editionOf up)) recordLimit s ≡ got ws → movable (editionOf up) d s ≡ got ws
-  pub taken : Taken (editionOf up) s n
-  pub rows : RowsAre d (lineWord (editionOf up) s) up n
+pub record Judged (ninth : Bool) (d : ℕ) (s : List ℕ) (n : ℕ) : Type 0 where
+  pub limit : (ws : List ℕ) → linesRead (wordsIn (editionOf ninth)) recordLimit s ≡ got ws → movable (editionOf ninth) d s ≡ got ws
+  pub taken : Taken (editionOf ninth) s n
+  pub rows : RowsAre d (lineWord (editionOf ninth) s) ninth n
 
 -- What the judgement answers: lines that may move, with room for as many of the other edition; or what the move answers, whatever the output.
 abbrev pub JudgedIs : Bool → ℕ → List ℕ → ℕ → Out ℕ → Type 0
-JudgedIs up d s room (got n) = Judged up d s n × (lineIn (other (editionOf up)) * n ≤ room)
-JudgedIs up d s room (no n p) = (o : List ℕ) → length o ≡ room → MoveIs (editionOf up) d s o (no n p) o
+JudgedIs ninth d s room (got n) = Judged ninth d s n × (lineIn (other (editionOf ninth)) * n ≤ room)
+JudgedIs ninth d s room (no n p) = (o : List ℕ) → length o ≡ room → MoveIs (editionOf ninth) d s o (no n p) o
 
 -- ---- parents
 

@@ -33,4 +33,12 @@ returns-2 c =
     unfed-line (start .args .words) _ (start .args .at) (start .pre .0) (sym (at-fed .fed .ensures) ∙ c .if1 .left)
 
 pub is-line-spec : {M : Type 1} → statement M
-is-line-spec = tie.close (tie.spec (λ c. omega (arith, c .before .pre .1)) (λ c. omega (arith, c .before .pre .0, c .before .pre .1, c .before .good .0 .1)) (λ c κs. search needs) digits-at-requires returns returns-2)
+is-line-spec =
+    tie.close
+    (tie.spec
+    (λ c. omega (arith, c .before .pre .1))
+    (λ c. let start = c .before in omega (arith, start .pre .0, start .pre .1, start .good .0 .1))
+    (λ c κs. search needs)
+    digits-at-requires
+    returns
+    returns-2)
