@@ -17,7 +17,7 @@ pub const MAX_NAME: usize = 65_535;
 /// |---|---|
 /// | `SceneId`, `"odd name"`, `'odd name'` | the entry of a compound so named |
 /// | `[3]` | that element of a list, from 0; the `/` before it may be left out |
-/// | `*` | any one child |
+/// | `*`, `[*]` | any one child |
 /// | `**` | zero or more levels, whatever they are |
 ///
 /// A path may begin with `root`, the root tag itself, whatever its name: `root/Tiles[3]` and `Tiles[3]` are the same, and `root` or nothing at
@@ -294,7 +294,7 @@ impl<'a> Scan<'a> {
         self.placed(at, made)
     }
 
-    /// Indices in brackets, as many as there are.
+    /// Indices in brackets, or `[*]`, as many as there are.
     fn indices(&mut self, mut query: Query) -> Result<Query, PathError> {
         while self.rest().starts_with('[') {
             let at = self.at;
@@ -302,6 +302,11 @@ impl<'a> Scan<'a> {
                 return self.fault(at, Fault::Bracket);
             };
             let digits = &self.path[at + 1..at + length];
+            if digits == "*" {
+                query = self.placed(at, query.any())?;
+                self.at += length + 1;
+                continue;
+            }
             if digits.is_empty() || !digits.bytes().all(|b| b.is_ascii_digit()) {
                 return self.fault(at + 1, Fault::Index);
             }

@@ -168,6 +168,33 @@ impl Refusal {
         }
     }
 
+    /// What would be taken in place of what was refused, in words, where the text around the place tells: inside an array of a text, which
+    /// numbers that array takes.
+    ///
+    /// ```
+    /// let refusal = tikfazrul::parse(b"{a:[L;1]}").unwrap_err();
+    /// assert_eq!(refusal.hint(b"{a:[L;1]}").unwrap(), "an array [L;…] takes longs: write 1L");
+    /// ```
+    pub fn hint(&self, text: &[u8]) -> Option<&'static str> {
+        let Refusal::NonHomogenousList(Place::Text(at)) = *self else {
+            return None;
+        };
+        // what an array has before a token that it refuses is numbers and commas, so the nearest bracket is its own
+        let before = text.get(..at)?;
+        let opened = before.iter().rposition(|&b| b == b'[')?;
+        let head = before[opened + 1..].trim_ascii_start();
+        let rest = head.get(1..)?.trim_ascii_start().strip_prefix(b";")?;
+        if !rest.iter().all(|b| b.is_ascii_alphanumeric() || b.is_ascii_whitespace() || b"+-.,".contains(b)) {
+            return None;
+        }
+        match head[0] {
+            b'B' => Some("an array [B;…] takes bytes, -128 to 127: write 1b"),
+            b'I' => Some("an array [I;…] takes ints, -2147483648 to 2147483647: write 1"),
+            b'L' => Some("an array [L;…] takes longs: write 1L"),
+            _ => None,
+        }
+    }
+
     /// The digits of a line of the width that was asked for.
     fn digits(&self) -> usize {
         match self {
@@ -227,6 +254,18 @@ mod tests {
         assert_eq!(Refusal::NoTable(Place::Whole).to_string(), "the words form no table over this document (refusal 10)");
         assert!(Refusal::MoreMatches(3).to_string().contains("3 in all"));
         assert!(Refusal::MoreChanges(3).to_string().contains("3 in all"));
+    }
+
+    #[test]
+    fn an_array_says_which_numbers_it_takes() {
+        let hint = |text: &str, at| Refusal::NonHomogenousList(Place::Text(at)).hint(text.as_bytes());
+        assert!(hint("{a:[L;1]}", 6).unwrap().contains("1L"));
+        assert!(hint("{a:[ B ; 1b, -2B,x]}", 17).unwrap().contains("bytes"));
+        assert!(hint("{a:[I;1,2s]}", 8).unwrap().contains("ints"));
+        for (text, at) in [("{a:[1,2b]}", 6), ("{a:[\"[L;\",1]}", 10), ("{a:[Q;1]}", 6), ("", 0), ("[", 1), ("[L", 2), ("[L;1]", 99)] {
+            assert_eq!(hint(text, at), None, "{text}");
+        }
+        assert_eq!(Refusal::TrailingComma(Place::Text(6)).hint(b"{a:[L;1]}"), None);
     }
 
     #[test]

@@ -24,6 +24,8 @@ fn each_step_has_its_bytes() {
     assert_eq!(bytes("a/[0]"), bytes("a[0]"));
     assert_eq!(bytes("*"), b"\x03");
     assert_eq!(bytes("**/*[7]"), b"\x04\x03\x02\0\0\0\x07");
+    assert_eq!(bytes("Tiles[*]/Scene"), bytes("Tiles/*/Scene"));
+    assert_eq!(bytes("[*][*][2]"), b"\x03\x03\x02\0\0\0\x02");
     assert_eq!(bytes("é€"), b"\x01\0\x05\xC3\xA9\xE2\x82\xAC");
     assert_eq!(bytes("\u{1F600}"), b"\x01\0\x06\xED\xA0\xBD\xED\xB8\x80");
 }
@@ -67,7 +69,7 @@ fn errors_point_at_the_character() {
     assert_eq!(fault("\"\\u+041\""), (Fault::Escape, 1));
     assert_eq!(fault("\"\\uD800\""), (Fault::Escape, 1));
     assert_eq!(fault("a[1"), (Fault::Bracket, 1));
-    for index in ["[]", "[-1]", "[+1]", "[ 1]", "[x]", "[2147483648]", "[99999999999999999999]"] {
+    for index in ["[]", "[**]", "[* ]", "[-1]", "[+1]", "[ 1]", "[x]", "[2147483648]", "[99999999999999999999]"] {
         assert_eq!(fault(index), (Fault::Index, 1), "{index}");
     }
 }
@@ -78,6 +80,7 @@ fn sixteen_steps_and_not_one_more() {
     assert_eq!(sixteen.parse::<Query>().unwrap().steps(), 16);
     assert_eq!(fault(&format!("{sixteen}/a")), (Fault::Steps, 32));
     assert_eq!(fault(&format!("{sixteen}[0]")), (Fault::Steps, 31));
+    assert_eq!(fault(&format!("{sixteen}[*]")), (Fault::Steps, 31));
 }
 
 #[test]

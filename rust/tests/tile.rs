@@ -371,6 +371,16 @@ trailing-comma.snbt: refused: nothing follows a comma, at byte 42 of the text (r
     assert!(String::from_utf8(late.stderr).unwrap().contains("(refusal 21), line 2, column 6\n"));
     assert_eq!(tile(&["query", "deep/clouds", "rare-name.snbt"]).0, "root/deep/clouds  Byte  7\n");
     assert_eq!(tile(&["text", "second-origin.snbt", "-o", "-"]).2, 1);
+    let array = fed(&["text", "-", "-o", "-"], b"{a:[L;1]}");
+    let words = "(refusal 11), line 1, column 7; an array [L;…] takes longs: write 1L\n";
+    assert!(String::from_utf8(array.stderr).unwrap().contains(words));
+}
+
+#[test]
+fn any_element_is_asked_for_in_brackets() {
+    let (out, _, status) = tile(&["query", "root/Tiles[*]/Scene/SceneId", "mosaic.nbt"]);
+    assert_eq!((out.lines().count() > 1, status), (true, 0), "{out}");
+    assert_eq!(out, tile(&["query", "root/Tiles/*/Scene/SceneId", "mosaic.nbt"]).0);
 }
 
 #[test]

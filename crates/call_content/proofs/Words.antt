@@ -8,8 +8,8 @@ use lib.Dec.{eqb}
 use lib.ListN.{length}
 use Rattle.form.specs.Writing.{Gives}
 use Rattle.text_form.specs.Lexing as lexing
-use Rattle.quotes.specs.declared.Contents.{Contents}
-use Rattle.quotes.specs.Answers.{contentOut}
+use Rattle.contents.specs.declared.Contents.{Contents}
+use Rattle.contents.specs.Answers.{contentOut}
 use Rattle.calls.specs.Calls.{ContentCalled}
 
 module _ (t : List ℕ) (a e x : ℕ) (o o′ : List ℕ) {r : Contents} (h : Gives (lexing.content t a e (not (eqb x 0)) (length o)) o (contentOut r) o′) where

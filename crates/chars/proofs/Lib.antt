@@ -1,3 +1,4 @@
 pub mod Groups
 pub mod Fronts
 pub mod Puts
+pub mod Sequences

@@ -36,6 +36,8 @@ pair-length c h = rw (sb-high c h, length-append) (omega (arith, half-length (hi
 pub pair-put : (o o₁ o₂ : List ℕ) (c at : ℕ) → 65536 ≤ c → at + 6 ≤ length o → o₁ ≡ over o at (unitBytes (highHalf c)) → o₂ ≡ over o₁ (at + 3) (unitBytes (lowHalf c))
     → o₂ ≡ over o at (scalarBytes c)
 pair-put o o₁ o₂ c at h l p q =
+    let hi = unitBytes (highHalf c) in
+    let lo = unitBytes (lowHalf c) in
     let e = half-length (highHalf c) (omega arith) in
-    let f : over (over o at (unitBytes (highHalf c))) (at + length (unitBytes (highHalf c))) (unitBytes (lowHalf c)) ≡ over o at (unitBytes (highHalf c) ++ unitBytes (lowHalf c)) = over-over o at (unitBytes (highHalf c)) (omega (arith, e)) (unitBytes (lowHalf c)) in
+    let f : over (over o at hi) (at + length hi) lo ≡ over o at (hi ++ lo) = over-over o at hi (omega (arith, e)) lo in
     q ∙ rw (p, sb-high c h, ← e) f

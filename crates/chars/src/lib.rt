@@ -37,7 +37,7 @@ fn two(a: u8, b: u8) -> Front
     if 192 <= b {
         return Front::Stuck;
     }
-    let u = join((a % 32) as u32, b);
+    let u = join((a & 0x1F) as u32, b);
     if u == 0 {
         return Front::Is(u, 2);
     }
@@ -63,7 +63,7 @@ fn three(a: u8, b: u8, c: u8) -> Front
     if 192 <= c {
         return Front::Stuck;
     }
-    let u = join(join((a % 16) as u32, b), c);
+    let u = join(join((a & 0x0F) as u32, b), c);
     if u < 2048 {
         return Front::Stuck;
     }
@@ -166,7 +166,7 @@ fn four(a: u8, b: u8, c: u8, d: u8) -> Front
     if 192 <= d {
         return Front::Stuck;
     }
-    let u = join(join(join((a % 8) as u32, b), c), d);
+    let u = join(join(join((a & 0x07) as u32, b), c), d);
     if u < 0x10000 {
         return Front::Stuck;
     }

@@ -12,7 +12,7 @@ use lib.ListN.{length}
 use Rattle.form.specs.Answer.{Out, got, no, guard, _>>_, documentLimit, recordLimit, depthLimit, stringLimit}
 use Rattle.form.specs.Spans.{part}
 use Rattle.form.specs.Decoding.{verdictBy, walk}
-use Rattle.form.specs.Tree.{Tag, Tags, Entries, list, compound, more, kindOf, tagCount, tagsCount, entriesCount, depth, tagsDepth, entriesDepth, Text, hasEntry, OneKind, Alike, Valid, ValidTags, ValidEntries, Lawful}
+use Rattle.form.specs.Tree.{Tag, Tags, Entries, list, compound, kindOf, tagCount, tagsCount, entriesCount, depth, tagsDepth, entriesDepth, Text, hasEntry, OneKind, Alike, Valid, ValidTags, ValidEntries, Lawful}
 use Rattle.form.specs.Table.{Head, Forest, none, node, size, _⊕_, widthOf, holds, valueBy, tagsOf, entriesOf, valueOf}
 use Rattle.form.specs.Tables.{Fair, LeafIs, ContainerIs, NameIs, firstKind, leafFits}
 use Rattle.form.specs.Reading.{hasName}

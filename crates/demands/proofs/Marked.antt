@@ -19,5 +19,12 @@ use Rattle.text_form.specs.Text.{known, due, following, stringOf, scalarTag, sc
 use Rattle.demands.specs.Marked.{ascii, bytesIn, records, AreMarked}
 
 pub marked : AreMarked
-unfolding records value same twoOf threeOf unitOf pairOf scalarOf walk verdictBy size width _⊕_ flat widthOf hasName byteAt bytesAt numberAt stringAt countAt arrayAt leafAt leafOne listHeadAt entryAt elements entries listAt compoundAt containerAt payloadBy insideAt documentAt valueBy tagsOf entriesOf oneThen someTail fits tagPaths itemPaths entryPaths paths which matches stepBy stepAt stepsAt spelt shallow asked toBits ofInt round digits unitBytes scalarBytes fourOf utf8Of kindOf many intsBytes payload elementBytes entryBytes layout ascii bytesIn has before behind decimalDigits worth wholeOf wholeNumber decimalOf decimalNumber number among after slurp word hexOf hexes escapeOf quotedBy quoted skipBy skip unquotedAt quotedAt tokenBy tokenAt judgedText lexed frontOf scalarsBy contentOf content known due following stringOf scalarTag scalarValue intsBy textArrayAt elementsBy listFrom textListAt squareAt keyOf colonAt closeAt textEntryAt entriesBy textCompoundAt textValueBy valueAt parsed stringFine payloadFine judged written
+unfolding records value same twoOf threeOf unitOf pairOf scalarOf walk verdictBy size width _⊕_ flat widthOf hasName byteAt bytesAt numberAt stringAt
+    countAt arrayAt leafAt leafOne listHeadAt entryAt elements entries listAt compoundAt containerAt payloadBy insideAt documentAt valueBy tagsOf
+    entriesOf oneThen someTail fits tagPaths itemPaths entryPaths paths which matches stepBy stepAt stepsAt spelt shallow asked toBits ofInt round
+    digits unitBytes scalarBytes fourOf utf8Of kindOf many intsBytes payload elementBytes entryBytes layout ascii bytesIn has before behind
+    decimalDigits worth wholeOf wholeNumber decimalOf decimalNumber number among after slurp word hexOf hexes escapeOf quotedBy quoted skipBy skip
+    unquotedAt quotedAt tokenBy tokenAt judgedText lexed frontOf scalarsBy contentOf content known due following stringOf scalarTag scalarValue intsBy
+    textArrayAt elementsBy listFrom textListAt squareAt keyOf colonAt closeAt textEntryAt entriesBy textCompoundAt textValueBy valueAt parsed
+    stringFine payloadFine judged written
 marked = refl

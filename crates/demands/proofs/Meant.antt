@@ -11,7 +11,7 @@ use lib.Dec.{ltb, leb, eqb}
 use lib.IntN.{ℤ, pos, negsuc}
 use borrow.Author.Tests.{ltb-true, leb-true, eqb-true, ne-eqb, not-true}
 use lib.ListN.{length, getD, length-append}
-use Rattle.form.specs.Answer.{Out, got, no, pick, textLimit, depthLimit, stringLimit, tooDeep, textEnds, unmatchedBrace}
+use Rattle.form.specs.Answer.{Out, got, no, _>>_, pick, textLimit, depthLimit, stringLimit, tooDeep, textEnds, unmatchedBrace}
 use Rattle.form.specs.Numbers.{FitsIn, bytesOf, bitsOf}
 use Rattle.form.specs.Spans.{same}
 use Rattle.form.specs.Tree as tree
@@ -21,7 +21,7 @@ use Rattle.form.proofs.Answer.{guard-got}
 use Rattle.form.proofs.Digits.{digits-length}
 use Rattle.text_form.specs.Numbers.{Number, byte, short, int, long, float, double}
 use Rattle.text_form.specs.Lexing.{among, Stops, default, key, value, first, later, Token, openCurly, closedCurly, openSquare, closedSquare, comma, colon, semicolon, string, numeral, TokenData, Lexed, found, ended, tokenAt, contentOf, judgedText}
-use Rattle.text_form.specs.Text.{Value, Row, Ints, Block, Next, Then, goesOn, closes, Reads, signOf, orElse, inRange, ranged, numberTag, arrayWidth, wholeIn, elementInt, arrayTag, known, fits, due, following, stringOf, scalarTag, scalarValue, intsBy, arrayAt, elementsBy, listFrom, listAt, letterWidth, Opened, anArray, aList, withSemicolon, openedBy, squareAt, keyOf, colonAt, closeAt, behind, entryAt, entriesBy, compoundAt, valueBy, valueAt, parsed}
+use Rattle.text_form.specs.Text.{Value, Row, Ints, Block, Next, Then, goesOn, closes, Last, atStart, afterComma, noComma, Reads, signOf, orElse, inRange, ranged, numberTag, arrayWidth, wholeIn, elementInt, arrayTag, known, fits, due, following, stringOf, scalarTag, scalarValue, intsBy, arrayAt, elementsBy, listFrom, listAt, letterWidth, Opened, anArray, aList, withSemicolon, openedBy, squareAt, keyOf, colonAt, closeAt, behind, entryAt, entriesBy, compoundAt, valueBy, valueAt, parsed}
 use Rattle.text_form.proofs.Gives.{Gives, gives-got, gives-no, gives-bind, gives-guard, gives-then, gives-pick, gives-elim, gives-also, gives-all}
 use Rattle.text_form.proofs.Contents.{content-formed}
 use Rattle.text_form.proofs.Carried.{double-bits, single-bits}
@@ -233,21 +233,27 @@ module _ (t : List ℕ) (room : ℕ) where
   then-gives p (closes i n) h f g = f i n (h .0) (h .1)
   then-gives p (goesOn i n) h f g = g i n (h .0) (h .1)
 
+  -- no comma stands last
+  gives-none : {A : Type 0} {P : A → Type 0} (last : Last) {x : Out A} → (Unit {0} → Gives parseNumbers P x) → Gives parseNumbers P (noComma last >> x)
+  unfolding among
+  gives-none atStart f = f tt
+  gives-none (afterComma p) f = gives-no refl
+
   -- ---- arrays
 
-  ints-fine : (f w brace last p u : ℕ) → p ≤ length t → length t < f + p → u ≤ room → Gives parseNumbers (IntsFine f w p u) (intsBy t room f w brace last p u)
+  ints-fine : (f w brace : ℕ) (last : Last) (p u : ℕ) → p ≤ length t → length t < f + p → u ≤ room → Gives parseNumbers (IntsFine f w p u) (intsBy t room f w brace last p u)
   unfolding intsBy AllFit intsBytes among
   ints-fine zero w brace last p u l m r = absurd (omega arith)
   ints-fine (suc f) w brace last p u l m r =
       gives-bind (due t room later p unmatchedBrace brace) _ (due-in later p unmatchedBrace brace refl l)
       (λ x h. gives-elim (eqb (signOf (x .td .token)) 44)
-      (λ _. gives-also (intsBy t room f w brace (x .td .index) (x .next) u) (ints-fine f w brace (x .td .index) (x .next) u (h .2) (omega (arith, h .1)) r)
+      (λ _. gives-also (intsBy t room f w brace (afterComma (x .td .index)) (x .next) u) (ints-fine f w brace (afterComma (x .td .index)) (x .next) u (h .2) (omega (arith, h .1)) r)
       (λ i _ j. record { ahead = (omega (arith, h .1, j .ahead .0), j .ahead .1); fit = j .fit; few = omega (arith, j .few); used = j .used; fits = j .fits }))
       (λ _. gives-elim (eqb (signOf (x .td .token)) 93)
-      (λ _. gives-guard (eqb last 0) _ _ _ refl (λ _. gives-got (record { ahead = (omega (arith, h .1), h .2); fit = tt; few = omega arith; used = omega arith; fits = r })))
+      (λ _. gives-none last (λ _. gives-got (record { ahead = (omega (arith, h .1), h .2); fit = tt; few = omega arith; used = omega arith; fits = r })))
       (λ _. gives-bind (elementInt w (x .td .token) (x .td .index)) _ (element-fits w (x .td .token) (x .td .index))
       (λ z k. gives-guard (leb (u + w) room) _ _ _ refl
-      (λ e. gives-bind (intsBy t room f w brace 0 (x .next) (u + w)) _ (ints-fine f w brace 0 (x .next) (u + w) (h .2) (omega (arith, h .1)) (leb-true (u + w) room e))
+      (λ e. gives-bind (intsBy t room f w brace atStart (x .next) (u + w)) _ (ints-fine f w brace atStart (x .next) (u + w) (h .2) (omega (arith, h .1)) (leb-true (u + w) room e))
       (λ i j. gives-got (record {
         ahead = (omega (arith, h .1, j .ahead .0), j .ahead .1);
         fit = (k, j .fit);
@@ -261,7 +267,7 @@ module _ (t : List ℕ) (room : ℕ) where
     unfolding arrayAt among
     array-fine left w brace p u h l =
         gives-guard (leb (u + 4) room) _ _ _ refl
-        (λ e. gives-bind (intsBy t room (suc (length t)) w brace 0 p (u + 4)) _ (ints-fine (suc (length t)) w brace 0 p (u + 4) l (omega arith) (leb-true (u + 4) room e))
+        (λ e. gives-bind (intsBy t room (suc (length t)) w brace atStart p (u + 4)) _ (ints-fine (suc (length t)) w brace atStart p (u + 4) l (omega arith) (leb-true (u + 4) room e))
         (λ r j. let a = array-leaf w h (r .values) (j .fit, omega (arith, j .few)) in
         gives-got (record {
           ahead = j .ahead;
@@ -452,26 +458,26 @@ module _ (t : List ℕ) (room : ℕ) where
             fits = k .fits;
           }
 
-      entries-fine : (f brace : ℕ) (earlier : List (List ℕ)) (last p u : ℕ) → p ≤ length t → length t < f + p
+      entries-fine : (f brace : ℕ) (earlier : List (List ℕ)) (last : Last) (p u : ℕ) → p ≤ length t → length t < f + p
           → Gives parseNumbers (BlockFine (left - 1) p u earlier) (entriesBy t room f val brace earlier last p u)
       unfolding entriesBy among
       entries-fine zero brace earlier last p u l m = absurd (omega arith)
       entries-fine (suc f) brace earlier last p u l m =
           gives-bind (due t room key p unmatchedBrace brace) _ (due-in key p unmatchedBrace brace refl l)
           (λ x h. gives-elim (eqb (signOf (x .td .token)) 125)
-          (λ _. gives-guard (eqb last 0) _ _ _ refl (λ _. close-fine (x .td .index) p (x .next) u earlier (omega (arith, h .1)) (h .2)))
+          (λ _. gives-none last (λ _. close-fine (x .td .index) p (x .next) u earlier (omega (arith, h .1)) (h .2)))
           (λ _. gives-bind (entryAt t room val brace earlier x u) _ (entry-fine brace earlier x u (h .2))
           (λ e k. gives-bind (following t room 125 (e .1 .next) unmatchedBrace brace) _ (following-in 125 (e .1 .next) unmatchedBrace brace refl (k .value .ahead .1))
-          (λ s j. gives-bind (behind t room (λ i n. entriesBy t room f val brace (e .0 ∷ earlier) i n (e .1 .used)) (e .1 .used) s) _
-          (rest e s j (λ i n a b. entries-fine f brace (e .0 ∷ earlier) i n (e .1 .used) b (omega (arith, h .1, k .value .ahead .0))))
+          (λ s j. gives-bind (behind t room (λ i n. entriesBy t room f val brace (e .0 ∷ earlier) (afterComma i) n (e .1 .used)) (e .1 .used) s) _
+          (rest e s j (λ i n a b. entries-fine f brace (e .0 ∷ earlier) (afterComma i) n (e .1 .used) b (omega (arith, h .1, k .value .ahead .0))))
           (λ r w. gives-got (more-entries earlier p (x .next) u e r (omega (arith, h .1)) k w))))))
         where
           rest : (e : List ℕ × Value) (s : Then) → ThenIn (e .1 .next) s
-              → ((i n : ℕ) → e .1 .next < n → n ≤ length t → Gives parseNumbers (BlockFine (left - 1) n (e .1 .used) (e .0 ∷ earlier)) (entriesBy t room f val brace (e .0 ∷ earlier) i n (e .1 .used)))
+              → ((i n : ℕ) → e .1 .next < n → n ≤ length t → Gives parseNumbers (BlockFine (left - 1) n (e .1 .used) (e .0 ∷ earlier)) (entriesBy t room f val brace (e .0 ∷ earlier) (afterComma i) n (e .1 .used)))
               → Gives parseNumbers (BlockFine (left - 1) (e .1 .next) (e .1 .used) (e .0 ∷ earlier))
-              (behind t room (λ i n. entriesBy t room f val brace (e .0 ∷ earlier) i n (e .1 .used)) (e .1 .used) s)
+              (behind t room (λ i n. entriesBy t room f val brace (e .0 ∷ earlier) (afterComma i) n (e .1 .used)) (e .1 .used) s)
           rest e (closes i n) j ih = close-fine i (e .1 .next) n (e .1 .used) (e .0 ∷ earlier) (omega (arith, j .0)) (j .1)
-          rest e (goesOn i n) j ih = gives-also (entriesBy t room f val brace (e .0 ∷ earlier) i n (e .1 .used)) (ih i n (j .0) (j .1)) (λ b _ h. block-from (omega (arith, j .0)) h)
+          rest e (goesOn i n) j ih = gives-also (entriesBy t room f val brace (e .0 ∷ earlier) (afterComma i) n (e .1 .used)) (ih i n (j .0) (j .1)) (λ b _ h. block-from (omega (arith, j .0)) h)
 
       -- A compound, where a container is left.
       pub compound-fine : (brace p u : ℕ) → p ≤ length t → Gives parseNumbers (λ b. (0 < left) × BlockFine (left - 1) p u [] b) (compoundAt t room left val brace p u)
@@ -479,7 +485,7 @@ module _ (t : List ℕ) (room : ℕ) where
       compound-fine brace p u l =
           gives-guard (ltb 0 left) _ _ _ refl
           (λ o. gives-guard (leb u room) _ _ _ refl
-          (λ _. gives-also (entriesBy t room (suc (length t)) val brace [] 0 p u) (entries-fine (suc (length t)) brace [] 0 p u l (omega arith)) (λ b _ k. (ltb-true 0 left o, k))))
+          (λ _. gives-also (entriesBy t room (suc (length t)) val brace [] atStart p u) (entries-fine (suc (length t)) brace [] atStart p u l (omega arith)) (λ b _ k. (ltb-true 0 left o, k))))
 
       -- ---- values
 

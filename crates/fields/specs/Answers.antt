@@ -3,12 +3,13 @@
 use Prim.Native.Nat.{ℕ, _+_, _-_, _≤_, _<_}
 use mathlib.Core.Path.{_≡_}
 use mathlib.Core.List.{List}
+use lib.ListN.{length, getD}
 use Rattle.form.specs.Answer.{Out, got, no, dataEnds}
-use Rattle.form.specs.Reading.{Span, Entry, end, named, ListHead, stringAt}
+use Rattle.form.specs.Reading.{Span, Entry as EntryOf, end, named, ListHead as ListHeadOf, numberAt, stringAt, listHeadAt}
 use Rattle.fields.specs.declared.Num.{Num}
 use Rattle.fields.specs.declared.Part.{Part}
-use Rattle.fields.specs.declared.Start.{Start}
-use Rattle.fields.specs.declared.Item.{Item}
+use Rattle.fields.specs.declared.ListHead.{ListHead}
+use Rattle.fields.specs.declared.Entry.{Entry}
 
 -- A number, or refusal 1 where the data ends before it.
 abbrev pub numOut : Num → Out ℕ
@@ -21,16 +22,20 @@ partOut (Part.Is s l c x) = got (record { start = s; size = l; count = c; next =
 partOut (Part.No n p) = no n p
 
 -- A list's kind and count, or its refusal.
-abbrev pub startOut : Start → Out ListHead
-startOut (Start.Is k n) = got (record { kind = k; count = n })
-startOut (Start.No n p) = no n p
+abbrev pub listHeadOut : ListHead → Out ListHeadOf
+listHeadOut (ListHead.Is k n) = got (record { kind = k; count = n })
+listHeadOut (ListHead.No n p) = no n p
+
+-- The head of a list at `at`, in every document that has the kind there and the count behind it.
+abbrev pub HeadIs : ℕ → ℕ → ℕ → ListHead → Type 0
+HeadIs kind count at r = (doc : List ℕ) → at < length doc → kind ≡ getD doc at 0 → numberAt doc 4 (at + 1) ≡ got count → listHeadOut r ≡ listHeadAt doc at
 
 -- A compound's end, an entry's kind and the span of its name, or its refusal.
-abbrev pub itemOut : Item → Out Entry
-itemOut Item.End = got end
-itemOut (Item.Named k s l x) = got (named k (record { start = s; size = l; count = 0; next = x }))
-itemOut (Item.No n p) = no n p
+abbrev pub entryOut : Entry → Out EntryOf
+entryOut Entry.End = got end
+entryOut (Entry.Named k s l x) = got (named k (record { start = s; size = l; count = 0; next = x }))
+entryOut (Entry.No n p) = no n p
 
 -- A place that is not 0 is that behind the string at `at`.
 abbrev pub Ends : List ℕ → ℕ → ℕ → Type 0
-Ends doc at r = 0 < r → (stringAt doc at ≡ got (record { start = at + 2; size = r - (at + 2); count = 0; next = r })) × (at + 2 ≤ r)
+Ends doc at r = (r ≡ 0 → ⊥) → (stringAt doc at ≡ got (record { start = at + 2; size = r - (at + 2); count = 0; next = r })) × (at + 2 ≤ r)

@@ -1,11 +1,12 @@
 // The fields of a document (rules 3 to 5), each read at a place. Each function has the name of the definition in form/specs/Reading.antt
 // that it meets.
 ghost use mathlib.Core.Path.{_≡_};
-ghost use Prim.Native.Nat.{ℕ, _≤_, _<_};
+ghost use Prim.Native.Nat.{ℕ, _+_, _≤_, _<_, _^_};
 ghost use lib.ListN.{length, getD};
-ghost use Rattle.form.specs.Table.{holds, widthOf};
+ghost use Rattle.form.specs.Table.{widthOf};
 ghost use Rattle.form.specs.Reading.{numberAt, bytesAt, stringAt, arrayAt, leafAt, listHeadAt, entryAt};
-ghost use Rattle.fields.specs.Answers.{numOut, partOut, startOut, itemOut, Ends};
+ghost use Rattle.fields.specs.Answers.{numOut, partOut, listHeadOut, entryOut, HeadIs, Ends};
+use form::kinds;
 
 // A number that was read, or the place where the data ends before it.
 enum Num {
@@ -28,13 +29,13 @@ pub enum Part {
 }
 
 // A list's kind and count, or a refusal.
-pub enum Start {
+pub enum ListHead {
     Is { kind: u8, count: usize },
     No { number: u8, place: usize },
 }
 
 // An entry's kind and name, with the place of its payload; or a compound's end; or a refusal.
-pub enum Item {
+pub enum Entry {
     End,
     Named {
         kind: u8,
@@ -174,85 +175,91 @@ pub fn width_of(kind: u8) -> usize
     table::width_of(wide(kind))
 }
 
-// A payload that holds no records.
+// A payload of kinds 7, 8, 11 and 12: a string, or an array.
 pub fn leaf_at(doc: &[u8], kind: u8, at: usize) -> Part
-    requires { ⌜ (kind ≤ 12) × (at ≤ length (now doc)) ⌝ }
+    requires { ⌜ (6 < kind) × (kind ≤ 12) × (at ≤ length (now doc)) ⌝ }
     ensures { λ r. ⌜ partOut r ≡ leafAt (now (doc .entry)) kind at ⌝ }
 {
-    if kind < 7 {
-        bytes_at(doc, width_of(kind), 0, at)
-    } else if kind == 8 {
-        string_at(doc, at)
-    } else {
-        array_at(doc, width_of(kind), at)
+    match kind {
+        kinds::STRING => string_at(doc, at),
+        _ => array_at(doc, width_of(kind), at),
     }
 }
 
-// A list's kind and count.
-pub fn list_head(doc: &[u8], at: usize) -> Start
+// A list's kind and count: both are whole (1) before they are judged.
+pub fn list_head(doc: &[u8], at: usize) -> ListHead
     requires { ⌜ at ≤ length (now doc) ⌝ }
-    ensures { λ r. ⌜ startOut r ≡ listHeadAt (now (doc .entry)) at ⌝ }
+    ensures { λ r. ⌜ listHeadOut r ≡ listHeadAt (now (doc .entry)) at ⌝ }
 {
     if doc.len() <= at {
-        return Start::No {
+        return ListHead::No {
             number: form::DATA_ENDS,
             place: at,
         };
     }
     let kind = doc[at];
     match number(doc, 4, at + 1) {
-        Num::Short(p) => Start::No {
+        Num::Short(p) => ListHead::No {
             number: form::DATA_ENDS,
             place: p,
         },
-        Num::Is(n) => {
-            if 12 < kind {
-                return Start::No {
-                    number: form::TAG_ID,
-                    place: at,
-                };
-            }
-            if n == 0 {
-                return Start::Is { kind: 0, count: 0 };
-            }
-            if kind == 0 {
-                return Start::No {
-                    number: form::TAG_ID,
-                    place: at,
-                };
-            }
-            if n < BELOW_ZERO {
-                Start::Is { kind, count: n }
-            } else {
-                Start::No {
-                    number: form::NEGATIVE_COUNT,
-                    place: at + 1,
-                }
-            }
-        }
+        Num::Is(count) => judge_head(kind, count, at),
     }
 }
 
+// The head of a list at `at` by its kind and count: the kind is one of rule 4, or END of a list with no elements (3), and the count is not
+// below 0 (5). An empty list has no kind.
+fn judge_head(kind: u8, count: usize, at: usize) -> ListHead
+    requires { ⌜ at + 1 < 2 ^ 64 ⌝ }
+    ensures { λ r. ⌜ HeadIs kind count at r ⌝ }
+{
+    if kinds::LONG_ARRAY < kind {
+        return ListHead::No {
+            number: form::TAG_ID,
+            place: at,
+        };
+    }
+    if count == 0 {
+        return ListHead::Is {
+            kind: kinds::END,
+            count: 0,
+        };
+    }
+    if kind == kinds::END {
+        return ListHead::No {
+            number: form::TAG_ID,
+            place: at,
+        };
+    }
+    if BELOW_ZERO <= count {
+        return ListHead::No {
+            number: form::NEGATIVE_COUNT,
+            place: at + 1,
+        };
+    }
+    ListHead::Is { kind, count }
+}
+
 // An entry of some kind, whose name is judged step by step.
-fn named(doc: &[u8], kind: u8, at: usize) -> Item
+fn named(doc: &[u8], kind: u8, at: usize) -> Entry
     requires { ⌜ (at < length (now doc)) × (kind ≡ getD (now doc) at 0) × (kind ≡ 0 → ⊥) ⌝ }
-    ensures { λ r. ⌜ itemOut r ≡ entryAt (now (doc .entry)) at ⌝ }
+    ensures { λ r. ⌜ entryOut r ≡ entryAt (now (doc .entry)) at ⌝ }
 {
     match string_at(doc, at + 1) {
-        Part::No { number, place } => Item::No { number, place },
+        Part::No { number, place } => Entry::No { number, place },
         Part::Is {
             start,
             len,
             count: _,
             next,
         } => {
-            if 12 < kind {
-                return Item::No {
+            if kinds::LONG_ARRAY < kind {
+                return Entry::No {
                     number: form::TAG_ID,
                     place: at,
                 };
             }
-            Item::Named {
+            Entry::Named {
                 kind,
                 start,
                 len,
@@ -263,41 +270,34 @@ fn named(doc: &[u8], kind: u8, at: usize) -> Item
 }
 
 // An entry's kind and name, or a compound's end.
-pub fn entry_at(doc: &[u8], at: usize) -> Item
+pub fn entry_at(doc: &[u8], at: usize) -> Entry
     requires { ⌜ at ≤ length (now doc) ⌝ }
-    ensures { λ r. ⌜ itemOut r ≡ entryAt (now (doc .entry)) at ⌝ }
+    ensures { λ r. ⌜ entryOut r ≡ entryAt (now (doc .entry)) at ⌝ }
 {
     if doc.len() <= at {
-        return Item::No {
+        return Entry::No {
             number: form::DATA_ENDS,
             place: at,
         };
     }
     let kind = doc[at];
-    if kind == 0 {
-        return Item::End;
+    if kind == kinds::END {
+        return Entry::End;
     }
     let next = string_end(doc, at + 1);
     if next == 0 {
         return named(doc, kind, at);
     }
-    if 12 < kind {
-        return Item::No {
+    if kinds::LONG_ARRAY < kind {
+        return Entry::No {
             number: form::TAG_ID,
             place: at,
         };
     }
-    Item::Named {
+    Entry::Named {
         kind,
         start: at + 3,
         len: next - (at + 3),
         next,
     }
-}
-
-// Whether a kind holds records.
-pub fn is_container(kind: u8) -> bool
-    ensures { λ r. ⌜ r ≡ holds kind ⌝ }
-{
-    table::is_container(wide(kind))
 }

@@ -1,13 +1,13 @@
 -- A double by its bits' fields, and what it is as a single.
 -- Assumes nothing.
-use mathlib.Core.Path.{_≡_, refl, sym, ap, ap₂, _∙_, subst}
-use Prim.Native.Nat.{ℕ, zero, suc, _+_, _-_, _*_, _/_, _%_, _^_, _≤_, _<_}
-use native.Mathlib.Nat.{zero-add, lt-irrefl, add-mod-left, mod-eq-of-lt, mul-add-mod-self-left, le-add-right, mul-pos, zero-lt-suc}
+use mathlib.Core.Path.{_≡_, refl, sym, ap, _∙_, subst}
+use Prim.Native.Nat.{ℕ, zero, suc, _+_, _-_, _*_, _/_, _%_, _^_, _<_}
+use native.Mathlib.Nat.{zero-add, lt-irrefl, add-mod-left, mod-eq-of-lt, mul-add-mod-self-left, le-add-right}
 use native.Mathlib.Omega.{arith}
 use mathlib.Core.Bool.{Bool, true, false, not, cond}
 use lib.Dec.{T, leb, eqb, le→leb, not-T, eqb→eq}
 use lib.Arith.{lt→nleb}
-use lib.Ieee.{Float, nan, inf, fin, Format, binary32, binary64, prec, low, up, down, odd, round, hid, ones, top, ofFields, ofBits}
+use lib.Ieee.{Float, nan, inf, fin, Format, binary32, prec, low, up, down, odd, round, hid, ones, top, ofFields, ofBits}
 use lib.Ieee.Fits.{down-pos}
 use lib.Ieee.Bits.{is-true, is-false, cond-no}
 use lib.Ieee.Exact.{HasValue, odd-sign}

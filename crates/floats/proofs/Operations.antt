@@ -1,13 +1,12 @@
 -- One rounded operation on two exact operands is the exact result, rounded: a product and a quotient, at any format, of values given as fractions.
 -- Assumes nothing.
 use mathlib.Core.Path.{_≡_, refl, sym, ap, _∙_, subst, ap₂}
-use mathlib.Core.Bool.{Bool, true, false, not, _&&_, cond, Bool·beq}
-use Prim.Native.Nat.{ℕ, zero, suc, _+_, _*_, _^_, _≤_, _<_}
-use native.Mathlib.Nat.{mul-assoc, mul-comm, mul-left-comm, mul-right-comm, mul-pos, zero-mul, lt-irrefl, zero-lt-suc, one-le-pow}
-use native.Mathlib.Omega.{arith}
-use lib.IntN.{ℤ, pos, negsuc}
+use mathlib.Core.Bool.{Bool, true, false, not, cond}
+use Prim.Native.Nat.{ℕ, zero, suc, _*_, _^_, _≤_, _<_}
+use native.Mathlib.Nat.{mul-assoc, mul-comm, mul-left-comm, mul-pos, zero-mul, lt-irrefl, zero-lt-suc, one-le-pow}
+use lib.IntN.{ℤ, pos}
 use lib.Dec.{T, eqb, ltb, eqb→eq, not-T, le→leb, lit<}
-use lib.Ieee.{Float, nan, inf, fin, Format, prec, emax, low, up, down, unlike, odd, units, round, mul, div, neg, ofInt, inFloat}
+use lib.Ieee.{Float, nan, inf, fin, Format, prec, low, up, down, unlike, odd, units, round, mul, div, neg, ofInt, inFloat}
 use lib.Ieee.Back.{round-whole}
 use lib.Ieee.Fits.{up-pos, down-pos, round-is}
 use lib.Ieee.Bits.{cond-no}

@@ -1,21 +1,21 @@
 -- The bits of a rounded fraction, for any format, sign and fraction, subnormal results and overflow included: drop * hid + kept, where a carry
 -- out of the kept digits runs into the exponent's field, and from an infinity's bits on they are an infinity's. Assumes nothing.
-use mathlib.Core.Path.{_≡_, refl, sym, ap, ap₂, _∙_, subst}
+use mathlib.Core.Path.{_≡_, sym, ap, ap₂, _∙_, subst}
 use mathlib.Core.Logic.{_⊎_, inl, inr}
 use Prim.Native.Nat.{ℕ, zero, suc, _+_, _-_, _*_, _/_, _%_, _^_, _≤_, _<_, compare}
-use native.Mathlib.Nat.{le-trans, le-of-eq, le-antisymm, lt-of-lt-of-le, lt-of-le-of-lt, lt-of-not-le, lt-irrefl, le-of-suc-le-suc, eq-or-lt-of-le, eq-zero-or-pos, mul-one, one-mul, mul-comm, mul-assoc, suc-mul, mul-pos, mul-le-mul-right, mul-div-cancel, div-one, div-div-eq-div-mul, le-div-iff-mul-le, le-of-mul-le-mul-right, add-assoc, pow-succ'}
+use native.Mathlib.Nat.{le-trans, le-of-eq, le-antisymm, lt-of-lt-of-le, lt-of-le-of-lt, lt-of-not-le, lt-irrefl, le-of-suc-le-suc, eq-or-lt-of-le, eq-zero-or-pos, mul-one, mul-comm, mul-assoc, suc-mul, mul-le-mul-right, mul-div-cancel, div-div-eq-div-mul, le-div-iff-mul-le, le-of-mul-le-mul-right, add-assoc, pow-succ'}
 use native.Mathlib.Omega.{arith}
 use mathlib.Core.Bool.{Bool, true, false, not, cond}
 use lib.Dec.{T, ltb, ltb→lt, nltb→le}
 use lib.Arith.{le→nltb}
 use lib.Pow.{pow-add, pow-pos, pow-mono, pow-lt, shl-lt}
-use lib.Ieee.{Float, nan, inf, fin, Format, prec, emax, low, up, down, size, nearest, odd, units, round, hid, ones, top, toBits, isNan, ofInt}
+use lib.Ieee.{Float, nan, inf, fin, Format, prec, emax, low, up, down, size, odd, units, round, hid, ones, top, toBits, isNan, ofInt}
 use lib.IntN.{ℤ, pos, negsuc}
-use lib.Ieee.Digits.{Equals, size-lt, size-le, size-reaches}
+use lib.Ieee.Digits.{size-lt, size-le, size-reaches}
 use lib.Ieee.Fits.{two, two-le-pos, kept-lt, nearest-le, round-is, round-fits, down-pos}
 use lib.Ieee.Bits.{cond-no, toBits-lt}
 use lib.Ieee.Exact.{HasValue, units-val}
-use lib.Ieee.Nearest.{closest, nearest-ge}
+use lib.Ieee.Nearest.{nearest-ge}
 use lib.Ieee.Order.{drop, kept}
 use lib.Ieee.Scale.{overflow}
 

@@ -1,19 +1,18 @@
 -- The bits of a whole number of w digits that is rounded to a format, by the number's leading zeros: moved up by them, its upper `prec` digits are kept and the d below
 -- them dropped. One law for every format and width. Assumes nothing.
 use mathlib.Core.Path.{_≡_, refl, sym, ap, _∙_, subst}
-use Prim.Native.Nat.{ℕ, zero, suc, _+_, _-_, _*_, _/_, _%_, _^_, _≤_, _<_, compare, Ordering, Ordering·lt, Ordering·eq, Ordering·gt}
-use native.Mathlib.Nat.{le-trans, le-of-eq, lt-of-le-of-lt, lt-of-lt-of-le, mul-le-mul-right, mul-one, one-mul, div-one, mul-assoc, mul-comm, mul-pos, zero-lt-suc, lt-irrefl, mod-eq-of-lt, pow-succ', mul-le-mul-left}
+use Prim.Native.Nat.{ℕ, suc, _+_, _-_, _*_, _/_, _%_, _^_, _≤_, _<_, compare, Ordering, Ordering·lt, Ordering·eq, Ordering·gt}
+use native.Mathlib.Nat.{le-trans, le-of-eq, lt-of-le-of-lt, mul-le-mul-right, one-mul, div-one, mul-assoc, mul-pos, zero-lt-suc, mod-eq-of-lt, pow-succ', mul-le-mul-left}
 use native.Mathlib.Omega.{arith}
-use mathlib.Core.Bool.{Bool, true, false, not, cond}
-use lib.Dec.{T, isLe, isEq, leb, eqb, leb→le, nleb→lt, eqb→eq, eqb-refl, lit≤}
+use mathlib.Core.Bool.{false, not}
+use lib.Dec.{T, isLe, isEq, eqb, leb→le, nleb→lt, eqb→eq, eqb-refl, lit≤}
 use lib.Arith.{lt-of-le-ne}
 use lib.Pow.{pow-add, pow-pos, pow-mono, pow-lt, shl-lt}
 use lib.Count.{leadingZeros, leading-top}
-use lib.Ieee.{Format, binary32, binary64, prec, emax, low, size, nearest, round, hid, top, toBits}
+use lib.Ieee.{Format, binary32, binary64, prec, emax, low, nearest, round, hid, toBits}
 use lib.Ieee.Nearest.{closest, closest-same, div-mono}
 use lib.Ieee.Fits.{nearest-le}
 use lib.Ieee.Order.{drop, kept}
-use lib.Ieee.Scale.{overflow}
 use Rattle.floats.proofs.Rounded.{size-exact, rounded-to}
 
 deep : (f : Format) → prec f ≤ low f

@@ -2,20 +2,17 @@
 -- Assumes nothing.
 use Prim.Native.Nat.{ℕ, zero, suc, _+_, _*_, _^_, _≤_, _<_}
 use mathlib.Core.Bool.{Bool, true, false, not, _&&_, _||_}
-use mathlib.Core.List.{List, [], _∷_, _++_, foldl}
-use mathlib.Core.Path.{_≡_, refl, sym, ap, _∙_}
+use mathlib.Core.List.{List, [], _∷_}
+use mathlib.Core.Path.{_≡_, refl, ap, _∙_}
 use native.Mathlib.Omega.{arith}
-use native.Mathlib.Numerals.{add-one}
-use native.Mathlib.Nat.{pow-suc, pow-le-pow-right}
-use lib.ListN.{length, getD, take, drop, length-drop}
-use lib.Seq.{take-suc, getD-drop}
+use lib.ListN.{length, getD, take, drop}
 use lib.Dec.{T, leb, ltb, eqb, leb→le}
 use borrow.Author.Tests.{lt-ltb, le-ltb, le-leb, lt-leb, leb-true, ltb-true, ne-eqb}
 use Rattle.form.specs.Answer.{Out, got, no, guard, _>>_, _>>=_}
 use Rattle.form.specs.Spans.{part}
 use Rattle.form.specs.Decoding.{wellFormed}
 use Rattle.form.specs.Reading.{Span, byteAt, bytesAt, numberAt, stringAt, arrayAt, countAt, leafAt, ListHead, listHeadAt, Entry, end, named, entryAt}
-use Rattle.form.specs.Numbers.{bigEndian, value}
+use Rattle.form.specs.Numbers.{bigEndian}
 use Rattle.form.specs.Table.{widthOf}
 use Rattle.form.proofs.Answer.{bind-got, guard-got}
 

@@ -8,8 +8,8 @@ use native.Mathlib.Omega.{arith}
 use native.Mathlib.Numerals.{sub-one}
 use lib.ListN.{length}
 use Rattle.form.specs.Answer.{Out, got, no, _>>=_}
-use Rattle.form.specs.Table.{Head, Forest, none, node, size, width, _⊕_, wrote}
-use Rattle.form.specs.Reading.{One, Run, Reader, Entry, end, named, Span, before, hasName, entryAt, elements, entries}
+use Rattle.form.specs.Table.{Forest, none, node, size, width, _⊕_, wrote}
+use Rattle.form.specs.Reading.{One, Run, Reader, end, named, Span, before, hasName, entryAt, elements, entries}
 use Rattle.form.specs.Spans.{part}
 use Rattle.form.proofs.Table.{size-one, size-append, width-one, width-append, append-none, append-append, wrote-none, wrote-next, wrote-length}
 

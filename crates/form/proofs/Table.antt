@@ -1,12 +1,12 @@
 -- Laws of trees, their words, and tables in which they are written.
 -- Assumes nothing.
-use Prim.Native.Nat.{ℕ, zero, suc, _+_, _*_, _≤_, _<_, min}
+use Prim.Native.Nat.{ℕ, _+_, _*_, _≤_, _<_}
 use mathlib.Core.List.{List, [], _∷_, _++_, append-assoc, append-nil}
 use mathlib.Core.Path.{_≡_, refl, sym, ap, _∙_}
 use native.Mathlib.Omega.{arith}
-use native.Mathlib.Nat.{add-assoc, zero-add, add-zero}
-use lib.ListN.{length, set, take, drop, length-append, length-take, length-drop, take-append-drop}
-use lib.Seq.{sets, sets-eq, take-append-le, drop-append-le, take-at, drop-at, take-append-add, drop-append-add, drop-drop, take-take, length-take-le}
+use native.Mathlib.Nat.{add-assoc, add-zero}
+use lib.ListN.{length, set, take, drop, length-append, length-drop, take-append-drop}
+use lib.Seq.{sets, sets-eq, take-append-le, take-at, drop-at, drop-append-add, drop-drop, take-take, length-take-le}
 use Rattle.form.specs.Table.{Head, Forest, none, node, size, width, _⊕_, words, flat, wrote}
 use Rattle.form.specs.Spans.{over}
 

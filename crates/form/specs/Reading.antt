@@ -2,16 +2,16 @@
 -- is room for. Every definition is a chain of fields in 01's order: the first that fails is the refusal.
 -- Assumes nothing.
 use Prim.Native.Nat.{ℕ, zero, suc, _+_, _*_, _^_, min, _/_}
-use mathlib.Core.List.{List, [], _∷_, _++_}
+use mathlib.Core.List.{List}
 use mathlib.Core.Bool.{Bool, true, false, not, _||_, _&&_}
 use mathlib.Core.Path.{_≡_}
-use lib.ListN.{length, getD, take, drop, replicate}
+use lib.ListN.{length, getD, replicate}
 use lib.Dec.{ltb, leb, eqb}
 use Rattle.form.specs.Answer.{Out, got, no, _>>=_, _>>_, guard, dataEnds, rootId, tagId, badString, negativeCount, nameTwice, tooDeep, tableFull, overLimit, documentLimit, recordLimit, depthLimit}
 use Rattle.form.specs.Spans.{part, same}
 use Rattle.form.specs.Numbers.{bigEndian}
 use Rattle.form.specs.Decoding.{wellFormed}
-use Rattle.form.specs.Table.{Head, Forest, none, node, size, width, _⊕_, flat, wrote, widthOf, holds}
+use Rattle.form.specs.Table.{Head, Forest, none, node, size, width, _⊕_, wrote, widthOf, holds}
 
 -- A span of bytes, with the place past it; of an array also the count of its elements.
 pub record Span : Type 0 where

@@ -3,10 +3,10 @@
 -- Assumes nothing.
 use Prim.Native.Nat.{ℕ, zero, suc, _+_, _*_}
 use mathlib.Core.List.{List, [], _∷_, _++_}
-use mathlib.Core.Bool.{Bool, true, false, _||_}
+use mathlib.Core.Bool.{Bool, _||_}
 use lib.IntN.{ℤ}
-use lib.ListN.{length, getD, take, drop}
-use lib.Dec.{ltb, eqb}
+use lib.ListN.{getD}
+use lib.Dec.{eqb}
 use Rattle.form.specs.Answer.{pick}
 use Rattle.form.specs.Numbers.{bigEndian, signedOf}
 use Rattle.form.specs.Spans.{part, over}

@@ -1,9 +1,9 @@
 -- The tree of demand 2: the values of a document, with no place and no table in it. Its limits and the uniqueness of names.
 -- Assumes nothing.
-use Prim.Native.Nat.{ℕ, zero, suc, _+_, _^_, _≤_, _<_, max}
+use Prim.Native.Nat.{ℕ, _+_, _^_, _≤_, _<_, max}
 use mathlib.Core.Path.{_≡_}
 use mathlib.Core.List.{List, [], _∷_}
-use mathlib.Core.Bool.{Bool, true, false, _||_}
+use mathlib.Core.Bool.{Bool, false, _||_}
 use lib.IntN.{ℤ}
 use lib.ListN.{length}
 use Rattle.form.specs.Answer.{depthLimit, stringLimit}

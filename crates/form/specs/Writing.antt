@@ -1,13 +1,13 @@
 -- Rule 8: what writing a table gives. The records are judged in file order, each by name (12, 4, 6), depth (7), kind (11) and string
 -- payload (12, 4); then the layout of the document that they stand for, where there is room (13).
 -- Assumes nothing.
-use Prim.Native.Nat.{ℕ, _+_, _-_, _≤_}
+use Prim.Native.Nat.{ℕ, _+_, _-_}
 use mathlib.Core.Path.{_≡_}
 use mathlib.Core.List.{List}
 use mathlib.Core.Bool.{Bool, true, false, not, _||_}
 use lib.ListN.{length}
 use lib.Dec.{ltb, leb, eqb}
-use Rattle.form.specs.Answer.{Out, got, no, _>>=_, _>>_, guard, pick, badString, nameTwice, tooDeep, overLimit, noTable, mixedList, longString, outputFull, depthLimit, stringLimit}
+use Rattle.form.specs.Answer.{Out, got, no, _>>=_, _>>_, guard, badString, nameTwice, tooDeep, overLimit, noTable, mixedList, longString, outputFull, depthLimit, stringLimit}
 use Rattle.form.specs.Spans.{part, over}
 use Rattle.form.specs.Decoding.{wellFormed}
 use Rattle.form.specs.Table.{Head, Forest, none, node, size, _⊕_, holds, valueOf}

@@ -1,5 +1,6 @@
 // The paper in definitions: specs/ has what a reader must believe, proofs/ the laws about it. The code is
-// the constants that every layer shares: the limits of document 01 and its refusals by name.
+// the constants that every layer shares: the limits of document 01, its refusals and its kinds by name.
+pub mod kinds;
 
 // The most bytes that a document has.
 pub const DOCUMENT: usize = 16777216;

@@ -50,15 +50,6 @@ module _ (doc : List ℕ) where
       only-elements {l} f =
           only-by (elements doc read (l .count) (l .kind) (at + 5) n) h (λ m p z. inside-list doc room kind at n depth only-deep e ∙ list-no doc read at n f z)
 
--- What holds records is a compound or a list.
-pub list-kind : (kind : ℕ) → holds kind ≡ true → (kind ≡ 10 → ⊥) → kind ≡ 9
-list-kind kind e d = go (eqb kind 9) (eqb kind 10) refl refl e
-  where
-    go : (a b : Bool) → eqb kind 9 ≡ a → eqb kind 10 ≡ b → (a || b) ≡ true → kind ≡ 9
-    go true b f g h = eqb-true kind 9 f
-    go false true f g h = absurd (d (eqb-true kind 10 g))
-    go false false f g h = absurd (let z : _≡_ {A = ℕ} 0 1 = cc in omega arith)
-
 pub positive : (k : ℕ) → (k ≡ 0 → ⊥) → 0 < k
 positive zero d = absurd (d refl)
 positive (suc k) d = omega arith

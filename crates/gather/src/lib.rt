@@ -1,6 +1,7 @@
 // Request [11]: a document that is refused with 1 read again, as far as it goes: what is kept of it as records of a table, and the lines of
-// its open containers. The functions have the names of the definitions that they meet, in form/specs/Reading.antt where a tag is whole and
-// in form/specs/Cut.antt where it is not. Since the read was refused with 1 and nothing else, names, room and depth are not asked again.
+// its open containers. The functions are those of `reader`, and their contracts cite the definitions that they meet, in
+// form/specs/Reading.antt where a tag is whole and in form/specs/Cut.antt where it is not. Since the read was refused with 1 and nothing
+// else, names, room and depth are not asked again.
 ghost use mathlib.Core.Path.{_≡_};
 ghost use mathlib.Core.List.{[], _∷_};
 ghost use Prim.Native.Nat.{ℕ, _+_, _-_, _*_, _≤_, _<_, _^_};
@@ -12,10 +13,11 @@ ghost use Rattle.form.specs.Reading.{leafOne, roomOf, reading};
 ghost use Rattle.form.specs.Cut.{begunAt};
 ghost use Rattle.reader.specs.Steps.{Named};
 ghost use Rattle.gather.specs.Steps.{IsCut, LeafIs, HeldAsked, readIn, elementsIn, entriesIn, elementsKept, entriesKept, PayloadAsked, ElementsAsked, EntriesAsked, PieceIs, SideIs, HeldIs, GatheredIs};
-use fields::Item;
+use fields::Entry;
+use fields::ListHead;
 use fields::Part;
-use fields::Start;
 use fields::wide;
+use form::kinds;
 
 // A payload: whole, with the place behind it and the next record's number; or cut, with the next record's number behind what is kept of it,
 // and how many containers are open, itself counted.
@@ -38,7 +40,7 @@ pub enum Gathered {
 }
 
 // A payload of kinds 1 to 6: a record, or nothing.
-fn fixed(
+fn gather_fixed(
     doc: &[u8],
     kind: u8,
     name: usize,
@@ -63,8 +65,8 @@ fn fixed(
     Piece::Whole(at + width, ix + 1)
 }
 
-// A payload that holds no records: a record, or nothing.
-fn leaf(
+// A payload of kinds 7, 8, 11 and 12: a record, or nothing.
+fn gather_leaf(
     doc: &[u8],
     kind: u8,
     name: usize,
@@ -74,7 +76,7 @@ fn leaf(
     up: usize,
     ix: usize,
 ) -> Piece
-    requires { ⌜ (Named (now doc) (now table) (roomOf (length (now table))) at up ix kind name len) × (ix < roomOf (length (now table))) ⌝ }
+    requires { ⌜ (Named (now doc) (now table) (roomOf (length (now table))) at up ix kind name len) × (ix < roomOf (length (now table))) × (6 < kind) ⌝ }
     ensures { λ r. ⌜ LeafIs (now (doc .entry)) (roomOf (length (now (table .entry)))) (leafOne (now (doc .entry)) kind name len at) at up ix (now (table .entry)) (now (table .exit)) r ⌝ }
 {
     match fields::leaf_at(doc, kind, at) {
@@ -157,7 +159,7 @@ fn held(
 }
 
 // A payload at `at`, record ix in record `up`: what is small with no call.
-fn node(
+fn gather_tag_body(
     doc: &[u8],
     kind: u8,
     name: usize,
@@ -173,14 +175,14 @@ fn node(
     requires { ⌜ PayloadAsked (now doc) (now table) depth kind name len at up ix (now lines) most ⌝ }
     ensures { λ r. ⌜ PieceIs (now (doc .entry)) (roomOf (length (now (table .entry)))) (readIn (now (doc .entry)) (length (now (table .entry))) depth kind name len at ix) (begunAt (now (doc .entry)) (roomOf (length (now (table .entry)))) depth kind name len at ix) (512 - depth) at up ix (now (table .entry)) (now (table .exit)) (now (lines .entry)) (now (lines .exit)) most r ⌝ }
 {
-    if kind < 7 {
-        return fixed(doc, kind, name, len, at, table, up, ix);
+    match kind {
+        kinds::END..=kinds::DOUBLE => gather_fixed(doc, kind, name, len, at, table, up, ix),
+        _ => gather_larger_body(doc, kind, name, len, at, depth, table, up, ix, lines, most),
     }
-    payload(doc, kind, name, len, at, depth, table, up, ix, lines, most)
 }
 
-// The same of any kind, where `depth` containers may still stand within each other.
-fn payload(
+// The same of kinds 7 to 12. A container was not refused with 7, so `depth`, which counts it, is not 0.
+fn gather_larger_body(
     doc: &[u8],
     kind: u8,
     name: usize,
@@ -193,31 +195,28 @@ fn payload(
     lines: &mut [u32],
     most: usize,
 ) -> Piece
-    requires { ⌜ PayloadAsked (now doc) (now table) depth kind name len at up ix (now lines) most ⌝ }
+    requires { ⌜ (PayloadAsked (now doc) (now table) depth kind name len at up ix (now lines) most) × (6 < kind) ⌝ }
     ensures { λ r. ⌜ PieceIs (now (doc .entry)) (roomOf (length (now (table .entry)))) (readIn (now (doc .entry)) (length (now (table .entry))) depth kind name len at ix) (begunAt (now (doc .entry)) (roomOf (length (now (table .entry)))) depth kind name len at ix) (512 - depth) at up ix (now (table .entry)) (now (table .exit)) (now (lines .entry)) (now (lines .exit)) most r ⌝ }
 {
-    if !fields::is_container(kind) {
-        return leaf(doc, kind, name, len, at, table, up, ix);
-    }
-    if depth == 0 {
-        return Piece::Cut(ix, 0);
-    }
     let level = form::DEPTH - depth;
-    if kind == 10 {
-        let s = entries(doc, at, depth - 1, table, ix, lines, most);
-        return held(kind, name, len, 0, 0, s, level, table, up, ix, lines, most);
-    }
-    match fields::list_head(doc, at) {
-        Start::No { .. } => Piece::Cut(ix, 0),
-        Start::Is { kind: of, count: n } => {
-            let s = elements(doc, of, n, at + 5, depth - 1, table, ix, lines, most);
-            held(kind, name, len, of, n, s, level, table, up, ix, lines, most)
+    match kind {
+        kinds::LIST => match fields::list_head(doc, at) {
+            ListHead::No { .. } => Piece::Cut(ix, 0),
+            ListHead::Is { kind: of, count: n } => {
+                let s = gather_elements(doc, of, n, at + 5, depth - 1, table, ix, lines, most);
+                held(kind, name, len, of, n, s, level, table, up, ix, lines, most)
+            }
+        },
+        kinds::COMPOUND => {
+            let s = gather_compound(doc, at, depth - 1, table, ix, lines, most);
+            held(kind, name, len, 0, 0, s, level, table, up, ix, lines, most)
         }
+        _ => gather_leaf(doc, kind, name, len, at, table, up, ix),
     }
 }
 
 // The elements of the list that is record n: those that are whole, then what is kept of the first that is not, if a byte of it is there.
-fn elements(
+fn gather_elements(
     doc: &[u8],
     kind: u8,
     count: usize,
@@ -238,7 +237,7 @@ fn elements(
         if doc.len() <= here {
             return Side::Cut(next, done, 0);
         }
-        match node(doc, kind, 0, 0, here, depth, table, n, next, lines, most) {
+        match gather_tag_body(doc, kind, 0, 0, here, depth, table, n, next, lines, most) {
             Piece::Cut(end, open) => return Side::Cut(end, with_open(done, open), open),
             Piece::Whole(a, i) => {
                 here = a;
@@ -251,7 +250,7 @@ fn elements(
 }
 
 // The entries of the compound that is record n: those that are whole, then what is kept of the first that is not, if its id and name are whole.
-fn entries(
+fn gather_compound(
     doc: &[u8],
     at: usize,
     depth: usize,
@@ -264,22 +263,22 @@ fn entries(
     ensures { λ r. ⌜ SideIs (now (doc .entry)) (roomOf (length (now (table .entry)))) (entriesIn (now (doc .entry)) (length (now (table .entry))) depth at (n + 1)) (entriesKept (now (doc .entry)) (length (now (table .entry))) depth at (n + 1)) (512 - depth) at n (n + 1) (now (table .entry)) (now (table .exit)) (now (lines .entry)) (now (lines .exit)) most r ⌝ }
 {
     let mut here = at;
-    let mut next = n + 1;
+    let mut ix = n + 1;
     let mut count: usize = 0;
     loop {
         match fields::entry_at(doc, here) {
-            Item::No { .. } => return Side::Cut(next, count, 0),
-            Item::End => return Side::Whole(here + 1, next, count),
-            Item::Named {
+            Entry::No { .. } => return Side::Cut(ix, count, 0),
+            Entry::End => return Side::Whole(here + 1, ix, count),
+            Entry::Named {
                 kind,
                 start: name,
                 len,
                 next: at,
-            } => match node(doc, kind, name, len, at, depth, table, n, next, lines, most) {
+            } => match gather_tag_body(doc, kind, name, len, at, depth, table, n, ix, lines, most) {
                 Piece::Cut(end, open) => return Side::Cut(end, with_open(count, open), open),
                 Piece::Whole(a, i) => {
                     here = a;
-                    next = i;
+                    ix = i;
                     count += 1;
                 }
             },
@@ -302,9 +301,9 @@ pub fn gather(doc: &[u8], table: &mut [u32], lines: &mut [u32], most: usize) -> 
             len,
             count: _,
             next,
-        } => match payload(
+        } => match gather_larger_body(
             doc,
-            10,
+            kinds::COMPOUND,
             start,
             len,
             next,

@@ -18,6 +18,7 @@ use Rattle.form.specs.Spans.{part}
 use Rattle.text_form.specs.Numbers.{Number, isDigit, number}
 use Rattle.text_form.specs.Lexing.{Stops, Token, string, numeral, Lexed, ended, Word, word, quoted, made, unquotedAt, quotedAt, tokenBy, skip, tokenAt, begins, onCharacter, judgedText, lexed}
 use Rattle.text_form.proofs.Moves.{word-reach, EndsIn, quoted-ends, from-got}
+use Rattle.tokens.specs.declared.Width.{Width}
 use Rattle.quotes.specs.Answers.{quotedOut}
 use Rattle.quotes.specs.declared.Quoted.{Quoted as Answer}
 use Rattle.quotes.specs.declared.Quoted.the-variants.{Closed, Refused}
@@ -51,11 +52,11 @@ module _ (set : Stops) (t : List ℕ) (i : ℕ) (w : Word) (is : w ≡ word set 
 -- ---- a quoted token
 
 module _ (t : List ℕ) (i : ℕ) (x : Answer) (is : quotedOut x ≡ quoted t i) where
-  pub closed-within : (e w : ℕ) → i < length t → x ≡ Closed e w → e < length t
+  pub closed-within : (e : ℕ) (w : Width) → i < length t → x ≡ Closed e w → e < length t
   closed-within e w h f =
-      from-got (EndsIn (i + 1) (length t)) (quoted t i) (record { end = e; width = w }) (quoted-ends t i h) (sym is ∙ ap quotedOut f) .1
+      from-got (EndsIn (i + 1) (length t)) (quoted t i) (record { end = e; width = w .0 }) (quoted-ends t i h) (sym is ∙ ap quotedOut f) .1
 
-  pub quoted-closed : (e w : ℕ) (r : Out Lexed) → x ≡ Closed e w → r ≡ got (made (string true (i + 1) e) i w (e + 1)) → r ≡ quotedAt t i
+  pub quoted-closed : (e : ℕ) (w : Width) (r : Out Lexed) → x ≡ Closed e w → r ≡ got (made (string true (i + 1) e) i (w .0) (e + 1)) → r ≡ quotedAt t i
   unfolding quotedAt
   quoted-closed e w r f q = rw (sym is ∙ ap quotedOut f) q
 

@@ -15,8 +15,8 @@ use Rattle.text_form.specs.Numbers.{Number, isDigit, number}
 use Rattle.text_form.specs.Lexing.{Stops, Token, openCurly, closedCurly, openSquare, closedSquare, comma, colon, semicolon, string, numeral, TokenData, Lexed, found, ended, word, unquoted, quoted, made, sign, unquotedAt, quotedAt, tokenBy, skip, tokenAt}
 use Rattle.text_form.specs.Text.{signOf}
 use Rattle.text_form.proofs.Moves.{Holds, holds-bind, either-way, from-got}
-use Rattle.lexer.specs.Answers.{FrontIs}
-use Rattle.lexer.specs.declared.Front.{Front}
+use Rattle.lexer.specs.Answers.{PeekedIs}
+use Rattle.lexer.specs.declared.Peeked.{Peeked}
 use Rattle.lexer.proofs.Finds.{token-here}
 
 -- ---- a token that was found
@@ -81,25 +81,25 @@ by-sign set t i b (numeral n) z e = absurd (omega (arith, z))
 
 -- ---- both
 
-module _ (t : List ℕ) (p : ℕ) (f : Front) (is : FrontIs t p f) where
-  byte-there : f .byte ≡ getD t (f .place) 0
+module _ (t : List ℕ) (p : ℕ) (f : Peeked) (is : PeekedIs t p f) where
+  byte-there : f .byte ≡ getD t (f .index .0) 0
   byte-there = is .byte ∙ ap (λ (i : ℕ). getD t i 0) (sym (is .place))
 
   -- 0 is what the end has
-  before-end : 0 < f .byte → f .place < length t
-  before-end z = go (lt-or (f .place) (length t))
+  before-end : 0 < f .byte → f .index .0 < length t
+  before-end z = go (lt-or (f .index .0) (length t))
     where
-      go : (f .place < length t) ⊎ (length t ≤ f .place) → f .place < length t
+      go : (f .index .0 < length t) ⊎ (length t ≤ f .index .0) → f .index .0 < length t
       go (inl h) = h
       go (inr h) = absurd (omega (arith, z, byte-there, List·getD-eq-default t 0 h))
 
   -- a sign's character in front: the token is that sign
-  pub front-sign : (set : Stops) (k : Token) → 0 < signOf k → f .byte ≡ signOf k → tokenAt set t p ≡ sign k (f .place)
+  pub front-sign : (set : Stops) (k : Token) → 0 < signOf k → f .byte ≡ signOf k → tokenAt set t p ≡ sign k (f .index .0)
   front-sign set k z e =
-      sym (token-here set t p (f .place) (is .place) _ (before-end (omega (arith, z, e))) refl) ∙ by-sign set t (f .place) (getD t (f .place) 0) k z (sym byte-there ∙ e)
+      sym (token-here set t p (f .index .0) (is .place) _ (before-end (omega (arith, z, e))) refl) ∙ by-sign set t (f .index .0) (getD t (f .index .0) 0) k z (sym byte-there ∙ e)
 
   -- a token stands where its front does, and is a sign only by its character
-  pub front-token : (set : Stops) (d : TokenData) (n : ℕ) → tokenAt set t p ≡ got (found d n) → (d .index ≡ f .place) × (0 < signOf (d .token) → f .byte ≡ signOf (d .token))
+  pub front-token : (set : Stops) (d : TokenData) (n : ℕ) → tokenAt set t p ≡ got (found d n) → (d .index ≡ f .index .0) × (0 < signOf (d .token) → f .byte ≡ signOf (d .token))
   front-token set d n e =
       let h = from-got (InFront (getD t (skip t p) 0) (skip t p)) (tokenAt set t p) (found d n) (at-front set t p) e in
       (h .0 ∙ sym (is .place), λ z. is .byte ∙ h .1 z)

@@ -8,18 +8,16 @@ use mathlib.Core.Logic.{_⊎_, inl, inr}
 use native.Mathlib.Nat.{eq-or-lt-of-le}
 use native.Mathlib.Omega.{arith}
 use borrow.Author.Tests.{leb-true, lt-ltb, ne-eqb}
-use lib.Dec.{ltb, leb, eqb}
+use lib.Dec.{leb, eqb}
 use lib.ListN.{length, getD, drop, drop-of-length-le}
 use Rattle.form.specs.Answer.{pick}
 use Rattle.form.proofs.Drops.{drop1}
-use Rattle.text_form.specs.Lexing.{Stops, default, key, value, first, later, Scan, among, blank, begins, stopSet, within, stops, level, grown, after, Word, wordOf, slurp, begun, word, skipBy, skip}
+use Rattle.text_form.specs.Lexing.{Stops, default, key, value, first, later, Scan, among, blank, stopSet, within, stops, level, grown, after, Word, wordOf, slurp, begun, word, skipBy, skip}
 use Rattle.text_form.proofs.Moves.{either-way}
+use Rattle.texts.proofs.Texts.{begins-le}
 use Rattle.lexer.specs.Runs.{between, ordinary, runBy, runEnd, Bounded, extended}
 
 -- ---- the numbers stay small
-
-pub begins-le : (b : ℕ) → begins b ≤ 1
-begins-le b = either-way (λ (n : ℕ). n ≤ 1) (ltb b 128) (omega arith) (either-way (λ (n : ℕ). n ≤ 1) (ltb b 192) (omega arith) (omega arith))
 
 module _ (i : ℕ) where
   abbrev Below : ℕ → Type 0

@@ -7,7 +7,7 @@ use lib.ListN.{getD}
 use Rattle.form.specs.Answer.{Out, got, _>>=_}
 use Rattle.text_form.specs.Numbers as numbers
 use Rattle.text_form.specs.Lexing as rule
-use Rattle.lexer.specs.declared.Front.{Front}
+use Rattle.lexer.specs.declared.Peeked.{Peeked}
 use Rattle.lexer.specs.declared.words.State.{State}
 use Rattle.lexer.specs.declared.words.Word.{Word}
 
@@ -20,12 +20,12 @@ scanOf s = record {
   double = s .double;
   escape = s .escape;
   end = s .end;
-  width = s .width;
+  width = s .width .0;
 }
 
 -- Where it ends, its width, and the next place.
 abbrev pub wordIs : Word → rule.Word
-wordIs w = record { end = w .end; width = w .width; next = w .next }
+wordIs w = record { end = w .end; width = w .width .0; next = w .next }
 
 -- A number's token at i of width w, and the next place; a refusal stays.
 abbrev pub numeralAt : Out numbers.Number → ℕ → ℕ → ℕ → Out rule.Lexed
@@ -34,6 +34,6 @@ numeralAt o i w n = do
   got (rule.made (rule.numeral k) i w n)
 
 -- What stands in front of the token from p on: the first place that is not blank, and its byte; 0 at the text's end.
-pub record FrontIs (t : List ℕ) (p : ℕ) (f : Front) : Type 0 where
-  pub place : f .place ≡ rule.skip t p
+pub record PeekedIs (t : List ℕ) (p : ℕ) (f : Peeked) : Type 0 where
+  pub place : f .index .0 ≡ rule.skip t p
   pub byte : f .byte ≡ getD t (rule.skip t p) 0

@@ -1,8 +1,8 @@
-// What a byte is to the lexer: blank, a stop character, the beginning of a character, or one that every unquoted token takes;
+// What a byte is to the lexer: blank, a stop character, or one that every unquoted token takes;
 // and the runs of blanks and of such bytes.
 use tokens::Stops;
 ghost use mathlib.Core.Path.{_≡_};
-ghost use Rattle.text_form.specs.Lexing.{among, blank, begins, stopSet, skip};
+ghost use Rattle.text_form.specs.Lexing.{among, blank, stopSet, skip};
 ghost use Rattle.tokens.specs.Answers.{stopsIs};
 ghost use Rattle.lexer.specs.Runs.{ordinary, runEnd};
 
@@ -39,19 +39,6 @@ pub fn is_stop(set: Stops, b: u8) -> bool
             _ => false,
         },
     }
-}
-
-// 1 for a byte that begins a character, 0 for one within it (rule 10: a width counts characters).
-pub fn first_byte(b: u8) -> usize
-    ensures { λ r. ⌜ r ≡ begins b ⌝ }
-{
-    if b < 128 {
-        return 1;
-    }
-    if b < 192 {
-        return 0;
-    }
-    1
 }
 
 // Letters, digits and some signs, `- . _` among them: every unquoted token takes them (rule 11).

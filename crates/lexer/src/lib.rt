@@ -5,7 +5,7 @@ pub mod words;
 
 use numbers::Number;
 use quotes::Quoted;
-use quotes::Text;
+use texts::Text;
 use tokens::Index;
 use tokens::Lexed;
 use tokens::Stops;
@@ -13,7 +13,7 @@ use tokens::Token;
 use tokens::TokenData;
 use tokens::Width;
 ghost use mathlib.Core.Path.{_≡_};
-ghost use Prim.Native.Nat.{_≤_, _<_};
+ghost use Prim.Native.Nat.{_+_, _≤_, _<_, _^_};
 ghost use mathlib.Core.Bool.{_||_};
 ghost use lib.Dec.{eqb};
 ghost use lib.ListN.{length};
@@ -22,39 +22,47 @@ ghost use Rattle.text_form.specs.Numbers.{isDigit};
 ghost use Rattle.text_form.specs.Lexing.{made, unquotedAt, quotedAt, tokenBy, tokenAt, lexed};
 ghost use Rattle.numbers.specs.Answers.{numberOut};
 ghost use Rattle.tokens.specs.Answers.{tokenIs, lexedOut, stopsIs};
-ghost use Rattle.lexer.specs.Answers.{numeralAt, FrontIs};
+ghost use Rattle.lexer.specs.Answers.{numeralAt, PeekedIs};
 
-// A byte and its place.
-pub struct Front {
+// The byte that the next token begins with, and that token's index.
+pub struct Peeked {
     pub byte: u8,
-    pub place: usize,
+    pub index: Index,
 }
 
-// A token at i of some width, and the next place (rule 10).
-fn found(token: Token, i: usize, width: usize, next: usize) -> Lexed
-    ensures { λ r. ⌜ lexedOut r ≡ got (made (tokenIs token) i width next) ⌝ }
+// A token with its index and its width, and the next place (rule 10).
+fn found(token: Token, index: Index, char_width: Width, next: usize) -> Lexed
+    ensures { λ r. ⌜ lexedOut r ≡ got (made (tokenIs token) (index .0) («char_width» .0) next) ⌝ }
 {
     Lexed::Found {
         data: TokenData {
             token,
-            index: Index(i),
-            char_width: Width(width),
+            index,
+            char_width,
         },
         next,
     }
 }
 
-// A number's token at i, or its refusal (rule 13).
-fn numeral_found(n: Number, i: usize, width: usize, next: usize) -> Lexed
-    ensures { λ r. ⌜ lexedOut r ≡ numeralAt (numberOut n) i width next ⌝ }
+// A sign: a token of one character at an index (rule 10).
+fn sign(token: Token, index: Index) -> Lexed
+    requires { ⌜ index .0 + 1 < 2 ^ 64 ⌝ }
+    ensures { λ r. ⌜ lexedOut r ≡ got (made (tokenIs token) (index .0) 1 (index .0 + 1)) ⌝ }
+{
+    found(token, index, Width(1), index.0 + 1)
+}
+
+// A number's token with its index and its width, or its refusal (rule 13).
+fn numeral_found(n: Number, index: Index, char_width: Width, next: usize) -> Lexed
+    ensures { λ r. ⌜ lexedOut r ≡ numeralAt (numberOut n) (index .0) («char_width» .0) next ⌝ }
 {
     match n {
-        Number::Byte(z) => found(Token::Byte(z), i, width, next),
-        Number::Short(z) => found(Token::Short(z), i, width, next),
-        Number::Int(z) => found(Token::Int(z), i, width, next),
-        Number::Long(z) => found(Token::Long(z), i, width, next),
-        Number::Float(x) => found(Token::Float(x), i, width, next),
-        Number::Double(x) => found(Token::Double(x), i, width, next),
+        Number::Byte(z) => found(Token::Byte(z), index, char_width, next),
+        Number::Short(z) => found(Token::Short(z), index, char_width, next),
+        Number::Int(z) => found(Token::Int(z), index, char_width, next),
+        Number::Long(z) => found(Token::Long(z), index, char_width, next),
+        Number::Float(x) => found(Token::Float(x), index, char_width, next),
+        Number::Double(x) => found(Token::Double(x), index, char_width, next),
         Number::Refused { number, place } => Lexed::Refused { number, place },
     }
 }
@@ -79,19 +87,16 @@ fn unquoted_at(text: &[u8], i: usize, set: Stops) -> Lexed
 {
     let w = words::word_at(text, i, set);
     let end = w.end;
+    let width = w.width;
     if opens_number(text[i]) {
-        return numeral_found(numbers::number_at(text, i, end), i, w.width, w.next);
+        return numeral_found(numbers::number_at(text, i, end), Index(i), width, w.next);
     }
-    found(
-        Token::Str {
-            quoted: false,
-            start: i,
-            end,
-        },
-        i,
-        w.width,
-        w.next,
-    )
+    let token = Token::Str {
+        quoted: false,
+        start: i,
+        end,
+    };
+    found(token, Index(i), width, w.next)
 }
 
 // The quoted token at i, its content between the quotes (rule 12).
@@ -100,16 +105,14 @@ fn quoted_found(text: &[u8], i: usize) -> Lexed
     ensures { λ r. ⌜ lexedOut r ≡ quotedAt (now (text .entry)) i ⌝ }
 {
     match quotes::quoted_at(text, i) {
-        Quoted::Closed { end, width } => found(
-            Token::Str {
+        Quoted::Closed { end, width } => {
+            let token = Token::Str {
                 quoted: true,
                 start: i + 1,
                 end,
-            },
-            i,
-            width,
-            end + 1,
-        ),
+            };
+            found(token, Index(i), width, end + 1)
+        }
         Quoted::Refused { number, place } => Lexed::Refused { number, place },
     }
 }
@@ -120,30 +123,31 @@ fn token_by(text: &[u8], i: usize, set: Stops, b: u8) -> Lexed
     ensures { λ r. ⌜ lexedOut r ≡ tokenBy (stopsIs set) (now (text .entry)) i b ⌝ }
 {
     match b {
-        b',' => found(Token::Comma, i, 1, i + 1),
-        b':' => found(Token::Colon, i, 1, i + 1),
-        b';' => found(Token::Semicolon, i, 1, i + 1),
-        b'[' => found(Token::OpenSquare, i, 1, i + 1),
-        b']' => found(Token::ClosedSquare, i, 1, i + 1),
-        b'{' => found(Token::OpenCurly, i, 1, i + 1),
-        b'}' => found(Token::ClosedCurly, i, 1, i + 1),
+        b',' => sign(Token::Comma, Index(i)),
+        b':' => sign(Token::Colon, Index(i)),
+        b';' => sign(Token::Semicolon, Index(i)),
+        b'[' => sign(Token::OpenSquare, Index(i)),
+        b']' => sign(Token::ClosedSquare, Index(i)),
+        b'{' => sign(Token::OpenCurly, Index(i)),
+        b'}' => sign(Token::ClosedCurly, Index(i)),
         34 | 39 => quoted_found(text, i),
         _ => unquoted_at(text, i, set),
     }
 }
 
 // The first byte from a place on that is not blank, and its place: a sign's where the next token is that sign (rule 10). 0 at the end.
-pub fn front_at(text: &[u8], start: usize) -> Front
-    ensures { λ r. ⌜ FrontIs (now (text .entry)) start r ⌝ }
+pub fn peek_at(text: &[u8], start: usize) -> Peeked
+    ensures { λ r. ⌜ PeekedIs (now (text .entry)) start r ⌝ }
 {
     let place = characters::skip_blank(text, start);
+    let index = Index(place);
     if place < text.len() {
-        return Front {
+        return Peeked {
             byte: text[place],
-            place,
+            index,
         };
     }
-    Front { byte: 0, place }
+    Peeked { byte: 0, index }
 }
 
 // The next token from a place on, or the end, in a text that was judged (rules 10 to 13): the parser asks this.
@@ -162,10 +166,10 @@ pub fn token_at(text: &[u8], start: usize, set: Stops) -> Lexed
 pub fn token(text: &[u8], start: usize, set: Stops) -> Lexed
     ensures { λ r. ⌜ lexedOut r ≡ lexed (now (text .entry)) start (stopsIs set) ⌝ }
 {
-    match quotes::judged_text(text) {
+    match texts::judged_text(text) {
         Text::Refused { number } => Lexed::Refused { number, place: 0 },
         Text::Fine => {
-            if quotes::on_character(text, start) {
+            if texts::on_character(text, start) {
                 return token_at(text, start, set);
             }
             Lexed::Refused {

@@ -1,17 +1,18 @@
 // Rule 11: where an unquoted token ends, its width and the next place. A run of ordinary characters is taken at once, any other byte
 // by itself.
-use crate::characters::first_byte;
 use crate::characters::is_blank;
 use crate::characters::is_stop;
 use crate::characters::run_end;
 use tokens::Stops;
+use tokens::Width;
+use tokens::wider;
 ghost use mathlib.Core.Path.{_≡_};
 ghost use mathlib.Core.Bool.{not, _||_};
 ghost use Prim.Native.Nat.{_+_, _-_, _≤_, _<_, _^_};
 ghost use lib.Dec.{eqb};
 ghost use lib.ListN.{length};
 ghost use Rattle.form.specs.Answer.{pick};
-ghost use Rattle.text_form.specs.Lexing.{within, stops, grown, after, word};
+ghost use Rattle.text_form.specs.Lexing.{within, stops, grown, after, wordOf, word};
 ghost use Rattle.tokens.specs.Answers.{stopsIs};
 ghost use Rattle.lexer.specs.Answers.{scanOf, wordIs};
 ghost use Rattle.lexer.specs.Runs.{Bounded, extended};
@@ -24,13 +25,13 @@ pub struct State {
     pub double: bool,
     pub escape: bool,
     pub end: usize,
-    pub width: usize,
+    pub width: Width,
 }
 
 // Where the token ends, its width in characters, and the next place.
 pub struct Word {
     pub end: usize,
-    pub width: usize,
+    pub width: Width,
     pub next: usize,
 }
 
@@ -106,8 +107,9 @@ fn grown_by(st: State, b: u8, i: usize) -> State
     if is_blank(b) {
         return n;
     }
+    let width = st.width;
     n.end = i + 1;
-    n.width = st.width + first_byte(b);
+    n.width = wider(width, texts::begins(b));
     n
 }
 
@@ -141,9 +143,22 @@ fn after_run(st: State, i: usize, j: usize) -> State
 {
     let mut n = st;
     n.escape = false;
+    let width = st.width;
     n.end = j;
-    n.width = st.width + (j - i);
+    n.width = wider(width, j - i);
     n
+}
+
+// The token as it stands, and the next place.
+fn word_of(st: State, next: usize) -> Word
+    ensures { λ r. ⌜ wordIs r ≡ wordOf (scanOf st) next ⌝ }
+{
+    let width = st.width;
+    Word {
+        end: st.end,
+        width,
+        next,
+    }
 }
 
 // The unquoted token at a place, its first character unexamined, run by run and byte by byte (rule 11).
@@ -159,7 +174,7 @@ fn word_from(text: &[u8], start: usize, set: Stops) -> Word
         double: false,
         escape: false,
         end: i,
-        width: 1,
+        width: Width(1),
     };
     while i < text.len() {
         let j = run_end(text, i);
@@ -169,21 +184,13 @@ fn word_from(text: &[u8], start: usize, set: Stops) -> Word
         } else {
             let b = text[i];
             if ends(st, set, b) {
-                return Word {
-                    end: st.end,
-                    width: st.width,
-                    next: i,
-                };
+                return word_of(st, i);
             }
             st = after_byte(st, b, i);
             i += 1;
         }
     }
-    Word {
-        end: st.end,
-        width: st.width,
-        next: i,
-    }
+    word_of(st, i)
 }
 
 // The same; a run of ordinary characters that a stop character ends at once is the whole token, and most tokens are of this sort.
@@ -196,7 +203,7 @@ pub fn word_at(text: &[u8], start: usize, set: Stops) -> Word
         if is_stop(set, text[end]) {
             return Word {
                 end,
-                width: end - start,
+                width: Width(end - start),
                 next: end,
             };
         }

@@ -6,16 +6,18 @@ use mathlib.Core.Logic.{⊎-elim}
 use mathlib.Core.Bool.{true, false}
 use mathlib.Core.List.{List, _∷_}
 use native.Mathlib.Omega.{arith}
-use borrow.Author.Tests.{lt-ltb, le-ltb, lt-leb, ne-eqb}
+use borrow.Author.Tests.{lt-ltb, le-ltb, ne-eqb}
 use lib.ListN.{length, drop, getD}
-use Rattle.form.specs.Strings.{scalarBytes, utf8Bytes}
-use Rattle.form.specs.Decoding.{Sequence, is, good, six, twoOf, threeOf, unitOf, scalarOf, utf8Of, isGood, wellFormed, Judged}
+use Rattle.form.specs.Decoding.{is, good, six, twoOf, threeOf, isGood, wellFormed, Judged}
 use Rattle.form.proofs.Picks.{lt-or}
 use Rattle.form.proofs.Drops.{drop1, drop2, drop3}
-use Rattle.form.proofs.Scalars.{mutf8}
-use Rattle.form.proofs.Utf8.{utf8}
+use Rattle.chars.proofs.Sequences.{follows, unit-plain, unit-two, unit-three}
+use Rattle.mutf8.specs.declared.Coding.{Coding}
+use Rattle.mutf8.specs.declared.Coding.the-variants.{Modified}
+use Rattle.mutf8.specs.Answers.{encOf, oneOf}
 use Rattle.mutf8.specs.Runs.{Walked, none, more, commonOf, Passed, Plain, Fits, Fitting, Edge}
-use Rattle.mutf8.proofs.Walks.{walked-join, walked-pass, common-scalar, common-utf8, all-walked}
+use Rattle.mutf8.proofs.Codings.{alike}
+use Rattle.mutf8.proofs.Walks.{walked-join, walked-pass, all-walked}
 
 pub false-true : false ≡ true → ⊥
 false-true e = let z : _≡_ {A = ℕ} 0 1 = cc in omega arith
@@ -33,22 +35,21 @@ pub plain-join : (s : List ℕ) (i j m n : ℕ) → m ≤ j → Plain s i j → 
 plain-join s i j m n o h g = record { each = λ k a b. ⊎-elim (λ lt. h .each k a lt) (λ ge. g .each k (omega arith) b) (lt-or k j) }
 
 one-common : (a : ℕ) (l : List ℕ) → 0 < a → a < 128 → commonOf (a ∷ l) ≡ is a 1
-unfolding commonOf unitOf
-one-common a l p q = simp (ne-eqb a 0 (omega arith), lt-ltb a 128 q, lt-ltb a 55296 (omega arith))
+unfolding commonOf
+one-common a l p q = rw (unit-plain a l p q) (simp (ne-eqb a 0 (omega arith), lt-ltb a 55296 (omega arith)))
 
--- one plain byte more, for a reader that reads what both codings read alike
-pub walked-plain : {one : List ℕ → Sequence} → ((l : List ℕ) (c n : ℕ) → commonOf l ≡ is c n → one l ≡ is c n) → (s : List ℕ) (i j : ℕ)
-    → j < length s → (0 < getD s j 0) × (getD s j 0 < 128) → Walked one s i j → Walked one s i (j + 1)
-walked-plain also s i j h b w =
-    let e : commonOf (drop j s) ≡ is (getD s j 0) 1 = rw (drop1 s j h) (one-common (getD s j 0) (drop (j + 1) s) (b .0) (b .1)) in
-    walked-join w (more {i = j} {c = getD s j 0} {n = 1} (also _ _ _ e) none)
+plain-is : (s : List ℕ) (i : ℕ) → i < length s → (0 < getD s i 0) × (getD s i 0 < 128) → commonOf (drop i s) ≡ is (getD s i 0) 1
+plain-is s i h b = rw (drop1 s i h) (one-common _ _ (b .0) (b .1))
+
+-- one plain byte more
+pub walked-plain : (k : Coding) (s : List ℕ) (i j : ℕ) → j < length s → (0 < getD s j 0) × (getD s j 0 < 128) → Walked (oneOf k) s i j → Walked (oneOf k) s i (j + 1)
+walked-plain k s i j h b w = walked-join w (more {i = j} {c = getD s j 0} {n = 1} (alike k _ _ _ (plain-is s j h b)) none)
 
 plain-run : (s : List ℕ) (n i : ℕ) → i + n ≤ length s → Plain s i (i + n) → Walked commonOf s i (i + n)
 plain-run s zero i h p = let e : i + 0 ≡ i = omega arith in rw e none
 plain-run s (suc n) i h p =
     let e : i + suc n ≡ i + 1 + n = omega arith in
-    let b = p .each i (omega arith) (omega arith) in
-    rw e (more {i = i} {c = getD s i 0} {n = 1} (rw (drop1 s i (omega arith)) (one-common (getD s i 0) (drop (i + 1) s) (b .0) (b .1)))
+    rw e (more {i = i} {c = getD s i 0} {n = 1} (plain-is s i (omega arith) (p .each i (omega arith) (omega arith)))
     (plain-run s n (i + 1) (omega arith) (record { each = λ k a l. p .each k (omega arith) (omega arith) })))
 
 pub plain-passed : (s : List ℕ) (i j : ℕ) → i ≤ j → j ≤ length s → Plain s i j → Passed s i j
@@ -63,15 +64,12 @@ plain-passed s i j h l p = record {
 pub passed-none : (s : List ℕ) (i : ℕ) → i ≤ length s → Passed s i i
 passed-none s i h = record { on = omega arith; within = h; walked = none }
 
--- a list that is all plain is good in both codings
-pub plain-good : (s : List ℕ) → Plain s 0 (length s) → Judged scalarBytes scalarOf s good
-plain-good s p = all-walked mutf8 (omega arith) (walked-pass common-scalar none (plain-passed s 0 (length s) (omega arith) (omega arith) p))
-
-pub plain-good-utf8 : (s : List ℕ) → Plain s 0 (length s) → Judged utf8Bytes utf8Of s good
-plain-good-utf8 s p = all-walked utf8 (omega arith) (walked-pass common-utf8 none (plain-passed s 0 (length s) (omega arith) (omega arith) p))
+-- a list that is all plain is good in any coding
+pub plain-good : (k : Coding) (s : List ℕ) → Plain s 0 (length s) → Judged (encOf k) (oneOf k) s good
+plain-good k s p = all-walked k (omega arith) (walked-pass k none (plain-passed s 0 (length s) (omega arith) (omega arith) p))
 
 pub plain-well : (s : List ℕ) → Plain s 0 (length s) → true ≡ wellFormed s
-plain-well s p = ap isGood (plain-good s p .is)
+plain-well s p = ap isGood (plain-good Modified s p .is)
 
 pub passed-join : (s : List ℕ) (i j k : ℕ) → Passed s i j → Passed s j k → Passed s i k
 passed-join s i j k p q = record { on = omega (arith, p .on, q .on); within = q .within; walked = walked-join (p .walked) (q .walked) }
@@ -100,23 +98,26 @@ fits-of {q} {p} {b} {x} {y} due follows e (some, low, lead) (long, basic) = reco
 }
   where
     following : x ≡ 1 → (128 ≤ b) × (b < 192)
-    following f = (⊎-elim (λ m. absurd (omega (arith, follows .0 m))) (λ m. m) (lt-or b 128), ⊎-elim (λ m. m) (λ m. absurd (omega (arith, follows .1 m))) (lt-or b 192))
+    following f = (
+      ⊎-elim (λ m. absurd (omega (arith, follows .0 m))) (λ m. m) (lt-or b 128),
+      ⊎-elim (λ m. m) (λ m. absurd (omega (arith, follows .1 m))) (lt-or b 192),
+    )
 
 two-common : (a b : ℕ) (l : List ℕ) → 194 ≤ a → a < 224 → 128 ≤ b → b < 192 → commonOf (a ∷ b ∷ l) ≡ is (six (a % 32) b) 2
-unfolding commonOf unitOf twoOf
+unfolding commonOf twoOf
 two-common a b l h₁ h₂ h₃ h₄ =
     let u = six (a % 32) b in
-    simp (ne-eqb a 0 (omega arith), le-ltb a 128 (omega arith), le-ltb a 192 (omega arith), lt-ltb a 224 h₂, le-ltb b 128 h₃, lt-leb 192 b h₄, ne-eqb u 0 (omega arith), le-ltb u 128 (omega arith), lt-ltb u 55296 (omega arith))
+    rw (unit-two a b l (omega arith) h₂, follows b h₃ h₄) (simp (ne-eqb u 0 (omega arith), le-ltb u 128 (omega arith), lt-ltb u 55296 (omega arith)))
 
 three-common : (a b c : ℕ) (l : List ℕ) → 224 ≤ a → a < 240 → 128 ≤ b → b < 192 → 128 ≤ c → c < 192 → (a ≡ 224 → 160 ≤ b) → (a ≡ 237 → b < 160)
     → commonOf (a ∷ b ∷ c ∷ l) ≡ is (six (six (a % 16) b) c) 3
-unfolding commonOf unitOf threeOf
+unfolding commonOf threeOf
 three-common a b c l h₁ h₂ h₃ h₄ h₅ h₆ h₇ h₈ =
     let u = six (six (a % 16) b) c in
     let big : 2048 ≤ u = ⊎-elim (λ k. omega (arith, h₇ (omega arith))) (λ k. omega arith) (lt-or a 225) in
-    simp (ne-eqb a 0 (omega arith), le-ltb a 128 (omega arith), le-ltb a 192 (omega arith), le-ltb a 224 h₁, lt-leb 240 a h₂, le-ltb b 128 h₃, lt-leb 192 b h₄, le-ltb c 128 h₅, lt-leb 192 c h₆, le-ltb u 2048 big, ne-eqb u 0 (omega arith))
+    rw (unit-three a b c l h₁ h₂, follows b h₃ h₄, follows c h₅ h₆) (simp (le-ltb u 2048 big, ne-eqb u 0 (omega arith))
     (⊎-elim (λ k. simp (lt-ltb u 55296 (omega arith)))
-    (λ k. ⊎-elim (λ m. simp (lt-ltb u 55296 (omega (arith, h₈ (omega arith))))) (λ m. simp (le-ltb u 55296 (omega arith), le-ltb u 57344 (omega arith))) (lt-or a 238)) (lt-or a 237))
+    (λ k. ⊎-elim (λ m. simp (lt-ltb u 55296 (omega (arith, h₈ (omega arith))))) (λ m. simp (le-ltb u 55296 (omega arith), le-ltb u 57344 (omega arith))) (lt-or a 238)) (lt-or a 237)))
 
 edge-at : (s : List ℕ) (j p q : ℕ) → p + 1 ≡ j → q + 2 ≡ j → getD s p 0 < 192 → getD s q 0 < 224 → Edge s j
 edge-at s j p q a b h k =
@@ -150,7 +151,7 @@ module _ (s : List ℕ) (i r : ℕ) (fit : Fitting s i r) (within : r ≤ length
       let l = second-in j b (omega arith) in
       let f = fit-at (j + 1) j (j - 1) (omega arith) (omega arith) (omega arith) (omega arith) in
       let x = f .second (omega arith) in
-      more {i = j} {c = six (getD s j 0 % 32) (getD s (j + 1) 0)} {n = 2} (rw (drop2 s j (omega arith)) (two-common (getD s j 0) (getD s (j + 1) 0) (drop (j + 2) s) h k (x .0) (x .1)))
+      more {i = j} {c = six (getD s j 0 % 32) (getD s (j + 1) 0)} {n = 2} (rw (drop2 s j (omega arith)) (two-common _ _ _ h k (x .0) (x .1)))
       (ih (j + 2) (omega arith) l (omega arith) (edge-at s (j + 2) (j + 1) j (omega arith) (omega arith) (x .1) k))
 
   by-three : (n : ℕ) → Rest n → (j : ℕ) → i ≤ j → j < r → r ≤ j + suc n → 224 ≤ getD s j 0 → Walked commonOf s j r
@@ -160,7 +161,8 @@ module _ (s : List ℕ) (i r : ℕ) (fit : Fitting s i r) (within : r ≤ length
       let g = fit-at (j + 2) (j + 1) j (omega arith) (omega arith) (omega arith) (omega arith) in
       let x = f .second (omega arith) in
       let y = g .third h in
-      more {i = j} {c = six (six (getD s j 0 % 16) (getD s (j + 1) 0)) (getD s (j + 2) 0)} {n = 3} (rw (drop3 s j (omega arith)) (three-common (getD s j 0) (getD s (j + 1) 0) (getD s (j + 2) 0) (drop (j + 3) s) h ((fit .each j a b) .low) (x .0) (x .1) (y .0) (y .1) (f .long) (f .basic)))
+      more {i = j} {c = six (six (getD s j 0 % 16) (getD s (j + 1) 0)) (getD s (j + 2) 0)} {n = 3}
+      (rw (drop3 s j (omega arith)) (three-common _ _ _ _ h ((fit .each j a b) .low) (x .0) (x .1) (y .0) (y .1) (f .long) (f .basic)))
       (ih (j + 3) (omega arith) l (omega arith) (edge-at s (j + 3) (j + 2) (j + 1) (omega arith) (omega arith) (y .1) (omega (arith, x .1))))
 
   by-fit : (n : ℕ) → Rest n

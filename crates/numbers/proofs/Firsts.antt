@@ -3,7 +3,7 @@
 use mathlib.Core.Path.{_≡_, refl, sym, ap, _∙_, subst}
 use mathlib.Core.List.{List, [], _∷_, _++_}
 use mathlib.Core.Bool.{Bool, true, false, _||_}
-use Prim.Native.Nat.{ℕ, zero, suc, _+_, _-_, _≤_, _<_}
+use Prim.Native.Nat.{ℕ, suc, _+_, _-_, _≤_, _<_}
 use native.Mathlib.Nat.{le-of-suc-le-suc, not-suc-le-zero}
 use native.Mathlib.Omega.{arith}
 use borrow.Author.Tests.{eq-eqb, ne-eqb}
@@ -13,7 +13,7 @@ use lib.Seq.{slice, length-slice}
 use Rattle.form.specs.Answer.{pick}
 use Rattle.text_form.specs.Numbers.{has, before, behind, isPoint}
 use Rattle.numbers.specs.Rows.{either, FirstAt}
-use Rattle.numbers.proofs.Slices.{slice-none, slice-first, slice-take, slice-drop, slice-split}
+use Rattle.numbers.proofs.Slices.{slice-first, slice-take, slice-drop, slice-split}
 
 -- ---- lists
 

@@ -85,7 +85,8 @@ module _ (s : List ℕ) (start end : ℕ) (b : Bool) (v at : ℕ) (k : end ≤ l
           let some : eqb (at - from + n) 0 ≡ false = ne-eqb (at - from + n) 0 (λ (e : at - from + n ≡ 0). none (at - from) at to g e) in
           ap (λ (p : ℤ). scaled b (r .value) p place) (down n (omega arith))
           ∙ ap (λ (m : Digits). combine b n m (Power false 0) place) counted
-          ∙ ap₂ (λ (x y : Bool). pick x (no badNumber place) (combine b n (digitsOf 0 l) (pick y (Power false 0) (exponentOf (slice (to + 1) to s))) place)) (sym some) (sym (le-leb to to (le-refl to)))
+          ∙ ap₂ (λ (x y : Bool). pick x (no badNumber place) (combine b n (digitsOf 0 l) (pick y (Power false 0) (exponentOf (slice (to + 1) to s))) place)) (sym some)
+          (sym (le-leb to to (le-refl to)))
         where
           none : (m at to : ℕ) → at + 1 < to → m + (to - (at + 1)) ≡ 0 → ⊥
           none m at to g e = omega arith

@@ -1,13 +1,12 @@
 -- A decimal by the places of its point and its exponent's letter is the decimal of the definition.
 -- Assumes nothing.
-use mathlib.Core.Path.{_≡_, refl, sym, ap, ap₂, _∙_, subst}
-use mathlib.Core.Logic.{_⊎_, inl, inr}
+use mathlib.Core.Path.{_≡_, refl, sym, ap, ap₂, _∙_}
 use mathlib.Core.List.{List, [], _∷_, _++_}
 use mathlib.Core.Bool.{Bool, true, false, not, _&&_}
-use Prim.Native.Nat.{ℕ, zero, suc, _+_, _-_, _^_, _≤_, _<_, min}
+use Prim.Native.Nat.{ℕ, suc, _+_, _-_, _^_, _≤_, _<_, min}
 use native.Mathlib.Nat.{le-trans}
 use native.Mathlib.Omega.{arith}
-use borrow.Author.Tests.{le-leb, lt-leb, eq-eqb, ne-eqb}
+use borrow.Author.Tests.{le-leb, lt-leb, ne-eqb}
 use lib.Dec.{leb, eqb}
 use lib.IntN.{ℤ, pos, _-ℤ_}
 use lib.ListN.{length, length-append, getD, take, drop}
@@ -17,7 +16,6 @@ use Rattle.form.specs.Answer.{Out, got, no, guard, pick, badNumber, _>>=_, _>>_
 use Rattle.text_form.specs.Values.{signed, scaled}
 use Rattle.text_form.specs.Numbers.{Number, isDigit, isPoint, isLetter, empty, has, before, behind, lastOf, digits, worth, wholeNumber, power, exponent, exponentIn, valueOf, decimalOf, decimal, realNumber, decimalNumber, number}
 use Rattle.numbers.specs.Rows.{cap, digitsOf, either, FirstAt, counted, powerOf, exponentOf, combine, valueIn, endingOf}
-use Rattle.numbers.specs.declared.digits.Digits.{Digits}
 use Rattle.numbers.specs.declared.digits.Digits.the-variants.{Value, Bad}
 use Rattle.numbers.specs.declared.decimals.Exponent.{Exponent}
 use Rattle.numbers.specs.declared.decimals.Exponent.the-variants.{Power, Wrong}
@@ -108,8 +106,10 @@ with-point s t from to point ex place f g k room h =
     let tail : slice (ex + 1) to t ≡ behind (isLetter 101) q = part-behind 101 69 t (point + 1) to ex g k ∙ ap (behind (isLetter 101)) rest in
     let ex-le : ex ≤ length t = le-trans (g .high) k in
     let point-le : point ≤ length t = le-trans (f .high) k in
-    let none : eqb (point - from + n) 0 ≡ empty (a ++ b) = sym (empty-length (a ++ b) ∙ ap (λ (m : ℕ). eqb m 0) (length-append a b ∙ ap₂ _+_ (length-slice from point t point-le) (length-slice (point + 1) ex t ex-le))) in
-    let letter : leb to ex ≡ not (has (isLetter 101) q) = tested (has (isLetter 101) q) (λ (z : ex < to). ap (has (isLetter 101)) (sym rest) ∙ part-has 101 69 t (point + 1) to ex g k z) (λ (z : to ≤ ex). ap (has (isLetter 101)) (sym rest) ∙ part-lacks 101 69 t (point + 1) to ex g k z) in
+    let none : eqb (point - from + n) 0 ≡ empty (a ++ b) = sym
+    (empty-length (a ++ b) ∙ ap (λ (m : ℕ). eqb m 0) (length-append a b ∙ ap₂ _+_ (length-slice from point t point-le) (length-slice (point + 1) ex t ex-le))) in
+    let letter : leb to ex ≡ not (has (isLetter 101) q) = tested (has (isLetter 101) q) (λ (z : ex < to). ap (has (isLetter 101)) (sym rest) ∙ part-has 101 69 t (point + 1) to ex g k z)
+    (λ (z : to ≤ ex). ap (has (isLetter 101)) (sym rest) ∙ part-lacks 101 69 t (point + 1) to ex g k z) in
     let point-is : has isPoint l ≡ true = ap (λ (p : ℕ → Bool). has p l) (sym the-point) ∙ part-has 46 46 t from to point f k h in
     ap (λ (x : Bool). pick x (no badNumber place) (combine s n (digitsOf 0 (a ++ b)) (pick (leb to ex) (Power false 0) (exponentOf (slice (ex + 1) to t))) place)) none
     ∙ ap (λ (x : Bool). pick (empty (a ++ b)) (no badNumber place) (combine s n (digitsOf 0 (a ++ b)) (pick x (Power false 0) (exponentOf (slice (ex + 1) to t))) place)) letter
@@ -164,7 +164,8 @@ decimal-number f t place e s h k q =
         (pick (isDigit b) (realNumber false (decimal (slice f t s) place)) (no badNumber place)))
 
     go : (x y z : Bool) → ended (pick x EndsFloat (pick y EndsDouble (pick z EndsDigit EndsOther))) (slice f (t - 1) s) (slice f t s) place
-        ≡ pick x (realNumber true (decimal (slice f (t - 1) s) place)) (pick y (realNumber false (decimal (slice f (t - 1) s) place)) (pick z (realNumber false (decimal (slice f t s) place)) (no badNumber place)))
+        ≡ pick x (realNumber true (decimal (slice f (t - 1) s) place))
+        (pick y (realNumber false (decimal (slice f (t - 1) s) place)) (pick z (realNumber false (decimal (slice f t s) place)) (no badNumber place)))
     go true y z = refl
     go false true z = refl
     go false false true = refl

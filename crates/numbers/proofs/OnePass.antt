@@ -46,7 +46,8 @@ other b k d q = not-it isDigit b k d q
 
 digit-no-suffix : (b : ℕ) → isDigit b ≡ true → isSuffix b ≡ false
 digit-no-suffix b d =
-    simp (other b 98 d refl, other b 66 d refl, other b 115 d refl, other b 83 d refl, other b 108 d refl, other b 76 d refl, other b 102 d refl, other b 70 d refl, other b 100 d refl, other b 68 d refl)
+    simp
+    (other b 98 d refl, other b 66 d refl, other b 115 d refl, other b 83 d refl, other b 108 d refl, other b 76 d refl, other b 102 d refl, other b 70 d refl, other b 100 d refl, other b 68 d refl)
 
 -- a byte that is no suffix makes an int
 plain : (b : ℕ) (z : ℤ) → isSuffix b ≡ false → suffixed b z ≡ int z
@@ -161,7 +162,8 @@ module _ (start end from : ℕ) (b : Bool) (s : List ℕ) (h : start ≤ end) (k
     run-whole : from < r .end → Value (r .value) ≡ wholeDigits b (slice from (r .end) s)
     run-whole g =
         let l = slice from (r .end) s in
-        whole-is b l (r .value) (some-bytes from (r .end) s g (le-trans (p .high) k)) (p .row) (ap (λ (n : ℕ). leb n (pick b (2 ^ 63) (2 ^ 63 - 1))) (sym (p .is)) ∙ in-range b (r .value) run-small) (p .is)
+        whole-is b l (r .value) (some-bytes from (r .end) s g (le-trans (p .high) k)) (p .row)
+        (ap (λ (n : ℕ). leb n (pick b (2 ^ 63) (2 ^ 63 - 1))) (sym (p .is)) ∙ in-range b (r .value) run-small) (p .is)
 
     -- digits to the end are an int
     pub short-int : from < r .end → r .end ≡ end → got (int (signed b (r .value))) ≡ number (take (end - start) (drop start s)) start

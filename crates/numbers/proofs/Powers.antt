@@ -8,8 +8,8 @@ use native.Mathlib.Omega.{arith}
 use borrow.Author.Tests.{ne-eqb, lt-ltb, le-ltb, lt-leb}
 use lib.Dec.{leb, eqb, T, leb→le, nleb→lt}
 use lib.IntN.{ℤ, pos, negsuc, negℤ, natAbs, _-ℤ_, subℕ}
-use lib.Ieee.{Float, fin}
-use Rattle.form.specs.Answer.{Out, got, no, pick, decimalBeyond}
+use lib.Ieee.{fin}
+use Rattle.form.specs.Answer.{got, no, pick, decimalBeyond}
 use Rattle.text_form.specs.Values.{signed, nearestTo, scaled}
 use Rattle.numbers.specs.Rows.{cap}
 use Rattle.numbers.proofs.Rows.{and-false}

@@ -1,17 +1,15 @@
 -- Rows of digits, counted up to the cap: one byte more, the end, two rows as one; and the range of an i64.
 -- Assumes nothing.
-use mathlib.Core.Path.{_≡_, refl, sym, ap, ap₂, _∙_, subst}
+use mathlib.Core.Path.{_≡_, refl, sym, ap, ap₂, _∙_}
 use mathlib.Core.List.{List, [], _∷_, _++_}
 use mathlib.Core.Bool.{Bool, true, false, not, _&&_}
-use Prim.Native.Nat.{ℕ, zero, suc, _+_, _-_, _*_, _^_, _≤_, _<_, min}
+use Prim.Native.Nat.{ℕ, _+_, _-_, _*_, _^_, _≤_, _<_, min}
 use native.Mathlib.Omega.{arith}
 use borrow.Author.Tests.{le-leb, lt-leb}
 use lib.Dec.{leb}
-use Rattle.form.specs.Answer.{Out, got, no, guard, pick, badNumber, _>>_}
-use Rattle.text_form.specs.Values.{signed}
-use Rattle.text_form.specs.Numbers.{isDigit, empty, digits, worth, wholeOf}
+use Rattle.form.specs.Answer.{pick}
+use Rattle.text_form.specs.Numbers.{isDigit, empty, digits, worth}
 use Rattle.numbers.specs.Rows.{cap, digitsOf, wholeDigits}
-use Rattle.numbers.specs.declared.digits.Digits.{Digits}
 use Rattle.numbers.specs.declared.digits.Digits.the-variants.{Value, Bad}
 
 -- zero is not one: what two constructors that are the same come to

@@ -1,12 +1,12 @@
 -- Parts of a text between two places: none, one byte more, a part of a part, the last byte.
 -- Assumes nothing.
-use mathlib.Core.Path.{_≡_, refl, sym, ap, _∙_, subst}
+use mathlib.Core.Path.{_≡_, sym, ap, _∙_}
 use mathlib.Core.List.{List, [], _∷_, _++_}
 use Prim.Native.Nat.{ℕ, zero, suc, _+_, _-_, _≤_, _<_}
 use native.Mathlib.Numerals.{add-one}
 use native.Mathlib.Omega.{arith}
 use lib.ListN.{length, getD, take, drop, length-take, take-append-drop, drop-of-length-le}
-use lib.Seq.{slice, slice-cons, length-slice, drop-drop, drop-append-le, take-take, take-nil, getD-drop, getD-take, length-take-le}
+use lib.Seq.{slice, slice-cons, drop-drop, drop-append-le, take-take, take-nil}
 
 -- nothing lies between a place and one that is not behind it
 pub slice-none : (f t : ℕ) (l : List ℕ) → t ≤ f → slice f t l ≡ []

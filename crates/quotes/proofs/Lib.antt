@@ -1,9 +1,3 @@
 pub mod Parts
-pub mod Escapes
+pub mod Backslashes
 pub mod Walks
-pub mod Plains
-pub mod Texts
-pub mod Fronts
-pub mod Sofar
-pub mod Copies
-pub mod Fitted

@@ -2,66 +2,39 @@
 -- Assumes nothing.
 use Prim.Native.Nat.{ℕ, zero, suc, _+_, _-_, _≤_, _<_}
 use mathlib.Core.Path.{_≡_, refl, sym, ap, _∙_}
-use mathlib.Core.Bool.{Bool, true, false}
-use mathlib.Core.Logic.{⊎-elim}
 use mathlib.Core.List.{List}
 use native.Mathlib.Omega.{arith}
-use borrow.Author.Tests.{lt-ltb, eq-eqb, ne-eqb}
-use lib.Dec.{eqb, ltb}
+use borrow.Author.Tests.{eq-eqb, ne-eqb}
+use lib.Dec.{eqb}
 use lib.ListN.{length, getD, drop, length-drop, drop-of-length-le}
 use lib.Seq.{drop-drop}
 use Rattle.form.specs.Answer.{got, no, pick, quoteOpen}
 use Rattle.form.specs.Spans.{part}
 use Rattle.form.proofs.Drops.{drop1}
-use Rattle.form.proofs.Picks.{lt-or}
-use Rattle.text_form.specs.Lexing.{Escape, stands, bad, cut, begins, escapeOf, onEscape, quotedBy, quoted}
-use Rattle.quotes.specs.declared.Escape.{Escape as Told}
-use Rattle.quotes.specs.declared.Escape.the-variants.{Stands, Bad, Cut}
+use Rattle.text_form.specs.Lexing.{Escape, stands, begins, escapeOf, onEscape, quotedBy, quoted}
+use Rattle.quotes.specs.declared.escapes.Escape.{Escape as Told}
+use Rattle.quotes.specs.declared.escapes.Escape.the-variants.{Stands, Bad, Cut}
 use Rattle.quotes.specs.Answers.{escapeIs}
-use Rattle.quotes.specs.Runs.{IsPlain, Plain}
+use Rattle.plain.specs.Runs.{Plain}
+use Rattle.texts.proofs.Texts.{begins-low}
 use Rattle.quotes.proofs.Parts.{part-rest}
-use Rattle.quotes.proofs.Escapes.{escape-fits}
+use Rattle.quotes.proofs.Backslashes.{escape-fits}
 
-pub begins-le : (b : ℕ) → begins b ≤ 1
-begins-le b = go (ltb b 128) (ltb b 192)
-  where
-    go : (t u : Bool) → pick t 1 (pick u 0 1) ≤ 1
-    go true u = omega arith
-    go false true = omega arith
-    go false false = omega arith
+-- a turn is left
+pub once : {A : Type 0} (f : ℕ) → 0 < f → ((g : ℕ) → f ≡ suc g → A) → A
+once zero e k = absurd (omega arith)
+once (suc g) e k = k g refl
 
-pub begins-low : (b : ℕ) → b < 128 → begins b ≡ 1
-begins-low b h = simp (lt-ltb b 128 h)
+-- the escape at i by what a call told of it, and how far it reaches
+module _ (t : List ℕ) (i : ℕ) (r : Told) (p : escapeIs r ≡ escapeOf (part t (i + 1) (length t - (i + 1))) i) where
+  told : escapeOf (drop (i + 1) t) i ≡ escapeIs r
+  told = ap (λ (l : List ℕ). escapeOf l i) (sym (part-rest t (i + 1))) ∙ sym p
 
--- ---- runs of plain bytes
-
-pub false-true : false ≡ true → ⊥
-false-true e = let z : _≡_ {A = ℕ} 0 1 = cc in omega arith
-
-pub plain-none : (q : ℕ) (t : List ℕ) (i j : ℕ) → j ≤ i → Plain q t i j
-plain-none q t i j h = record { each = λ k m n. absurd (omega arith) }
-
-pub plain-more : (q : ℕ) (t : List ℕ) (i j : ℕ) → Plain q t i j → IsPlain q (getD t j 0) → Plain q t i (j + 1)
-plain-more q t i j p b = record { each = λ k h m. ⊎-elim (λ l. p .each k h l) (λ l. let e : k ≡ j = omega arith in rw e b) (lt-or k j) }
-
--- two runs that overlap or meet
-pub plain-join : (q : ℕ) (t : List ℕ) (i j m k : ℕ) → m ≤ j → Plain q t i j → Plain q t m k → Plain q t i k
-plain-join q t i j m k o a b = record { each = λ n h z. ⊎-elim (λ l. a .each n h l) (λ l. b .each n (omega arith) z) (lt-or n j) }
-
--- ---- what a call told of an escape
-
--- the escape at i, by the case that a `match` took of the answer
-pub told : (t : List ℕ) (i : ℕ) (r v : Told) → escapeIs r ≡ escapeOf (part t (i + 1) (length t - (i + 1))) i → r ≡ v
-    → escapeOf (drop (i + 1) t) i ≡ escapeIs v
-told t i r v p e = ap (λ (l : List ℕ). escapeOf l i) (sym (part-rest t (i + 1))) ∙ sym p ∙ ap escapeIs e
-
--- how far it reaches
-pub reach : (t : List ℕ) (i c n : ℕ) (r : Told) → i < length t → escapeIs r ≡ escapeOf (part t (i + 1) (length t - (i + 1))) i → r ≡ Stands c n
-    → (2 ≤ n) × (i + n ≤ length t)
-reach t i c n r h p e =
-    let f = rw (told t i r (Stands c n) p e) at (escape-fits (drop (i + 1) t) i) in
-    let k : n ≤ 1 + (length t - (i + 1)) = rw (length-drop (i + 1) t) at (f .1) in
-    (f .0, omega (arith, k))
+  reach : (c n : ℕ) → r ≡ Stands c n → i < length t → (2 ≤ n) × (i + n ≤ length t)
+  reach c n e h =
+      let f = rw (told ∙ ap escapeIs e) at (escape-fits (drop (i + 1) t) i) in
+      let k : n ≤ 1 + (length t - (i + 1)) = rw (length-drop (i + 1) t) at (f .1) in
+      (f .0, omega (arith, k))
 
 -- ---- the walk from a place
 
@@ -74,6 +47,16 @@ module _ (t : List ℕ) (start : ℕ) where
     pub turns : ℕ
     pub enough : length t < i + turns
     pub is : quotedBy turns start (getD t start 0) (drop i t) i w ≡ quoted t start
+
+  -- the width as a call told it
+  pub going-wide : (i w w′ : ℕ) → w′ ≡ w → Going i w → Going i w′
+  going-wide i w w′ e g = rw e g
+
+  -- what the escape at i makes of it: the walk goes on behind it, or the whole answer
+  abbrev pub Stood : ℕ → ℕ → Told → Type 0
+  Stood i w (Stands c m) = (2 ≤ m) × (i + m ≤ length t) × Going (i + m) (w + m)
+  Stood i w (Bad m k) = no m k ≡ quoted t start
+  Stood i w Cut = no quoteOpen start ≡ quoted t start
 
   pub going-start : Going (start + 1) 1
   unfolding quoted
@@ -103,34 +86,31 @@ module _ (t : List ℕ) (start : ℕ) where
         → quotedBy (suc f) start q (drop i t) i w ≡ quotedBy f start q (drop 1 (drop i t)) (i + 1) (w + begins b)
     passed f n m = turn f i w h ∙ simp (ne-eqb b q n, ne-eqb b 92 m)
 
-    -- a turn is left
-    once : {A : Type 0} → (f : ℕ) → length t < i + f → ((g : ℕ) → f ≡ suc g → A) → A
-    once zero e k = absurd (omega arith)
-    once (suc g) e k = k g refl
+    by-escape : (f : ℕ) → (g : Going i w) → g .turns ≡ suc f → (b ≡ q → ⊥) → b ≡ 92 → (r : Told) → escapeIs r ≡ escapeOf (part t (i + 1) (length t - (i + 1))) i
+        → onEscape (λ n. quotedBy f start q (drop n (drop i t)) (i + n) (w + n)) start (escapeIs r) ≡ quoted t start
+    by-escape f g z n e r p = sym (escaped f (escapeIs r) n e (told t i r p)) ∙ rw z at (g .is)
 
-    pub going-closed : Going i w → b ≡ q → got (record { end = i; width = w + 1 }) ≡ quoted t start
-    going-closed g e = once (g .turns) (g .enough) (λ f z. sym (shut f e) ∙ rw z at (g .is))
+    pub going-closed : Going i w → b ≡ q → (v : ℕ) → v ≡ w + 1 → got (record { end = i; width = v }) ≡ quoted t start
+    going-closed g e v d = rw d (once (g .turns) (omega (arith, g .enough)) (λ f z. sym (shut f e) ∙ rw z at (g .is)))
 
     -- by what a call answered of the escape at i
-    module _ (g : Going i w) (n : b ≡ q → ⊥) (e : b ≡ 92) (r : Told) (p : escapeIs r ≡ escapeOf (part t (i + 1) (length t - (i + 1))) i) where
-      pub going-escape : (c m : ℕ) → r ≡ Stands c m → Going (i + m) (w + m)
-      going-escape c m d =
-          let k = reach t i c m r h p d in
-          once (g .turns) (g .enough) (λ f z. record {
+    pub going-told : Going i w → (b ≡ q → ⊥) → b ≡ 92 → (r : Told) → escapeIs r ≡ escapeOf (part t (i + 1) (length t - (i + 1))) i → Stood i w r
+    going-told g n e (Stands c m) p =
+        let k = reach t i (Stands c m) p c m refl h in (
+          k .0,
+          k .1,
+          once (g .turns) (omega (arith, g .enough)) (λ f z. record {
             turns = f;
             enough = omega (arith, k .0, g .enough, z);
-            is = ap (λ (l : List ℕ). quotedBy f start q l (i + m) (w + m)) (sym (drop-drop m i t)) ∙ sym (escaped f (stands c m) n e (told t i r (Stands c m) p d)) ∙ rw z at (g .is);
-          })
-
-      pub going-refused : (m k : ℕ) → r ≡ Bad m k → no m k ≡ quoted t start
-      going-refused m k d = once (g .turns) (g .enough) (λ f z. sym (escaped f (bad m k) n e (told t i r (Bad m k) p d)) ∙ rw z at (g .is))
-
-      pub going-cut : r ≡ Cut → no quoteOpen start ≡ quoted t start
-      going-cut d = once (g .turns) (g .enough) (λ f z. sym (escaped f cut n e (told t i r Cut p d)) ∙ rw z at (g .is))
+            is = ap (λ (l : List ℕ). quotedBy f start q l (i + m) (w + m)) (sym (drop-drop m i t)) ∙ by-escape f g z n e (Stands c m) p;
+          }),
+        )
+    going-told g n e (Bad m k) p = once (g .turns) (omega (arith, g .enough)) (λ f z. by-escape f g z n e (Bad m k) p)
+    going-told g n e Cut p = once (g .turns) (omega (arith, g .enough)) (λ f z. by-escape f g z n e Cut p)
 
     pub going-character : Going i w → (b ≡ q → ⊥) → (b ≡ 92 → ⊥) → Going (i + 1) (w + begins b)
     going-character g n m =
-        once (g .turns) (g .enough) (λ f z. record {
+        once (g .turns) (omega (arith, g .enough)) (λ f z. record {
           turns = f;
           enough = omega (arith, g .enough, z);
           is = ap (λ (l : List ℕ). quotedBy f start q l (i + 1) (w + begins b)) (sym (drop-drop 1 i t)) ∙ sym (passed f n m) ∙ rw z at (g .is);

@@ -194,13 +194,13 @@ fn step_takes(
     let at = plan[WORDS * s + 1];
     let len = plan[WORDS * s + 2];
     if kind == NAME {
-        if table::word(table, parent, table::KIND) == 10 {
+        if table::word(table, parent, table::KIND) == table::kinds::COMPOUND {
             return name_is(doc, table, q, wide(at), wide(len), c);
         }
         return false;
     }
     if kind == INDEX {
-        if table::word(table, parent, table::KIND) == 10 {
+        if table::word(table, parent, table::KIND) == table::kinds::COMPOUND {
             return false;
         }
         return wide(at) == index;

@@ -4,7 +4,8 @@ use Prim.Native.Nat.{ℕ, _+_, _*_, _≤_, _<_}
 use mathlib.Core.List.{List}
 use mathlib.Core.Path.{_≡_, refl, sym, ap, _∙_}
 use lib.ListN.{length, replicate}
-use mathlib.Core.Bool.{Bool, true, false, not}
+use lib.Dec.{eqb}
+use mathlib.Core.Bool.{Bool, true, false, not, _||_}
 use Rattle.form.specs.Answer.{Out, got, no, _>>_, guard}
 use Rattle.form.specs.Table.{Forest, none, node, size, width, wrote, widthOf, holds}
 use Rattle.form.specs.Spans.{over}
@@ -17,14 +18,28 @@ use Rattle.table.specs.declared.Record.{Record}
 use Rattle.table.specs.Records.{recordWords, containerOf}
 use Rattle.reader.specs.declared.Step.{Step}
 use Rattle.reader.specs.declared.Answer.{Answer}
+use Rattle.reader.specs.declared.Kids.{Kids}
 use Rattle.reader.specs.declared.Ran.{Ran}
-use Rattle.reader.specs.Steps.{Filled, Next, Stepped, Went, Kept, Settled, Finished, Spoiled, readOut}
+use Rattle.reader.specs.Steps.{Filled, Next, Gone, Stepped, Held, Went, Kept, Settled, Finished, EntrySettled, readOut}
 use native.Mathlib.Omega.{arith}
-use borrow.Author.Tests.{ne-eqb}
+use borrow.Author.Tests.{eq-eqb, ne-eqb, eqb-false}
 
--- kinds 1 to 6 hold no records
-pub small-holds : (k : ℕ) → k < 7 → holds k ≡ false
-small-holds k h = simp (ne-eqb k 9 (λ e. omega (arith, e, h)), ne-eqb k 10 (λ e. omega (arith, e, h)))
+-- lists and compounds hold records, and no other kind does
+pub holds-not : (k : ℕ) → (k ≡ 9 → ⊥) → (k ≡ 10 → ⊥) → holds k ≡ false
+holds-not k d e = simp (ne-eqb k 9 d, ne-eqb k 10 e)
+
+pub holds-below : (k : ℕ) → k < 9 → holds k ≡ false
+holds-below k h = holds-not k (λ e. omega (arith, e, h)) (λ e. omega (arith, e, h))
+
+pub holds-above : (k : ℕ) → 10 < k → holds k ≡ false
+holds-above k h = holds-not k (λ e. omega (arith, e, h)) (λ e. omega (arith, e, h))
+
+pub holds-between : (k : ℕ) → 9 ≤ k → k ≤ 10 → holds k ≡ true
+holds-between k h l = go (eqb k 9) refl
+  where
+    go : (b : Bool) → eqb k 9 ≡ b → (eqb k 9 || eqb k 10) ≡ true
+    go true e = rw e refl
+    go false e = rw (e, eq-eqb k 10 (omega (arith, eqb-false k 9 e, h, l))) refl
 
 -- kinds 1 to 6, whose width is known
 pub fixed-got : (doc : List ℕ) (kind at w : ℕ) → kind < 7 → w ≡ widthOf kind → at + w ≤ length doc → leafAt doc kind at ≡ got (record { start = at; size = w; count = 0; next = at + w })
@@ -66,24 +81,24 @@ settled-at o n p q e = rw (← e) refl
 pub settled-none : (o : Out (Unit {0})) (n p : ℕ) → placeOut Found.Nothing ≡ o → _>>_ {A = Unit {0}} {B = Run} o (no n p) ≡ no n p
 settled-none o n p e = rw (← e) refl
 
-pub spoiled-yes : (o : Out (Unit {0})) (b : Bool) (here n p : ℕ) (r : Ran) → b ≡ true → Settled o 6 here r → Spoiled o b here n p r
-spoiled-yes o b here n p (Ran.No m q) e h = rw e h
-spoiled-yes o b here n p (Ran.Done a i c) e h = h
+pub entry-settled-yes : (o : Out (Unit {0})) (b : Bool) (here n p : ℕ) (r : Ran) → b ≡ true → Settled o 6 here r → EntrySettled o b here n p r
+entry-settled-yes o b here n p (Ran.No m q) e h = rw e h
+entry-settled-yes o b here n p (Ran.Done a i c) e h = h
 
-pub spoiled-no : (o : Out (Unit {0})) (b : Bool) (here n p : ℕ) (r : Ran) → b ≡ false → Settled o n p r → Spoiled o b here n p r
-spoiled-no o b here n p (Ran.No m q) e h = rw e h
-spoiled-no o b here n p (Ran.Done a i c) e h = h
+pub entry-settled-no : (o : Out (Unit {0})) (b : Bool) (here n p : ℕ) (r : Ran) → b ≡ false → Settled o n p r → EntrySettled o b here n p r
+entry-settled-no o b here n p (Ran.No m q) e h = rw e h
+entry-settled-no o b here n p (Ran.Done a i c) e h = h
 
 pub settled-went : (r : Ran) (doc : List ℕ) (cap : ℕ) (whole : Out Run) (at above n : ℕ) (t t′ : List ℕ) (o o′ : Out (Unit {0})) (m p : ℕ)
     → Settled o m p r → whole ≡ (o′ >> no m p) → o′ ≡ o → Kept n t t′ → Went doc cap whole at above n t t′ r
 settled-went (Ran.No k q) doc cap whole at above n t t′ o o′ m p h w e g = (w ∙ ap (λ u. _>>_ {A = Unit {0}} {B = Run} u (no m p)) e ∙ h, g)
 settled-went (Ran.Done a i c) doc cap whole at above n t t′ o o′ m p h w e g = absurd h
 
-pub spoiled-went : (r : Ran) (doc : List ℕ) (cap : ℕ) (whole : Out Run) (at above n : ℕ) (t t′ : List ℕ) (o o′ : Out (Unit {0})) (b b′ : Bool) (here m p : ℕ)
-    → Spoiled o b here m p r → whole ≡ (o′ >> (guard (not b′) 6 here >> no m p)) → o′ ≡ o → b′ ≡ b → Kept n t t′ → Went doc cap whole at above n t t′ r
-spoiled-went (Ran.No k q) doc cap whole at above n t t′ o o′ b b′ here m p h w e f g =
+pub entry-settled-went : (r : Ran) (doc : List ℕ) (cap : ℕ) (whole : Out Run) (at above n : ℕ) (t t′ : List ℕ) (o o′ : Out (Unit {0})) (b b′ : Bool) (here m p : ℕ)
+    → EntrySettled o b here m p r → whole ≡ (o′ >> (guard (not b′) 6 here >> no m p)) → o′ ≡ o → b′ ≡ b → Kept n t t′ → Went doc cap whole at above n t t′ r
+entry-settled-went (Ran.No k q) doc cap whole at above n t t′ o o′ b b′ here m p h w e f g =
     (w ∙ (λ i. _>>_ {A = Unit {0}} {B = Run} (e i) (guard (not (f i)) 6 here >> no m p)) ∙ h, g)
-spoiled-went (Ran.Done a i c) doc cap whole at above n t t′ o o′ b b′ here m p h w e f g = absurd h
+entry-settled-went (Ran.Done a i c) doc cap whole at above n t t′ o o′ b b′ here m p h w e f g = absurd h
 
 pub finished-went : (r : Ran) (doc : List ℕ) (cap : ℕ) (whole : Out Run) (from above n : ℕ) (t t′ : List ℕ) (o o′ : Out (Unit {0})) (at next count : ℕ) (acc : Forest)
     → Finished o at next count r → whole ≡ (o′ >> got (record { forest = acc; next = at })) → o′ ≡ o → Kept n t t′
@@ -102,5 +117,28 @@ finished-went (Ran.Done a i c) doc cap whole from above n t t′ o o′ at next 
   n-le = omega (arith, nl, h .2);
 }
 
-pub stepped-no : (r : Step) (doc : List ℕ) (cap : ℕ) (o : Out One) (at above n : ℕ) (t t′ : List ℕ) (m p : ℕ) → r ≡ Step.No m p → Stepped doc cap o at above n t t′ r → (o ≡ no m p) × Kept n t t′
-stepped-no r doc cap o at above n t t′ m p e h = rw e at h
+-- ---- what a step leaves, by its answer
+
+pub stepped-no : (r : Step) (doc : List ℕ) (cap : ℕ) {o : Out One} (at above n : ℕ) (t t′ : List ℕ) {m p : ℕ} → r ≡ Step.No m p → Stepped doc cap o at above n t t′ r
+    → (o ≡ no m p) × Kept n t t′
+stepped-no r doc cap at above n t t′ e h = rw e at h
+
+pub stepped-next : (r : Step) {doc : List ℕ} {cap : ℕ} {o : Out One} {at above n : ℕ} {t t′ : List ℕ} {a i : ℕ} → r ≡ Step.Next a i → Stepped doc cap o at above n t t′ r
+    → Next doc cap o a i at above n t t′
+stepped-next r e h = rw e at h
+
+pub held-no : (r : Kids) (doc : List ℕ) (cap : ℕ) {o : Out Inside} (at above n : ℕ) (t t′ : List ℕ) {m p : ℕ} → r ≡ Kids.No m p → Held doc cap o at above n t t′ r
+    → (o ≡ no m p) × Kept n t t′
+held-no r doc cap at above n t t′ e h = rw e at h
+
+pub held-done : (r : Kids) {doc : List ℕ} {cap : ℕ} {o : Out Inside} {at above n : ℕ} {t t′ : List ℕ} {a i c k : ℕ} → r ≡ Kids.Done a i c k → Held doc cap o at above n t t′ r
+    → Filled doc cap o a i c k at above n t t′
+held-done r e h = rw e at h
+
+pub went-no : (r : Ran) (doc : List ℕ) (cap : ℕ) {o : Out Run} (at above n : ℕ) (t t′ : List ℕ) {m p : ℕ} → r ≡ Ran.No m p → Went doc cap o at above n t t′ r
+    → (o ≡ no m p) × Kept n t t′
+went-no r doc cap at above n t t′ e h = rw e at h
+
+pub went-done : (r : Ran) {doc : List ℕ} {cap : ℕ} {o : Out Run} {at above n : ℕ} {t t′ : List ℕ} {a i c : ℕ} → r ≡ Ran.Done a i c → Went doc cap o at above n t t′ r
+    → Gone doc cap o a i c at above n t t′
+went-done r e h = rw e at h

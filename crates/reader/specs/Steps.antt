@@ -51,7 +51,7 @@ pub record Next (doc : List ℕ) (cap : ℕ) (o : Out One) (at′ n′ : ℕ) (a
 abbrev pub Kept : ℕ → List ℕ → List ℕ → Type 0
 Kept n t t′ = take (9 * n) t′ ≡ take (9 * n) t
 
--- what `node` leaves, by its answer: the definition's answer is o
+-- what `read_tag_body` leaves, by its answer: the definition's answer is o
 abbrev pub Stepped : List ℕ → ℕ → Out One → ℕ → ℕ → ℕ → List ℕ → List ℕ → Step → Type 0
 Stepped doc cap o at above n t t′ (Step.Next at′ n′) = Next doc cap o at′ n′ at above n t t′
 Stepped doc cap o at above n t t′ (Step.No m p) = (o ≡ no m p) × Kept n t t′
@@ -107,6 +107,6 @@ Finished o at next count (Ran.No m q) = o ≡ no m q
 Finished o at next count (Ran.Done a i c) = (o ≡ got tt) × (a ≡ at) × (i ≡ next) × (c ≡ count)
 
 -- a refusal in an entry's payload: its own name comes first
-abbrev pub Spoiled : Out (Unit {0}) → Bool → ℕ → ℕ → ℕ → Ran → Type 0
-Spoiled o twice here n p (Ran.No m q) = _>>_ {A = Unit {0}} {B = Run} o (guard (not twice) 6 here >> no n p) ≡ no m q
-Spoiled o twice here n p (Ran.Done a i c) = ⊥
+abbrev pub EntrySettled : Out (Unit {0}) → Bool → ℕ → ℕ → ℕ → Ran → Type 0
+EntrySettled o twice here n p (Ran.No m q) = _>>_ {A = Unit {0}} {B = Run} o (guard (not twice) 6 here >> no n p) ≡ no m q
+EntrySettled o twice here n p (Ran.Done a i c) = ⊥

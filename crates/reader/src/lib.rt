@@ -1,5 +1,5 @@
-// Rules 3 to 6: a document read into a table of records, field by field. Each function has the name of the definition in
-// form/specs/Reading.antt that it meets; io.rs of the crate reads in the same order.
+// Rules 3 to 6: a document read into a table of records, field by field, in the order in which io.rs of the crate reads. Each contract
+// cites the definition in form/specs/Reading.antt that the function meets.
 ghost use mathlib.Core.Path.{_≡_};
 ghost use Prim.Native.Nat.{ℕ, suc, _+_, _≤_, _<_};
 ghost use lib.ListN.{length};
@@ -9,11 +9,12 @@ ghost use Rattle.form.specs.Reading.{ReadIs, leafOne, payloadBy, insideAt, list
 ghost use Rattle.siblings.specs.Holding.{among};
 ghost use Rattle.siblings.specs.Names.{firstRepeat};
 ghost use Rattle.siblings.specs.Forests.{refusalOf};
-ghost use Rattle.reader.specs.Steps.{readOut, Ready, Named, Stepped, Held, Went, Known, Settled, Finished, Spoiled};
-use fields::Item;
+ghost use Rattle.reader.specs.Steps.{readOut, Ready, Named, Stepped, Held, Went, Known, Settled, Finished, EntrySettled};
+use fields::Entry;
+use fields::ListHead;
 use fields::Part;
-use fields::Start;
 use fields::wide;
+use form::kinds;
 use siblings::Found;
 
 // The answer to a read: the bytes consumed and the records written, or the number and the place of the refusal.
@@ -46,7 +47,7 @@ enum Ran {
 }
 
 // A payload of kinds 1 to 6, read and written as record ix.
-fn fixed(
+fn read_fixed(
     doc: &[u8],
     kind: u8,
     name: usize,
@@ -78,8 +79,8 @@ fn fixed(
     }
 }
 
-// A payload that holds no records, read and written as record ix.
-fn leaf(
+// A payload of kinds 7, 8, 11 and 12, read and written as record ix.
+fn read_leaf(
     doc: &[u8],
     kind: u8,
     name: usize,
@@ -90,7 +91,7 @@ fn leaf(
     above: usize,
     ix: usize,
 ) -> Step
-    requires { ⌜ (Named (now doc) (now table) cap at above ix kind name «name_len») × (ix < cap) ⌝ }
+    requires { ⌜ (Named (now doc) (now table) cap at above ix kind name «name_len») × (ix < cap) × (6 < kind) ⌝ }
     ensures { λ r. ⌜ Stepped (now (doc .entry)) cap (leafOne (now (doc .entry)) kind name «name_len» at) at above ix (now (table .entry)) (now (table .exit)) r ⌝ }
 {
     match fields::leaf_at(doc, kind, at) {
@@ -114,8 +115,8 @@ fn leaf(
     }
 }
 
-// A payload at `at`, whose record has the number ix: room, then depth, then what it holds.
-fn node(
+// A payload at `at`, whose record has the number ix: room, then depth, then what it holds. What is small is read with no call.
+fn read_tag_body(
     doc: &[u8],
     kind: u8,
     name: usize,
@@ -136,14 +137,16 @@ fn node(
             place: at,
         };
     }
-    if kind < 7 {
-        return fixed(doc, kind, name, name_len, at, table, cap, above, ix);
+    match kind {
+        kinds::END..=kinds::DOUBLE => {
+            read_fixed(doc, kind, name, name_len, at, table, cap, above, ix)
+        }
+        _ => read_larger_body(doc, kind, name, name_len, at, depth, table, cap, above, ix),
     }
-    larger(doc, kind, name, name_len, at, depth, table, cap, above, ix)
 }
 
-// The same where there is room, of any kind: a call for those that are not small.
-fn larger(
+// The same of kinds 7 to 12 where there is room: a call for those that are not small.
+fn read_larger_body(
     doc: &[u8],
     kind: u8,
     name: usize,
@@ -155,13 +158,14 @@ fn larger(
     above: usize,
     ix: usize,
 ) -> Step
-    requires { ⌜ (Named (now doc) (now table) cap at above ix kind name «name_len») × (ix < cap) ⌝ }
+    requires { ⌜ (Named (now doc) (now table) cap at above ix kind name «name_len») × (ix < cap) × (6 < kind) ⌝ }
     ensures { λ r. ⌜ Stepped (now (doc .entry)) cap (payloadBy (now (doc .entry)) cap (insideAt (now (doc .entry)) cap depth) kind name «name_len» at ix) at above ix (now (table .entry)) (now (table .exit)) r ⌝ }
 {
-    if !fields::is_container(kind) {
-        return leaf(doc, kind, name, name_len, at, table, cap, above, ix);
+    match kind {
+        kinds::LIST | kinds::COMPOUND => {}
+        _ => return read_leaf(doc, kind, name, name_len, at, table, cap, above, ix),
     }
-    match inside(doc, kind, at, depth, table, cap, ix, ix + 1) {
+    match read_container(doc, kind, at, depth, table, cap, ix, ix + 1) {
         Kids::No { number, place } => Step::No { number, place },
         Kids::Done {
             at: next,
@@ -180,7 +184,7 @@ fn larger(
 }
 
 // What is in a container at `at`.
-fn inside(
+fn read_container(
     doc: &[u8],
     kind: u8,
     at: usize,
@@ -199,26 +203,26 @@ fn inside(
             place: at,
         };
     }
-    if kind == 9 {
-        return list(doc, at, depth - 1, table, cap, above, ix);
-    }
-    match entries(doc, at, depth - 1, table, cap, above, ix) {
-        Ran::No { number, place } => Kids::No { number, place },
-        Ran::Done {
-            at: next,
-            ix: end,
-            count,
-        } => Kids::Done {
-            at: next,
-            ix: end,
-            count,
-            kind: 0,
+    match kind {
+        kinds::LIST => read_list(doc, at, depth - 1, table, cap, above, ix),
+        _ => match read_compound(doc, at, depth - 1, table, cap, above, ix) {
+            Ran::No { number, place } => Kids::No { number, place },
+            Ran::Done {
+                at: next,
+                ix: end,
+                count,
+            } => Kids::Done {
+                at: next,
+                ix: end,
+                count,
+                kind: kinds::END,
+            },
         },
     }
 }
 
 // A list's head and elements, each of which may hold depth containers.
-fn list(
+fn read_list(
     doc: &[u8],
     at: usize,
     depth: usize,
@@ -231,8 +235,8 @@ fn list(
     ensures { λ r. ⌜ Held (now (doc .entry)) cap (listAt (now (doc .entry)) (payloadBy (now (doc .entry)) cap (insideAt (now (doc .entry)) cap depth)) at ix) at above ix (now (table .entry)) (now (table .exit)) r ⌝ }
 {
     match fields::list_head(doc, at) {
-        Start::No { number, place } => Kids::No { number, place },
-        Start::Is { kind, count } => match elements(
+        ListHead::No { number, place } => Kids::No { number, place },
+        ListHead::Is { kind, count } => match read_elements(
             doc,
             kind,
             count,
@@ -259,7 +263,7 @@ fn list(
 }
 
 // As many elements as count says.
-fn elements(
+fn read_elements(
     doc: &[u8],
     kind: u8,
     count: usize,
@@ -277,7 +281,7 @@ fn elements(
     let mut next = ix;
     let mut left = count;
     while 0 < left {
-        match node(doc, kind, 0, 0, here, depth, table, cap, above, next) {
+        match read_tag_body(doc, kind, 0, 0, here, depth, table, cap, above, next) {
             Step::No { number, place } => return Ran::No { number, place },
             Step::Next { at: a, ix: i } => {
                 here = a;
@@ -326,7 +330,7 @@ fn finish(doc: &[u8], table: &mut [u32], first: usize, next: usize, at: usize, c
 }
 
 // A refusal in the payload of an entry at `here`, unless a name is repeated before it, the entry's own too.
-fn spoiled(
+fn settle_entry(
     doc: &[u8],
     table: &mut [u32],
     first: usize,
@@ -338,7 +342,7 @@ fn spoiled(
     place: usize,
 ) -> Ran
     requires { ⌜ (Known (now doc) (now table) first next) × (start + len ≤ length (now doc)) ⌝ }
-    ensures { λ r. ⌜ (Spoiled (refusalOf (now (table .entry)) (firstRepeat (now (doc .entry)) (now (table .entry)) first next)) (among (now (doc .entry)) (now (table .entry)) (suc next) first next (part (now (doc .entry)) start len)) here number place r) × (now (table .exit) ≡ now (table .entry)) ⌝ }
+    ensures { λ r. ⌜ (EntrySettled (refusalOf (now (table .entry)) (firstRepeat (now (doc .entry)) (now (table .entry)) first next)) (among (now (doc .entry)) (now (table .entry)) (suc next) first next (part (now (doc .entry)) start len)) here number place r) × (now (table .exit) ≡ now (table .entry)) ⌝ }
 {
     if siblings::has_name(doc, table, first, next, start, len) {
         return settle(doc, table, first, next, form::NAME_TWICE, here);
@@ -347,7 +351,7 @@ fn spoiled(
 }
 
 // The entries up to the end byte.
-fn entries(
+fn read_compound(
     doc: &[u8],
     at: usize,
     depth: usize,
@@ -364,16 +368,16 @@ fn entries(
     let mut count: usize = 0;
     loop {
         match fields::entry_at(doc, here) {
-            Item::No { number, place } => return settle(doc, table, ix, next, number, place),
-            Item::End => return finish(doc, table, ix, next, here + 1, count),
-            Item::Named {
+            Entry::No { number, place } => return settle(doc, table, ix, next, number, place),
+            Entry::End => return finish(doc, table, ix, next, here + 1, count),
+            Entry::Named {
                 kind,
                 start,
                 len,
                 next: from,
-            } => match node(doc, kind, start, len, from, depth, table, cap, above, next) {
+            } => match read_tag_body(doc, kind, start, len, from, depth, table, cap, above, next) {
                 Step::No { number, place } => {
-                    return spoiled(doc, table, ix, next, start, len, here, number, place);
+                    return settle_entry(doc, table, ix, next, start, len, here, number, place);
                 }
                 Step::Next { at: a, ix: i } => {
                     here = a;
@@ -408,7 +412,18 @@ fn root(doc: &[u8], name: usize, name_len: usize, at: usize, table: &mut [u32]) 
             place: at,
         };
     }
-    larger(doc, 10, name, name_len, at, form::DEPTH, table, cap, 0, 0)
+    read_larger_body(
+        doc,
+        kinds::COMPOUND,
+        name,
+        name_len,
+        at,
+        form::DEPTH,
+        table,
+        cap,
+        0,
+        0,
+    )
 }
 
 // A whole document, from record 0 on.
@@ -428,8 +443,8 @@ fn document(doc: &[u8], table: &mut [u32]) -> Step
         };
     }
     let kind = doc[0];
-    if kind == 10 {
-        match fields::string_at(doc, 1) {
+    match kind {
+        kinds::COMPOUND => match fields::string_at(doc, 1) {
             Part::No { number, place } => Step::No { number, place },
             Part::Is {
                 start,
@@ -437,12 +452,11 @@ fn document(doc: &[u8], table: &mut [u32]) -> Step
                 count: _,
                 next,
             } => root(doc, start, len, next, table),
-        }
-    } else {
-        Step::No {
+        },
+        _ => Step::No {
             number: form::ROOT_ID,
             place: 0,
-        }
+        },
     }
 }
 

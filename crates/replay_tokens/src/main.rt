@@ -2,8 +2,8 @@
 // 2 value, 3 first element, 4 later element), a start in decimal and a text in hexadecimal digits. For each line it prints the token's number
 // (1 to 15, as in include/tikfazrul.h), index, width, next place, and the bits of a number or the content of a string; the end and its place;
 // or a refusal. The answers in stdout are quartz_nbt's: tests/replay/tokens.py recorded them.
+use contents::Contents;
 use lines::Line;
-use quotes::Contents;
 use tokens::Lexed;
 use tokens::Stops;
 use tokens::Token;
@@ -43,7 +43,7 @@ fn print_front(out: &[u8], n: usize) {
 
 // The content of a string token.
 fn print_content(text: &[u8], start: usize, end: usize, quoted: bool, out: &mut [u8]) {
-    match quotes::content(text, start, end, quoted, out) {
+    match contents::content(text, start, end, quoted, out) {
         Contents::Is { bytes } => print_front(out, bytes),
         Contents::Refused { number, place } => print_refusal(number, place),
     }

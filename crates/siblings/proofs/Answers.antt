@@ -14,7 +14,7 @@ use Rattle.siblings.specs.declared.Found.{Found}
 use Rattle.form.specs.Spans.{same}
 use Rattle.form.proofs.Spans.{same-self}
 use Rattle.siblings.specs.Names.{nameOf, endOf, siblings, among, firstFrom, firstRepeat}
-use Rattle.siblings.specs.Links.{num, rank, link, Mem, walk, Sorted, Agree, Fit}
+use Rattle.siblings.specs.Links.{num, rank, link, Mem, walk, Sorted, Fit}
 use Rattle.siblings.specs.Lists.{Row, Sorts, Chained, Again, Least, Unlinked, Family, foundOf}
 use Rattle.siblings.proofs.Numbers.{num-same, same-eq}
 use Rattle.siblings.proofs.Walks.{mem-cases, mem-head, mem-tail, mem-none, walk-low}

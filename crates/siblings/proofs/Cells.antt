@@ -1,25 +1,25 @@
 -- Laws of records in cells, which are the link words of a stretch of records.
 -- Assumes nothing.
-use Prim.Native.Nat.{ℕ, zero, suc, _+_, _-_, _*_, _/_, _%_, _≤_, _<_}
+use Prim.Native.Nat.{ℕ, zero, _+_, _-_, _*_, _/_, _%_, _≤_, _<_}
 use mathlib.Core.Bool.{Bool, true, false}
-use mathlib.Core.List.{List, [], _∷_}
+use mathlib.Core.List.{List}
 use mathlib.Core.Path.{_≡_, refl, sym, ap, subst, _∙_}
 use mathlib.Core.Logic.{_⊎_, inl, inr, ⊎-elim}
 use native.Mathlib.Omega.{arith}
 use native.Mathlib.Nat.{mul-le-mul-right, mod-lt}
 use borrow.Author.Tests.{ltb-true, ltb-false, lt-ltb, le-ltb, eqb-true, eqb-false}
-use lib.ListN.{length, getD, take, drop, List·getD-eq-default}
+use lib.ListN.{length, getD, drop, List·getD-eq-default}
 use lib.Seq.{getD-take, getD-drop, ext-getD}
 use lib.Dec.{ltb, eqb}
 use Rattle.form.specs.Spans.{part}
 use Rattle.siblings.specs.declared.Sought.{Sought}
 use Rattle.siblings.specs.declared.Placed.{Placed}
 use Rattle.siblings.specs.Names.{nameOf, endOf, siblings}
-use Rattle.siblings.specs.Links.{num, fourOf, slotOf, link, linked, Mem, walk, Agree, Fit}
+use Rattle.siblings.specs.Links.{num, fourOf, link, linked, Mem, Agree, Fit}
 use Rattle.siblings.specs.Lists.{Again, Least, Family}
 use Rattle.siblings.specs.Cells.{stirOf, bothOf, markBy, markOf, markAt, homeOf, Blank, Wiped, Cells, Passed, Open, Met, Put, PlacedBy, FromOn, Halved, lesserOf, Joined, Ready}
 use Rattle.siblings.proofs.Numbers.{part-length, num-same}
-use Rattle.siblings.proofs.Tables.{agree-self, agree-trans, agree-slot, agree-name, agree-fit, agree-end, linked-agree, linked-same, linked-other}
+use Rattle.siblings.proofs.Tables.{agree-self, agree-trans, agree-slot, agree-name, agree-fit, linked-agree, linked-same, linked-other}
 use Rattle.siblings.proofs.Answers.{siblings-below, family-low, Place, place-start, place-here, place-on, place-cases, place-next}
 
 -- ---- marks

@@ -3,7 +3,7 @@
 use Prim.Native.Nat.{ℕ, _+_, _-_, _*_, _/_, _%_, _≤_, _<_}
 use mathlib.Core.Bool.{Bool, true, false}
 use mathlib.Core.List.{List}
-use mathlib.Core.Path.{_≡_, refl, sym, ap, subst, _∙_}
+use mathlib.Core.Path.{_≡_, refl, sym, ap, _∙_}
 use mathlib.Core.Logic.{_⊎_, ⊎-elim}
 use native.Mathlib.Omega.{arith}
 use borrow.Author.Tests.{eqb-true, eqb-false}
@@ -12,11 +12,11 @@ use lib.Seq.{getD-set-same, getD-set-other}
 use lib.Dec.{eqb}
 use Rattle.form.specs.Spans.{part}
 use Rattle.siblings.specs.Names.{nameOf, endOf, siblings}
-use Rattle.siblings.specs.Links.{num, Mem, Fit}
+use Rattle.siblings.specs.Links.{Mem}
 use Rattle.siblings.specs.Lists.{Again, Family}
 use Rattle.siblings.specs.Cells.{classBy, classOf, classAt, Fresh}
 use Rattle.siblings.proofs.Numbers.{part-length, num-same}
-use Rattle.siblings.proofs.Answers.{family-low, Trying, trying-in, place-cases}
+use Rattle.siblings.proofs.Answers.{family-low, Trying, place-cases}
 use Rattle.siblings.proofs.Cells.{byte-in, byte-out}
 
 module _ (doc : List ℕ) (a n : ℕ) (l : a + n ≤ length doc) where

@@ -1,6 +1,6 @@
 -- Names need not be compared as each entry is read: reading on and asking for the first repeat afterwards gives the same answer.
 -- Assumes nothing.
-use Prim.Native.Nat.{ℕ, zero, suc, _+_, _-_, _*_, _≤_, _<_}
+use Prim.Native.Nat.{ℕ, _+_, _-_, _*_, _≤_, _<_}
 use mathlib.Core.Bool.{Bool, true, false, not}
 use mathlib.Core.List.{List}
 use mathlib.Core.Path.{_≡_, refl, sym, ap, _∙_}
@@ -10,7 +10,7 @@ use lib.ListN.{length}
 use Rattle.form.specs.Table.{Head, Forest, none, node, size, width, _⊕_, wrote}
 use Rattle.siblings.specs.Holding.{NamesIn}
 use Rattle.siblings.proofs.Holding.{names-none, names-more}
-use Rattle.form.specs.Reading.{One, Run, Reader, Entry, end, named, Span, before, hasName, byteAt, bytesAt, numberAt, stringAt, entryAt, entries}
+use Rattle.form.specs.Reading.{One, Run, Reader, Entry, end, named, Span, hasName, byteAt, bytesAt, stringAt, entryAt, entries}
 use Rattle.form.specs.Spans.{part}
 use Rattle.form.proofs.Answer.{bind-got, guard-got}
 use Rattle.form.proofs.Fields.{string-worded}

@@ -1,14 +1,12 @@
 -- A reader that has written records side by side meets what `first_repeat` requires, and its answer is that on the tree.
 -- Assumes nothing.
-use Prim.Native.Nat.{ℕ, zero, suc, _+_, _-_, _*_, _≤_, _<_}
+use Prim.Native.Nat.{ℕ, _+_, _-_, _*_, _≤_, _<_}
 use mathlib.Core.Bool.{Bool, true, false, _||_}
 use mathlib.Core.List.{List, [], _∷_}
 use mathlib.Core.Path.{_≡_, refl, sym, ap, subst, _∙_}
-use mathlib.Core.Logic.{_⊎_, inl, inr, ⊎-elim}
 use native.Mathlib.Omega.{arith}
 use lib.ListN.{length, getD}
-use lib.Dec.{eqb}
-use Rattle.form.specs.Answer.{Out, got, no, _>>_, guard}
+use Rattle.form.specs.Answer.{no}
 use Rattle.form.specs.Table.{Head, Forest, none, node, size, _⊕_, words, holds}
 use Rattle.form.specs.Spans.{same, part}
 use Rattle.form.specs.Reading.{hasName}

@@ -1,20 +1,18 @@
 -- Laws of names: of two spans' bytes, and of the names in a table.
 -- Assumes nothing.
 use Prim.Native.Nat.{ℕ, zero, suc, _+_, _-_, _*_, _≤_, _<_}
-use mathlib.Core.Bool.{Bool, true, false, _||_, _&&_}
-use mathlib.Core.List.{List, [], _∷_, _++_, append-assoc}
+use mathlib.Core.Bool.{Bool, true, false, _||_}
+use mathlib.Core.List.{List, _++_, append-assoc}
 use mathlib.Core.Path.{_≡_, refl, sym, ap, subst, _∙_}
 use native.Mathlib.Omega.{arith}
-use native.Mathlib.Numerals.{sub-one, add-one}
-use borrow.Author.Tests.{lt-ltb, le-ltb, eq-eqb, ne-eqb}
-use lib.ListN.{length, getD, take, drop, List·getD-append, length-take, length-drop}
-use lib.Seq.{getD-append-add, length-take-le, drop-cons}
-use lib.Dec.{eqb}
+use native.Mathlib.Numerals.{sub-one}
+use borrow.Author.Tests.{lt-ltb, le-ltb}
+use lib.ListN.{length, getD, take, drop, List·getD-append}
+use lib.Seq.{getD-append-add, length-take-le}
 use Rattle.form.specs.Table.{Head, Forest, none, node, size, _⊕_, words, flat, wrote}
 use Rattle.form.specs.Spans.{over, same, part}
 use Rattle.form.specs.Reading.{hasName}
 use Rattle.siblings.specs.Holding.{among, NamesIn, Holds}
-use Rattle.form.proofs.Spans.{part-length}
 use Rattle.form.proofs.Table.{size-none, size-append, append-append, flat-length, flat-append}
 
 -- ---- the names in a table

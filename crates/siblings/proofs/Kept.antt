@@ -1,16 +1,16 @@
 -- What a reader keeps: the words before its own first record, and with them the records that stand there; and that the words for links are 0.
 -- Assumes nothing.
-use Prim.Native.Nat.{ℕ, zero, suc, _+_, _*_, _≤_, _<_}
+use Prim.Native.Nat.{ℕ, _+_, _*_, _≤_}
 use mathlib.Core.Bool.{Bool, true, false}
-use mathlib.Core.List.{List, [], _∷_, _++_, append-assoc}
+use mathlib.Core.List.{List, _++_, append-assoc}
 use mathlib.Core.Path.{_≡_, refl, sym, ap, subst, _∙_}
 use native.Mathlib.Omega.{arith}
 use lib.ListN.{length, take, drop, take-append-drop, length-append}
-use lib.Seq.{take-at, take-take, take-append-le, length-take-le}
-use Rattle.form.specs.Answer.{Out, got, no, _>>=_, _>>_, guard}
+use lib.Seq.{take-at, take-take, length-take-le}
+use Rattle.form.specs.Answer.{Out, got, _>>=_, _>>_}
 use Rattle.form.specs.Table.{Head, Forest, none, node, size, _⊕_, flat, wrote, holds}
 use Rattle.form.specs.Spans.{over}
-use Rattle.siblings.specs.Holding.{NamesIn, Holds}
+use Rattle.siblings.specs.Holding.{Holds}
 use lib.Dec.{ltb}
 use Rattle.form.specs.Reading.{One, Inside, Span, one, leafAt, leafOne, heldOne, payloadBy}
 use Rattle.form.proofs.Table.{flat-length, wrote-length}

@@ -7,8 +7,8 @@ use mathlib.Core.Path.{_≡_, refl, sym, ap, _∙_}
 use native.Mathlib.Omega.{arith}
 use native.Mathlib.Numerals.{sub-one, add-one}
 use native.Mathlib.Nat.{pow-suc, pow-succ', pow-le-pow-right, mul-le-mul-right, add-mul, mul-assoc}
-use borrow.Author.Tests.{ne-eqb, eqb-true, ltb-true, ltb-false}
-use lib.ListN.{length, getD, take, drop, length-take, length-drop}
+use borrow.Author.Tests.{eqb-true, ltb-true, ltb-false}
+use lib.ListN.{length, getD, length-take, length-drop}
 use lib.Seq.{drop-cons}
 use lib.Dec.{eqb, ltb}
 use Rattle.form.specs.Spans.{same, part}

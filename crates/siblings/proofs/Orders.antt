@@ -1,10 +1,9 @@
 -- Laws of what a comparison answers.
 -- Assumes nothing.
-use Prim.Native.Nat.{ℕ, _+_, _*_, _^_, _≤_, _<_}
+use Prim.Native.Nat.{ℕ, _+_, _^_, _≤_, _<_}
 use mathlib.Core.Bool.{Bool, true, false}
 use mathlib.Core.List.{List}
-use mathlib.Core.Path.{_≡_, refl, sym, ap, subst, _∙_}
-use mathlib.Core.Logic.{_⊎_, inl, inr}
+use mathlib.Core.Path.{_≡_, refl, subst}
 use native.Mathlib.Omega.{arith}
 use lib.Dec.{ltb}
 use borrow.Author.Tests.{ltb-true, ltb-false}
@@ -12,8 +11,8 @@ use lib.ListN.{length}
 use Rattle.form.specs.Spans.{part}
 use Rattle.siblings.specs.Names.{nameOf}
 use Rattle.form.specs.Numbers.{value}
-use Rattle.siblings.specs.Links.{num, rank, Le}
-use Rattle.siblings.specs.Lists.{Told, Picked, Lowered}
+use Rattle.siblings.specs.Links.{num, rank}
+use Rattle.siblings.specs.Lists.{Told, Picked}
 use Rattle.siblings.proofs.Numbers.{num-is}
 use Rattle.siblings.specs.declared.Order.{Order}
 use Rattle.siblings.specs.Orders.{Ordered}

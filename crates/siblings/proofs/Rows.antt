@@ -1,17 +1,17 @@
 -- Laws of records side by side.
 -- Assumes nothing.
-use Prim.Native.Nat.{ℕ, zero, suc, _+_, _-_, _*_, _≤_, _<_}
+use Prim.Native.Nat.{ℕ, zero, suc, _+_, _-_, _≤_, _<_}
 use mathlib.Core.Bool.{Bool, true, false}
 use mathlib.Core.List.{List, [], _∷_}
-use mathlib.Core.Path.{_≡_, refl, sym, ap, subst, _∙_}
+use mathlib.Core.Path.{_≡_, refl, ap}
 use native.Mathlib.Omega.{arith}
-use native.Mathlib.Numerals.{sub-one, add-one}
+use native.Mathlib.Numerals.{sub-one}
 use borrow.Author.Tests.{lt-ltb, le-ltb, ltb-true, ltb-false}
 use lib.ListN.{length}
 use lib.Dec.{ltb}
 use Rattle.siblings.specs.Names.{endOf, siblings}
 use Rattle.siblings.specs.Links.{Mem, walk}
-use Rattle.siblings.proofs.Walks.{mem-head, mem-tail, mem-cases, mem-none}
+use Rattle.siblings.proofs.Walks.{mem-head, mem-tail}
 
 module _ (t : List ℕ) (stop : ℕ) where
   pub siblings-on : (fuel i : ℕ) → 0 < fuel → i < stop → siblings t stop fuel i ≡ i ∷ siblings t stop (fuel - 1) (endOf t i)

@@ -1,17 +1,15 @@
 -- Laws of two linked lists that are merged onto a third.
 -- Assumes nothing.
-use Prim.Native.Nat.{ℕ, zero, suc, _+_, _-_, _*_, _≤_, _<_}
+use Prim.Native.Nat.{ℕ, _+_, _-_, _≤_, _<_}
 use mathlib.Core.Bool.{Bool, true, false, not}
-use mathlib.Core.List.{List, [], _∷_}
+use mathlib.Core.List.{List, _∷_}
 use mathlib.Core.Path.{_≡_, refl, sym, ap, subst, _∙_}
 use mathlib.Core.Logic.{_⊎_, inl, inr, ⊎-elim}
 use native.Mathlib.Omega.{arith}
 use borrow.Author.Tests.{ltb-true, ltb-false}
-use lib.ListN.{length}
 use lib.Dec.{ltb}
-use Rattle.siblings.specs.Names.{nameOf}
-use Rattle.siblings.specs.Links.{num, rank, link, linked, Mem, walk, Le, Sorted, Agree, Fit}
-use Rattle.siblings.specs.Lists.{Picked, Two, Lists}
+use Rattle.siblings.specs.Links.{rank, link, linked, Mem, walk, Le, Sorted, Agree, Fit}
+use Rattle.siblings.specs.Lists.{Two, Lists}
 use Rattle.siblings.proofs.Walks.{walk-none, walk-cons, walk-more, walk-first, mem-none}
 use Rattle.siblings.proofs.Tables.{agree-self, agree-trans, agree-rank, agree-fit, linked-agree, linked-same, linked-walk}
 use Rattle.siblings.proofs.Merges.{Three, First, three-swap, three-left, three-apart, sorted-none}

@@ -1,16 +1,15 @@
 -- Laws of the last pass: each record of a sorted list is compared with the next, and the links are undone.
 -- Assumes nothing.
-use Prim.Native.Nat.{ℕ, zero, suc, _+_, _-_, _*_, _≤_, _<_}
-use mathlib.Core.Bool.{Bool, true, false}
-use mathlib.Core.List.{List, [], _∷_}
+use Prim.Native.Nat.{ℕ, _-_, _≤_, _<_}
+use mathlib.Core.Bool.{true}
+use mathlib.Core.List.{List, _∷_}
 use mathlib.Core.Path.{_≡_, refl, sym, ap, subst, _∙_}
 use mathlib.Core.Logic.{_⊎_, inl, inr, ⊎-elim}
 use native.Mathlib.Omega.{arith}
-use lib.ListN.{length}
 use Rattle.siblings.specs.Names.{nameOf}
 use Rattle.siblings.specs.Links.{num, rank, link, linked, Mem, walk, Sorted, Agree, Fit}
-use Rattle.siblings.specs.Lists.{Lowered, Chained, Again, Least, Unlinked}
-use Rattle.siblings.proofs.Walks.{walk-none, walk-cons, walk-first, walk-later, walk-cases, mem-head, mem-tail, mem-none}
+use Rattle.siblings.specs.Lists.{Lowered, Chained, Again, Unlinked}
+use Rattle.siblings.proofs.Walks.{walk-none, walk-cons, walk-first, walk-later, walk-cases, mem-none}
 use Rattle.siblings.proofs.Tables.{agree-self, agree-trans, agree-name, agree-fit, agree-back, agree-none, linked-agree, linked-walk}
 use Rattle.siblings.proofs.Merges.{sorted-head, sorted-tail, sorted-once}
 

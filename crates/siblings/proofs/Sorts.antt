@@ -1,16 +1,16 @@
 -- Laws of sorting records side by side, in two halves.
 -- Assumes nothing.
-use Prim.Native.Nat.{ℕ, zero, suc, _+_, _-_, _*_, _≤_, _<_}
+use Prim.Native.Nat.{ℕ, _+_, _-_, _<_}
 use mathlib.Core.Bool.{Bool, true, false, not}
-use mathlib.Core.List.{List, [], _∷_}
+use mathlib.Core.List.{List, []}
 use mathlib.Core.Path.{_≡_, refl, sym, ap, subst, _∙_}
 use mathlib.Core.Logic.{_⊎_, inl, inr, ⊎-elim}
 use native.Mathlib.Omega.{arith}
 use Rattle.siblings.specs.Names.{endOf}
-use Rattle.siblings.specs.Links.{rank, link, Mem, walk, past, Sorted, Agree, Fit}
+use Rattle.siblings.specs.Links.{rank, link, Mem, walk, past, Sorted, Agree}
 use Rattle.siblings.specs.Lists.{Two, Lists, Row, Sorts}
-use Rattle.siblings.proofs.Walks.{walk-ext, past-ext, past-add, walk-add, walk-left, walk-right, walk-low, walk-high, walk-first, mem-none}
-use Rattle.siblings.proofs.Tables.{agree-self, agree-trans, agree-rank, agree-fit, agree-end, agree-link, agree-more}
+use Rattle.siblings.proofs.Walks.{walk-ext, past-ext, past-add, walk-add, walk-left, walk-right, walk-low, walk-high, mem-none}
+use Rattle.siblings.proofs.Tables.{agree-self, agree-trans, agree-rank, agree-fit, agree-end, agree-link}
 use Rattle.siblings.proofs.Merges.{sorted-ext, sorted-cons, sorted-none}
 use Rattle.siblings.proofs.Runs.{Either}
 

@@ -1,18 +1,17 @@
 -- Laws of tables whose records are linked.
 -- Assumes nothing.
-use Prim.Native.Nat.{ℕ, zero, suc, _+_, _-_, _*_, _≤_, _<_}
+use Prim.Native.Nat.{ℕ, _+_, _-_, _*_, _≤_}
 use mathlib.Core.Bool.{Bool, true, false, _||_}
-use mathlib.Core.List.{List, [], _∷_}
+use mathlib.Core.List.{List}
 use mathlib.Core.Path.{_≡_, refl, sym, ap, subst, _∙_}
-use mathlib.Core.Logic.{_⊎_, inl, inr, ⊎-elim}
+use mathlib.Core.Logic.{_⊎_, ⊎-elim}
 use native.Mathlib.Omega.{arith}
 use borrow.Author.Tests.{eq-eqb, ne-eqb, eqb-true, eqb-false}
 use lib.ListN.{length, getD, set, length-set}
 use lib.Seq.{getD-set-same, getD-set-other, ext-getD}
 use lib.Dec.{eqb}
-use Rattle.form.specs.Spans.{part}
 use Rattle.siblings.specs.Names.{nameOf, endOf}
-use Rattle.siblings.specs.Links.{num, rank, slotOf, link, linked, Mem, walk, past, Agree, Fit}
+use Rattle.siblings.specs.Links.{rank, slotOf, link, linked, Mem, walk, Agree, Fit}
 use Rattle.siblings.proofs.Walks.{walk-ext}
 
 pub slot-range : (t : List ℕ) (i : ℕ) → (9 * i + 3 ≤ slotOf t i) × (slotOf t i ≤ 9 * i + 6)

@@ -1,12 +1,11 @@
 -- Laws of walks: a, f a, f (f a), and so on.
 -- Assumes nothing.
-use Prim.Native.Nat.{ℕ, zero, suc, _+_, _-_, _*_, _≤_, _<_}
+use Prim.Native.Nat.{ℕ, zero, suc, _+_, _-_, _≤_, _<_}
 use mathlib.Core.List.{List, [], _∷_}
-use mathlib.Core.Path.{_≡_, refl, sym, ap, subst, _∙_}
+use mathlib.Core.Path.{_≡_, refl, ap, subst, _∙_}
 use mathlib.Core.Logic.{_⊎_, inl, inr, ⊎-elim}
 use native.Mathlib.Omega.{arith}
 use native.Mathlib.Numerals.{sub-one, add-one}
-use lib.ListN.{length}
 use Rattle.siblings.specs.Links.{Mem, walk, past}
 
 pub mem-cases : (P : Type 0) (z x : ℕ) (xs : List ℕ) → (z ≡ x → P) → (Mem z xs → P) → Mem z (x ∷ xs) → P

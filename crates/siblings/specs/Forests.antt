@@ -2,7 +2,7 @@
 -- Assumes nothing.
 use Prim.Native.Nat.{ℕ, _+_, _-_}
 use mathlib.Core.List.{List}
-use mathlib.Core.Bool.{Bool, true, false, not}
+use mathlib.Core.Bool.{true, false, not}
 use Rattle.form.specs.Answer.{Out, got, no, _>>_, guard}
 use mathlib.Core.Path.{_≡_}
 use Rattle.form.specs.Table.{Head, Forest, none, node, size, _⊕_, word, holds}

@@ -1,11 +1,10 @@
 -- What the contracts of the functions on linked records cite.
 -- Assumes nothing.
-use Prim.Native.Nat.{ℕ, zero, suc, _+_, _*_, _≤_, _<_}
-use mathlib.Core.List.{List, [], _∷_}
-use mathlib.Core.Bool.{Bool, true, false, not}
+use Prim.Native.Nat.{ℕ, _+_, _≤_, _<_}
+use mathlib.Core.List.{List}
+use mathlib.Core.Bool.{Bool, true, false}
 use mathlib.Core.Path.{_≡_}
 use mathlib.Core.Logic.{_⊎_}
-use lib.ListN.{length, getD}
 use lib.Dec.{ltb}
 use Rattle.siblings.specs.declared.Found.{Found}
 use Rattle.siblings.specs.Names.{nameOf, endOf, siblings}

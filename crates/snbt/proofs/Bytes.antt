@@ -1,21 +1,20 @@
 -- The bytes of lists and compounds as they grow, and where they stand in the output.
 -- Assumes nothing.
-use Prim.Native.Nat.{ℕ, zero, suc, _+_, _-_, _*_, _≤_, _<_}
+use Prim.Native.Nat.{ℕ, suc, _+_, _-_, _≤_}
 use mathlib.Core.Path.{_≡_, refl, sym, ap, subst, _∙_}
 use mathlib.Core.List.{List, [], _∷_, _++_, append-assoc, append-nil}
 use native.Mathlib.Omega.{arith}
 use lib.ListN.{length, take, drop, length-append}
 use lib.Seq.{length-take-le, take-append-le, take-take}
-use Rattle.form.specs.Answer.{Out, got, no, _>>=_}
 use Rattle.form.specs.Numbers.{bytesOf}
 use Rattle.form.specs.Spans.{over}
 use Rattle.form.specs.Tree as tree
 use Rattle.form.specs.Tree.{Tag, Tags, Entries, nil, more, ended, entry, kindOf, many}
-use Rattle.form.specs.Layout.{payload, elementBytes, entryBytes, stringBytes, layout}
+use Rattle.form.specs.Layout.{payload, elementBytes, entryBytes, stringBytes}
 use Rattle.form.proofs.Digits.{digits-length}
-use Rattle.form.proofs.Table.{over-none, over-length, over-over, over-before}
-use Rattle.text_form.specs.Text.{Value, Row, Block, Reads, elementsBy, documentOf}
-use Rattle.snbt.specs.Turns.{Entered, stops, enters, enteredBytes, before}
+use Rattle.form.proofs.Table.{over-over, over-before}
+use Rattle.snbt_entries.specs.Entries.{Entered, stops, enters}
+use Rattle.snbt.specs.Turns.{enteredBytes, before}
 
 -- ---- tags behind tags
 
@@ -83,25 +82,34 @@ laid-ended (entry n t a) =
 
 -- ---- what stands in the output
 
+-- A name takes two bytes more than its own.
+pub name-size : (s : List ℕ) → length (stringBytes s) ≡ 2 + length s
+name-size s = length-append (bytesOf 2 (length s)) s ∙ ap (λ n. n + length s) (digits-length 2 (length s))
+
 -- A list's head, written last, before its first element and the others.
-pub list-over : (o o₁ o₂ o₃ : List ℕ) (at used kind count : ℕ) (t : Tag) (ts : Tags) → at + 5 + length (payload t) ≤ length o → o₁ ≡ over o (at + 5) (payload t) → used ≡ at + 5 + length (payload t)
-    → o₂ ≡ over o₁ used (elementBytes ts) → kind ≡ kindOf t → count ≡ many ts → o₃ ≡ over o₂ at (kind ∷ bytesOf 4 (count + 1)) → o₃ ≡ over o at (payload (tree.list (more t ts)))
+pub list-over : (o o₁ o₂ o₃ : List ℕ) (at used kind count : ℕ) (t : Tag) (ts : Tags) → at + 5 + length (payload t) ≤ length o
+    → o₁ ≡ over o (at + 5) (payload t) → used ≡ at + 5 + length (payload t) → o₂ ≡ over o₁ used (elementBytes ts)
+    → kind ≡ kindOf t → count ≡ many ts → o₃ ≡ over o₂ at (kind ∷ bytesOf 4 (count + 1)) → o₃ ≡ over o at (payload (tree.list (more t ts)))
 unfolding payload elementBytes many
 list-over o o₁ o₂ o₃ at used kind count t ts fits e₁ u e₂ k n e₃ =
-    let five : length (kind ∷ bytesOf 4 (count + 1)) ≡ 5 = ap suc (digits-length 4 (count + 1)) in
-    let a : o₂ ≡ over o (at + 5) (payload t ++ elementBytes ts) = e₂ ∙ rw (e₁, u) (over-over o (at + 5) (payload t) fits (elementBytes ts)) in
-    let b : over (over o (at + 5) (payload t ++ elementBytes ts)) at (kind ∷ bytesOf 4 (count + 1)) ≡ over o at ((kind ∷ bytesOf 4 (count + 1)) ++ (payload t ++ elementBytes ts)) =
-    subst (λ (x : ℕ). over (over o (at + x) (payload t ++ elementBytes ts)) at (kind ∷ bytesOf 4 (count + 1)) ≡ over o at ((kind ∷ bytesOf 4 (count + 1)) ++ (payload t ++ elementBytes ts))) five (over-before o at (kind ∷ bytesOf 4 (count + 1)) (payload t ++ elementBytes ts) (omega (arith, five))) in
+    let head = kind ∷ bytesOf 4 (count + 1) in
+    let rest = payload t ++ elementBytes ts in
+    let five : length head ≡ 5 = ap suc (digits-length 4 (count + 1)) in
+    let a : o₂ ≡ over o (at + 5) rest = e₂ ∙ rw (e₁, u) (over-over o (at + 5) (payload t) fits (elementBytes ts)) in
+    let b : over (over o (at + 5) rest) at head ≡ over o at (head ++ rest) =
+    subst (λ (x : ℕ). over (over o (at + x) rest) at head ≡ over o at (head ++ rest)) five (over-before o at head rest (omega (arith, five))) in
     let c : count + 1 ≡ 1 + many ts = omega (arith, n) in
-    e₃ ∙ ap (λ l. over l at (kind ∷ bytesOf 4 (count + 1))) a ∙ b ∙ rw (k, c) refl
+    e₃ ∙ ap (λ l. over l at head) a ∙ b ∙ rw (k, c) refl
 
 -- An entry's id, written last, before its name and its value.
-pub entry-over : (o o₁ o₂ o₃ : List ℕ) (at kind : ℕ) (s : List ℕ) (t : Tag) → at + 3 + length s + length (payload t) ≤ length o → o₁ ≡ over o (at + 1) (stringBytes s) → o₂ ≡ over o₁ (at + 3 + length s) (payload t)
+pub entry-over : (o o₁ o₂ o₃ : List ℕ) (at kind : ℕ) (s : List ℕ) (t : Tag) → at + 3 + length s + length (payload t) ≤ length o
+    → o₁ ≡ over o (at + 1) (stringBytes s) → o₂ ≡ over o₁ (at + 3 + length s) (payload t)
     → kind ≡ kindOf t → o₃ ≡ over o₂ at (kind ∷ []) → o₃ ≡ over o at (kindOf t ∷ stringBytes s ++ payload t)
 entry-over o o₁ o₂ o₃ at kind s t fits e₁ e₂ k e₃ =
-    let two : length (stringBytes s) ≡ 2 + length s = length-append (bytesOf 2 (length s)) s ∙ ap (λ n. n + length s) (digits-length 2 (length s)) in
+    let two = name-size s in
     let p : at + 3 + length s ≡ at + 1 + length (stringBytes s) = omega (arith, two) in
-    let a : o₂ ≡ over o (at + 1) (stringBytes s ++ payload t) = e₂ ∙ rw (e₁, p) (over-over o (at + 1) (stringBytes s) (omega (arith, two)) (payload t)) in
+    let a : o₂ ≡ over o (at + 1) (stringBytes s ++ payload t) =
+    e₂ ∙ rw (e₁, p) (over-over o (at + 1) (stringBytes s) (omega (arith, two)) (payload t)) in
     e₃ ∙ ap (λ l. over l at (kind ∷ [])) a ∙ over-before o at (kind ∷ []) (stringBytes s ++ payload t) (omega arith) ∙ rw k refl
 
 -- What is written from a place on leaves what stands before it.
@@ -126,7 +134,7 @@ list-size tag ts =
     omega (arith, length-append (kindOf tag ∷ bytesOf 4 n) (payload tag ++ elementBytes ts), digits-length 4 n, length-append (payload tag) (elementBytes ts))
 
 pub entry-size : (s : List ℕ) (tag : Tag) → length (kindOf tag ∷ stringBytes s ++ payload tag) ≡ 3 + length s + length (payload tag)
-entry-size s tag = omega (arith, length-append (stringBytes s) (payload tag), length-append (bytesOf 2 (length s)) s, digits-length 2 (length s))
+entry-size s tag = omega (arith, length-append (stringBytes s) (payload tag), name-size s)
 
 pub compound-bytes : (es : Entries) → payload (tree.compound es) ≡ entryBytes es
 unfolding payload

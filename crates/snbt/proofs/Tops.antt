@@ -1,28 +1,42 @@
--- The whole text: refusals before any token, the root, and what stands in the output.
+-- The whole text: refusals before any token, the root, its scratch, and what stands in the output.
 -- Assumes nothing.
-use Prim.Native.Nat.{ℕ, zero, suc, _+_, _-_, _*_, _≤_, _<_}
+use Prim.Native.Nat.{ℕ, _+_, _-_, _≤_, _<_}
 use mathlib.Core.Path.{_≡_, refl, sym, ap, subst, _∙_}
-use mathlib.Core.Bool.{true, false}
+use mathlib.Core.Bool.{false}
 use mathlib.Core.Logic.{_⊎_, inl, inr}
 use mathlib.Core.List.{List, [], _∷_, _++_}
 use native.Mathlib.Omega.{arith}
-use borrow.Author.Tests.{eq-eqb, ne-eqb, lt-leb, le-leb}
-use lib.Dec.{leb}
+use borrow.Author.Tests.{eq-eqb, lt-leb}
+use lib.Dec.{eqb}
 use lib.ListN.{length, replicate}
-use Rattle.form.specs.Answer.{Out, got, no, _>>=_, _>>_, guard, unexpectedToken, textEnds}
-use Rattle.form.specs.Numbers.{digits, bytesOf}
+use types.Run.{OneOf}
+use Rattle.form.specs.Answer.{Out, got, no, unexpectedToken, textEnds, depthLimit}
+use Rattle.form.specs.Numbers.{digits}
 use Rattle.form.specs.Spans.{over}
 use Rattle.form.specs.Tree as tree
-use Rattle.form.specs.Layout.{payload, entryBytes, layout, stringBytes}
+use Rattle.form.specs.Layout.{payload, entryBytes, layout}
 use Rattle.form.proofs.Answer.{got-no}
 use Rattle.form.proofs.Picks.{lt-or}
 use Rattle.form.proofs.Table.{over-before}
 use Rattle.text_form.specs.Lexing.{default, TokenData, found, tokenAt, judgedText}
-use Rattle.text_form.specs.Text.{Value, Block, Reads, signOf, due, compoundAt, valueAt, parsed, ParseIs, Lengths, lengthsOf, outputAfter, documentOf}
-use Rattle.scalars.specs.Done.{Did}
-use Rattle.snbt.specs.Turns.{inner, blockValue, rootOf, Rooted}
-use Rattle.snbt.proofs.Reading.{due-found, inner-is}
+use Rattle.text_form.specs.Text.{Value, Block, Reads, signOf, due, compoundAt, valueAt, parsed, ParseIs, lengthsOf, outputAfter, documentOf}
+use Rattle.text_keys.specs.Keys.{KeyRoom}
+use Rattle.tokens.specs.Answers.{tokenIs}
+use Rattle.tokens.specs.declared.Token.{Token}
+use Rattle.tokens.proofs.Rests.{tagOf, other-sign}
+use Rattle.placing.specs.declared.Done.{Done}
+use Rattle.placing.specs.declared.Done.the-variants.{To, No}
+use Rattle.snbt_due.proofs.Reading.{due-found}
+use Rattle.snbt.specs.Turns.{Ready, inner, blockValue, rootOf, Rooted}
+use Rattle.snbt.specs.Steps.{RootIs, ParsedCompound}
+use Rattle.snbt.proofs.Reading.{inner-is}
 use Rattle.snbt.proofs.Bytes.{compound-bytes}
+
+-- ---- scratch
+
+-- Scratch of other bytes and the same lengths.
+pub ready-kept : {t k b k′ b′ : List ℕ} → Ready t k b → length k′ ≡ length k → length b′ ≡ length b → Ready t k′ b′
+ready-kept {t} r e f = record { text-le = r .text-le; keys-ge = omega (arith, r .keys-ge, e); buffer-ge = subst (λ (x : ℕ). KeyRoom (length t) x) (sym f) (r .buffer-ge) }
 
 -- ---- a compound's value and its block
 
@@ -33,45 +47,66 @@ block-no (no n p) a b e = let y : n ≡ a = cc in let z : p ≡ b = cc in rw (y,
 record Blocked (x : Out Block) (v : Value) : Type 0 where
   block : Block
   same : x ≡ got block
-  tag-is : v .tag ≡ tree.compound (block .entries)
-  next-is : v .next ≡ block .next
-  used-is : v .used ≡ block .used
+  value-is : v ≡ record { tag = tree.compound (block .entries); next = block .next; used = block .used }
 
 block-got : (x : Out Block) (v : Value) → blockValue x ≡ got v → Blocked x v
-block-got (got y) v e = let z : v ≡ record { tag = tree.compound (y .entries); next = y .next; used = y .used } = cc in record { block = y; same = refl; tag-is = ap (λ (w : Value). w .tag) z; next-is = ap (λ (w : Value). w .next) z; used-is = ap (λ (w : Value). w .used) z }
+block-got (got y) v e = record { block = y; same = refl; value-is = cc }
 block-got (no n p) v e = absurd (got-no (sym e))
 
 -- ---- the root
 
+-- what the arm of `{` leaves of the tokens
+abbrev allButCurly : List ℕ
+allButCurly = 1 ∷ 2 ∷ 3 ∷ 4 ∷ 5 ∷ 6 ∷ 7 ∷ 8 ∷ 9 ∷ 10 ∷ 11 ∷ 12 ∷ 13 ∷ []
+
+pub not-curly : (k : Token) → OneOf allButCurly (tagOf k) → eqb (signOf (tokenIs k)) 123 ≡ false
+not-curly k = other-sign 123 k allButCurly (search refl)
+
 layout-is : (b : Block) → layout (documentOf b) ≡ (10 ∷ 0 ∷ 0 ∷ []) ++ entryBytes (b .entries)
 unfolding layout digits
 layout-is b = refl
+
+-- The root's compound, behind its `{` at `brace`.
+module _ (t o k : List ℕ) (brace m : ℕ) where
+  abbrev rooted : Out Block
+  rooted = compoundAt t (length o) depthLimit (valueAt t (length o) (depthLimit - 1)) brace m 3
+
+  -- as the cycle reads it
+  within : rooted ≡ compoundAt t (length o) 512 (inner t (length o) 512) brace m 3
+  within = ap (λ (v : Reads). compoundAt t (length o) 512 v brace m 3) (sym (inner-is t (length o) 512 (λ z. absurd (omega (arith, z)))))
+
+  pub rooted-no : (a b : ℕ) (o₁ k₁ : List ℕ) → ParsedCompound t o k brace m 3 0 512 (No a b) o₁ k₁ → rooted ≡ no a b
+  rooted-no a b o₁ k₁ g = within ∙ block-no (compoundAt t (length o) 512 (inner t (length o) 512) brace m 3) a b g
+
+  pub rooted-did : (n u kind : ℕ) (o₁ k₁ o₂ : List ℕ) → ParsedCompound t o k brace m 3 0 512 (To n u kind) o₁ k₁ → o₂ ≡ over o₁ 0 (10 ∷ 0 ∷ 0 ∷ []) → Rooted rooted o n u o₂
+  rooted-did n u kind o₁ k₁ o₂ (did, went) e =
+      let b = block-got (compoundAt t (length o) 512 (inner t (length o) 512) brace m 3) (did .value) (did .same) in
+      record {
+        block = b .block;
+        same = within ∙ b .same;
+        next-is = did .next-is ∙ ap (λ (w : Value). w .next) (b .value-is);
+        used-is = did .used-is ∙ ap (λ (w : Value). w .used) (b .value-is);
+        wrote =
+            e ∙ ap (λ l. over l 0 (10 ∷ 0 ∷ 0 ∷ []))
+            (did .wrote ∙ ap (λ (w : Value). over o 3 (payload (w .tag))) (b .value-is) ∙ ap (over o 3) (compound-bytes (b .block .entries)))
+            ∙ over-before o 0 (10 ∷ 0 ∷ 0 ∷ []) (entryBytes (b .block .entries)) (omega (arith, did .size-is, did .fits))
+            ∙ ap (over o 0) (sym (layout-is (b .block)));
+      }
+
+-- What is said of an answer is said of the same one under another name.
+pub root-as : {res res′ : Out Block} (o : List ℕ) (r : Done) (o′ : List ℕ) → res ≡ res′ → RootIs res′ o r o′ → RootIs res o r o′
+root-as o r o′ e v = subst (λ (x : Out Block). RootIs x o r o′) (sym e) v
 
 module _ (t : List ℕ) (room : ℕ) where
   pub root-no : (a b : ℕ) → due t room default 0 textEnds (length t) ≡ no a b → rootOf t room ≡ no a b
   root-no a b e = rw e refl
 
   module _ (d : TokenData) (m : ℕ) (e : tokenAt default t 0 ≡ got (found d m)) where
-    pub root-other : (signOf (d .token) ≡ 123 → ⊥) → rootOf t room ≡ no unexpectedToken (d .index)
-    root-other h = rw (due-found t room default 0 textEnds (length t) d m e, ne-eqb (signOf (d .token)) 123 h) refl
+    pub root-other : eqb (signOf (d .token)) 123 ≡ false → rootOf t room ≡ no unexpectedToken (d .index)
+    root-other h = rw (due-found t room default 0 textEnds (length t) d m e, h) refl
 
-    root-in : signOf (d .token) ≡ 123 → rootOf t room ≡ compoundAt t room 512 (inner t room 512) (d .index) m 3
-    root-in h = rw (due-found t room default 0 textEnds (length t) d m e, eq-eqb (signOf (d .token)) 123 h) (ap (λ (v : Reads). compoundAt t room 512 v (d .index) m 3) (sym (inner-is t room 512 (λ z. absurd (omega (arith, z))))))
-
-    pub root-refused : signOf (d .token) ≡ 123 → (a b : ℕ) → blockValue (compoundAt t room 512 (inner t room 512) (d .index) m 3) ≡ no a b → rootOf t room ≡ no a b
-    root-refused h a b g = root-in h ∙ block-no (compoundAt t room 512 (inner t room 512) (d .index) m 3) a b g
-
-    pub root-did : signOf (d .token) ≡ 123 → (o o₁ o₂ : List ℕ) (n u k : ℕ) → Did (blockValue (compoundAt t room 512 (inner t room 512) (d .index) m 3)) o 3 n u k o₁ → o₂ ≡ over o₁ 0 (10 ∷ 0 ∷ 0 ∷ []) → Rooted (rootOf t room) o n u o₂
-    root-did h o o₁ o₂ n u k did e₂ =
-        let b = block-got (compoundAt t room 512 (inner t room 512) (d .index) m 3) (did .value) (did .same) in
-        record {
-          block = b .block;
-          same = root-in h ∙ b .same;
-          next-is = did .next-is ∙ b .next-is;
-          used-is = did .used-is ∙ b .used-is;
-          wrote = e₂ ∙ ap (λ l. over l 0 (10 ∷ 0 ∷ 0 ∷ [])) (did .wrote ∙ ap (λ (x : tree.Tag). over o 3 (payload x)) (b .tag-is) ∙ ap (over o 3) (compound-bytes (b .block .entries)))
-              ∙ over-before o 0 (10 ∷ 0 ∷ 0 ∷ []) (entryBytes (b .block .entries)) (omega (arith, did .size-is, did .fits)) ∙ ap (over o 0) (sym (layout-is (b .block)));
-        }
+    pub root-in : signOf (d .token) ≡ 123 → rootOf t room ≡ compoundAt t room depthLimit (valueAt t room (depthLimit - 1)) (d .index) m 3
+    root-in h = rw (due-found t room default 0 textEnds (length t) d m e, eq-eqb (signOf (d .token)) 123 h) refl
 
 -- ---- refusals before any token
 

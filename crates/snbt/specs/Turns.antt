@@ -1,21 +1,19 @@
--- One turn of a list and of a compound, and what is left behind by it: the definitions that contracts cite and that name no enum of the code.
+-- What a turn of a list and of a compound leaves behind: the definitions that contracts cite and that name no enum of the code.
 -- Assumes nothing.
-use Prim.Native.Nat.{ℕ, zero, suc, _+_, _-_, _*_, _≤_, _<_}
+use Prim.Native.Nat.{ℕ, zero, suc, _+_, _-_, _*_, _≤_}
 use mathlib.Core.Path.{_≡_}
-use mathlib.Core.Bool.{Bool, true, false}
 use mathlib.Core.List.{List, [], _∷_, _++_}
 use lib.Dec.{eqb}
 use lib.ListN.{length, take}
-use Rattle.form.specs.Answer.{Out, got, no, _>>=_, _>>_, guard, tooDeep, unexpectedToken, textEnds, trailingComma, unmatchedBrace, depthLimit}
-use Rattle.form.specs.Spans.{part, over}
+use Rattle.form.specs.Answer.{Out, got, no, _>>=_, _>>_, guard, tooDeep, unexpectedToken, textEnds, depthLimit}
+use Rattle.form.specs.Spans.{over}
 use Rattle.form.specs.Tree as tree
-use Rattle.form.specs.Tree.{Tag, Tags, Entries, kindOf, many, entry}
+use Rattle.form.specs.Tree.{Entries, kindOf, many, entry}
 use Rattle.form.specs.Layout.{payload, elementBytes, stringBytes, layout}
-use Rattle.scalars.specs.Done.{KeyRoom}
-use Rattle.text_form.specs.Lexing.{Stops, default, key, string, colon, TokenData, found, skip, made, tokenAt, contentOf}
-use Rattle.text_form.specs.Text.{Value, Row, Block, Next, Then, goesOn, closes, Reads, signOf, due, following, alike, entryAt, compoundAt, valueAt, documentOf}
-
--- ---- the scratch and the tokens
+use Rattle.text_keys.specs.Keys.{KeyRoom}
+use Rattle.snbt_entries.specs.Entries.{Entered, stops, enters}
+use Rattle.text_form.specs.Lexing.{default}
+use Rattle.text_form.specs.Text.{Value, Row, Block, Then, closes, Reads, signOf, due, alike, compoundAt, valueAt, documentOf}
 
 -- A text within its limit, room for a word for each three bytes of it, and room for a key.
 pub record Ready (t keys buffer : List ℕ) : Type 0 where
@@ -23,26 +21,10 @@ pub record Ready (t keys buffer : List ℕ) : Type 0 where
   pub keys-ge : length t ≤ 3 * length keys
   pub buffer-ge : KeyRoom (length t) (length buffer)
 
--- A token that the lexer found in the text, with the next place.
-pub record Met (t : List ℕ) (d : TokenData) (n : ℕ) : Type 0 where
-  pub set : Stops
-  pub from : ℕ
-  pub within : from ≤ length t
-  pub is : tokenAt set t from ≡ got (found d n)
-
--- The token of an unquoted string from i up to j, of ASCII characters only.
-abbrev pub wordData : ℕ → ℕ → TokenData
-wordData i j = record { token = string false i j; index = i; width = j - i }
-
--- Where a key is due at i, which is not blank, that token stands with its `:` right behind it; it is its own content, and not over 65,535 bytes.
-pub record Worded (t : List ℕ) (i j : ℕ) : Type 0 where
-  pub order : i ≤ j
-  pub within : j < length t
-  pub short : j - i ≤ 65535
-  pub here : skip t i ≡ i
-  pub token : tokenAt key t i ≡ got (found (wordData i j) j)
-  pub behind : tokenAt default t j ≡ got (made colon j 1 (j + 1))
-  pub content : contentOf t false i j ≡ got (part t i (j - i))
+-- What a value's container reads its own values by.
+abbrev pub inner : List ℕ → ℕ → ℕ → Reads
+inner t room zero = λ want x n u. no tooDeep (x .index)
+inner t room (suc d) = valueAt t room d
 
 -- Elements of a list were read: on to `next`, their bytes stand from `at` up to `used`, and all else is as it was.
 pub record Ran (res : Out Row) (o : List ℕ) (at next used count : ℕ) (o′ : List ℕ) : Type 0 where
@@ -55,40 +37,7 @@ pub record Ran (res : Out Row) (o : List ℕ) (at next used count : ℕ) (o′ :
   pub fits : used ≤ length o
   pub wrote : o′ ≡ over o at (elementBytes (row .tags))
 
--- What stands where a key is due: the `}`; or an entry, with what follows it.
-pub data Entered : Type 0 where
-  stops : ℕ → ℕ → Entered
-  enters : List ℕ → Value → Then → Entered
-
-module _ (t : List ℕ) (room : ℕ) where
-  -- By whether a `}` stands there: refused with 21 behind a comma.
-  abbrev pub turnBy : Bool → Reads → ℕ → List (List ℕ) → ℕ → Next → ℕ → Out Entered
-  turnBy true val brace earlier last x u = do
-    guard (eqb last 0) trailingComma last
-    got (stops (x .td .index) (x .next))
-  turnBy false val brace earlier last x u = do
-    e ← entryAt t room val brace earlier x u
-    s ← following t room 125 (e .1 .next) unmatchedBrace brace
-    got (enters (e .0) (e .1) s)
-
-  -- One turn of `entriesBy`.
-  unfoldable pub entryTurn : Reads → ℕ → List (List ℕ) → ℕ → ℕ → ℕ → Out Entered
-  entryTurn val brace earlier last p u = do
-    x ← due t room key p unmatchedBrace brace
-    turnBy (eqb (signOf (x .td .token)) 125) val brace earlier last x u
-
-  -- A value that is due at p, read by its first token; at the text's end refusal 20 there.
-  unfoldable pub valueFrom : Reads → Stops → ℕ → ℕ → ℕ → Out Value
-  valueFrom val set want p u = do
-    x ← due t room set p textEnds (length t)
-    val want (x .td) (x .next) u
-
-  -- What a value's container reads its own values by.
-  abbrev pub inner : ℕ → Reads
-  inner zero = λ want x n u. no tooDeep (x .index)
-  inner (suc d) = valueAt t room d
-
--- What is written of it.
+-- What is written of what stands where a key is due.
 abbrev pub enteredBytes : Entered → List ℕ
 enteredBytes (stops i n) = []
 enteredBytes (enters s v th) = kindOf (v .tag) ∷ stringBytes s ++ payload (v .tag)

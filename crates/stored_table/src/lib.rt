@@ -124,7 +124,7 @@ fn list_kind_at(lines: &[u8], nine: bool, n: usize, i: usize) -> usize
     requires { ⌜ (i < n) × Lined (editionOf nine) (now lines) n ⌝ }
     ensures { λ r. ⌜ r ≡ listKindAt (lineWord (editionOf nine) (now (lines .entry))) i ⌝ }
 {
-    if word(lines, nine, i, table::KIND) != 9 {
+    if word(lines, nine, i, table::KIND) != table::kinds::LIST {
         return 0;
     }
     if word(lines, nine, i, table::COUNT) == 0 {
@@ -164,7 +164,7 @@ fn container_agrees(lines: &[u8], nine: bool, n: usize, i: usize) -> bool
         i,
         i + 1,
         end,
-        word(lines, nine, i, table::KIND) == 9,
+        word(lines, nine, i, table::KIND) == table::kinds::LIST,
     ) {
         Hops::All(hops) => hops == count,
         Hops::Broken => false,
@@ -213,7 +213,7 @@ pub fn is_table(doc_len: usize, lines: &[u8], nine: bool, n: usize) -> bool
     if n == 0 {
         return false;
     }
-    if word(lines, nine, 0, table::KIND) != 10 {
+    if word(lines, nine, 0, table::KIND) != table::kinds::COMPOUND {
         return false;
     }
     if word(lines, nine, 0, table::END) != n {

@@ -1,5 +1,7 @@
 // A record's words (rule 6, and 02 [7] for the ninth): the one place that knows how many there are and which is which. Reader, writer
 // and query go through these functions. Then rule 7: whether words form a table.
+pub mod kinds;
+
 ghost use mathlib.Core.Path.{_≡_};
 ghost use mathlib.Core.Bool.{true};
 ghost use Prim.Native.Nat.{ℕ, _+_, _*_, _≤_, _<_, _^_};
@@ -161,23 +163,23 @@ pub enum Hops {
 pub fn is_container(kind: usize) -> bool
     ensures { λ r. ⌜ r ≡ holds kind ⌝ }
 {
-    if kind == 9 {
+    if kind == kinds::LIST {
         return true;
     }
-    kind == 10
+    kind == kinds::COMPOUND
 }
 
 // The kinds of arrays.
 fn is_array(kind: usize) -> bool
     ensures { λ r. ⌜ r ≡ isArray kind ⌝ }
 {
-    if kind == 7 {
+    if kind == kinds::BYTE_ARRAY {
         return true;
     }
-    if kind == 11 {
+    if kind == kinds::INT_ARRAY {
         return true;
     }
-    kind == 12
+    kind == kinds::LONG_ARRAY
 }
 
 // The bytes of kinds 1 to 6, and of an element of an array (rule 4).
@@ -186,15 +188,15 @@ pub fn width_of(kind: usize) -> usize
     ensures { λ r. ⌜ r ≡ widthOf kind ⌝ }
 {
     match kind {
-        1 => 1,
-        2 => 2,
-        3 => 4,
-        4 => 8,
-        5 => 4,
-        6 => 8,
-        7 => 1,
-        11 => 4,
-        12 => 8,
+        kinds::BYTE => 1,
+        kinds::SHORT => 2,
+        kinds::INT => 4,
+        kinds::LONG => 8,
+        kinds::FLOAT => 4,
+        kinds::DOUBLE => 8,
+        kinds::BYTE_ARRAY => 1,
+        kinds::INT_ARRAY => 4,
+        kinds::LONG_ARRAY => 8,
         _ => 0,
     }
 }
@@ -214,16 +216,16 @@ pub fn leaf_fits(kind: usize, len: usize, count: usize) -> bool
     requires { ⌜ count < 2 ^ 32 ⌝ }
     ensures { λ r. ⌜ r ≡ leafFits kind len count ⌝ }
 {
-    if kind == 8 {
+    if kind == kinds::STRING {
         return count == 0;
     }
     if is_array(kind) {
         return len == count * width_of(kind);
     }
-    if kind == 0 {
+    if kind == kinds::END {
         return false;
     }
-    if 6 < kind {
+    if kinds::DOUBLE < kind {
         return false;
     }
     if len != width_of(kind) {
@@ -298,7 +300,7 @@ fn list_kind_at(table: &[u32], n: usize, i: usize) -> usize
     requires { ⌜ (i < n) × (length (now table) ≡ 9 * n) ⌝ }
     ensures { λ r. ⌜ r ≡ listKindAt (wordOf (now (table .entry))) i ⌝ }
 {
-    if word(table, i, KIND) != 9 {
+    if word(table, i, KIND) != kinds::LIST {
         return 0;
     }
     if word(table, i, COUNT) == 0 {
@@ -332,7 +334,7 @@ fn container_agrees(table: &[u32], n: usize, i: usize) -> bool
         return false;
     }
     let count = word(table, i, COUNT);
-    match hop_through(table, i, i + 1, end, word(table, i, KIND) == 9) {
+    match hop_through(table, i, i + 1, end, word(table, i, KIND) == kinds::LIST) {
         Hops::All(hops) => hops == count,
         Hops::Broken => false,
     }
@@ -385,7 +387,7 @@ pub fn is_table(doc_len: usize, table: &[u32]) -> Verdict
     if n == 0 {
         return Verdict::NoTable;
     }
-    if word(table, 0, KIND) != 10 {
+    if word(table, 0, KIND) != kinds::COMPOUND {
         return Verdict::NoTable;
     }
     if word(table, 0, END) != n {

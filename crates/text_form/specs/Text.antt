@@ -56,6 +56,16 @@ pub data Then : Type 0 where
   goesOn : ℕ → ℕ → Then
   closes : ℕ → ℕ → Then
 
+-- What stands last in an array or a compound that is being read: a comma at a place; or else, nothing or an element.
+pub data Last : Type 0 where
+  atStart : Last
+  afterComma : ℕ → Last
+
+-- 21 at the comma, where one stands last (rules 14 and 15).
+abbrev pub noComma : Last → Out (Unit {0})
+noComma atStart = got tt
+noComma (afterComma p) = no trailingComma p
+
 -- How a value is read: by the kind that it must have (0 for any), its first token, the next place and the bytes used.
 abbrev pub Reads : Type 0
 Reads = ℕ → TokenData → ℕ → ℕ → Out Value
@@ -196,22 +206,22 @@ module _ (t : List ℕ) (room : ℕ) where
 
   -- ---- arrays (rule 14)
 
-  -- The rest of an array of elements of w bytes that `[` at `brace` opened. `last` is the place of the comma that stands last, and 0 where an
-  -- element does or nothing: no comma stands at 0. Leading and doubled commas are taken. The first number bounds the turns.
-  unfoldable pub intsBy : ℕ → ℕ → ℕ → ℕ → ℕ → ℕ → Out Ints
+  -- The rest of an array of elements of w bytes that `[` at `brace` opened, behind what stands last. Leading and doubled commas are taken.
+  -- The first number bounds the turns.
+  unfoldable pub intsBy : ℕ → ℕ → ℕ → Last → ℕ → ℕ → Out Ints
   intsBy zero w brace last p u = no 0 0
   intsBy (suc f) w brace last p u = do
     x ← due later p unmatchedBrace brace
     elim (eqb (signOf (x .td .token)) 44) [
-      | true ↦ intsBy f w brace (x .td .index) (x .next) u
+      | true ↦ intsBy f w brace (afterComma (x .td .index)) (x .next) u
       | false ↦ elim (eqb (signOf (x .td .token)) 93) [
         | true ↦ do
-          guard (eqb last 0) trailingComma last
+          noComma last
           got (record { values = []; next = x .next; used = u })
         | false ↦ do
           z ← elementInt w (x .td .token) (x .td .index)
           fits (u + w) (x .td .index)
-          r ← intsBy f w brace 0 (x .next) (u + w)
+          r ← intsBy f w brace atStart (x .next) (u + w)
           got (record { values = z ∷ r .values; next = r .next; used = r .used })
       ]
     ]
@@ -220,7 +230,7 @@ module _ (t : List ℕ) (room : ℕ) where
   unfoldable pub arrayAt : ℕ → ℕ → ℕ → ℕ → Out Value
   arrayAt w brace p u = do
     fits (u + 4) brace
-    r ← intsBy (suc (length t)) w brace 0 p (u + 4)
+    r ← intsBy (suc (length t)) w brace atStart p (u + 4)
     got (record { tag = arrayTag w (r .values); next = r .next; used = r .used })
 
   -- ---- lists (rules 14 and 15)
@@ -344,20 +354,19 @@ module _ (t : List ℕ) (room : ℕ) where
     v ← val 0 (y .td) (y .next) (u + (3 + length s))
     got (s, v)
 
-  -- The rest of a compound whose `{` stands at `brace`, with the names so far. `last` is the place of the comma that stands last, and 0
-  -- before the first entry. The first number bounds the turns.
-  unfoldable pub entriesBy : ℕ → Reads → ℕ → List (List ℕ) → ℕ → ℕ → ℕ → Out Block
+  -- The rest of a compound whose `{` stands at `brace`, with the names so far, behind what stands last. The first number bounds the turns.
+  unfoldable pub entriesBy : ℕ → Reads → ℕ → List (List ℕ) → Last → ℕ → ℕ → Out Block
   entriesBy zero val brace earlier last p u = no 0 0
   entriesBy (suc f) val brace earlier last p u = do
     x ← due key p unmatchedBrace brace
     elim (eqb (signOf (x .td .token)) 125) [
       | true ↦ do
-        guard (eqb last 0) trailingComma last
+        noComma last
         closeAt (x .td .index) (x .next) u
       | false ↦ do
         e ← entryAt val brace earlier x u
         s ← following 125 (e .1 .next) unmatchedBrace brace
-        r ← behind (λ i n. entriesBy f val brace (e .0 ∷ earlier) i n (e .1 .used)) (e .1 .used) s
+        r ← behind (λ i n. entriesBy f val brace (e .0 ∷ earlier) (afterComma i) n (e .1 .used)) (e .1 .used) s
         got (record { entries = entry (e .0) (e .1 .tag) (r .entries); next = r .next; used = r .used })
     ]
 
@@ -366,7 +375,7 @@ module _ (t : List ℕ) (room : ℕ) where
   compoundAt left val brace p u = do
     guard (ltb 0 left) tooDeep brace
     fits u brace
-    entriesBy (suc (length t)) val brace [] 0 p u
+    entriesBy (suc (length t)) val brace [] atStart p u
 
   -- ---- values
 

@@ -1,14 +1,16 @@
 -- The code's tokens and answers as those of the definitions, case by case.
 -- Assumes nothing.
-use Prim.Native.Nat.{ℕ}
 use Rattle.form.specs.Answer.{Out, got, no}
 use Rattle.text_form.specs.Numbers as numbers
 use Rattle.text_form.specs.Lexing as rule
+use Rattle.text_form.specs.Text as text
 use Rattle.tokens.specs.declared.Token.{Token}
 use Rattle.tokens.specs.declared.Token.the-variants.{OpenCurly, ClosedCurly, OpenSquare, ClosedSquare, Comma, Colon, Semicolon, Str, Byte, Short, Int, Long, Float, Double}
 use Rattle.tokens.specs.declared.TokenData.{TokenData}
 use Rattle.tokens.specs.declared.Lexed.{Lexed}
 use Rattle.tokens.specs.declared.Lexed.the-variants.{Found, Ended, Refused}
+use Rattle.tokens.specs.declared.Last.{Last}
+use Rattle.tokens.specs.declared.Last.the-variants.{Start, Comma as Behind}
 use Rattle.tokens.specs.declared.Stops.{Stops}
 use Rattle.tokens.specs.declared.Stops.the-variants.{Default, Key, Value, First, Later}
 
@@ -46,3 +48,8 @@ stopsIs Key = rule.key
 stopsIs Value = rule.value
 stopsIs First = rule.first
 stopsIs Later = rule.later
+
+-- What stands last in an array or a compound.
+abbrev pub lastIs : Last → text.Last
+lastIs Start = text.atStart
+lastIs (Behind i) = text.afterComma (i .0)

@@ -1,8 +1,7 @@
 // Tokens by value, in the crate's words: what stands at a place of a text, and the named sets of stop characters (rules 10 and 11).
 // A token carries either a whole number or a double, or a span of the text; its index and its width can't serve as each other.
 ghost use mathlib.Core.Path.{_≡_};
-ghost use Rattle.text_form.specs.Text.{signOf};
-ghost use Rattle.tokens.specs.Answers.{tokenIs};
+ghost use Prim.Native.Nat.{_+_, _<_, _^_};
 
 // Where a token begins, in bytes.
 pub struct Index(pub usize);
@@ -53,28 +52,16 @@ pub enum Stops {
     Later,
 }
 
-// The character of a token that is a sign, and 0 for a string or a number.
-pub fn sign(token: Token) -> u8
-    ensures { λ r. ⌜ r ≡ signOf (tokenIs token) ⌝ }
+// What stands last in an array or a compound that is being read: a comma, by its index; or else, nothing or an element (rules 14 and 15).
+pub enum Last {
+    Start,
+    Comma(Index),
+}
+
+// A width with some characters more.
+pub fn wider(width: Width, more: usize) -> Width
+    requires { ⌜ width .0 + more < 2 ^ 64 ⌝ }
+    ensures { λ r. ⌜ r .0 ≡ width .0 + more ⌝ }
 {
-    match token {
-        Token::OpenCurly => b'{',
-        Token::ClosedCurly => b'}',
-        Token::OpenSquare => b'[',
-        Token::ClosedSquare => b']',
-        Token::Comma => b',',
-        Token::Colon => b':',
-        Token::Semicolon => b';',
-        Token::Str {
-            quoted: _,
-            start: _,
-            end: _,
-        } => 0,
-        Token::Byte(_) => 0,
-        Token::Short(_) => 0,
-        Token::Int(_) => 0,
-        Token::Long(_) => 0,
-        Token::Float(_) => 0,
-        Token::Double(_) => 0,
-    }
+    Width(width.0 + more)
 }

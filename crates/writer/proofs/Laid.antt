@@ -21,8 +21,8 @@ use Rattle.form.proofs.Spans.{part-length}
 use Rattle.form.proofs.EachKind.{by-kind}
 use Rattle.form.proofs.Leaves.{LeafSort, number, string, array, leaf-sort, array-kind, held-kind, fits-held}
 use Rattle.form.proofs.Values.{int-back, ints-back, ints-count, kind-is, fair-kind, many-is}
-use Rattle.writer.specs.Pieces.{nameBytes, leafBytes, listBytes, bodyBytes, laid}
-use Rattle.writer.proofs.Bytes.{length-string, length-array, length-fixed, leaf-is, body-list, body-compound, body-leaf, laid-one}
+use Rattle.judging.specs.Pieces.{nameBytes, leafBytes, listBytes, bodyBytes, laid}
+use Rattle.judging.proofs.Bytes.{length-string, length-array, length-fixed, leaf-is, body-list, body-compound, body-leaf, laid-one}
 
 -- A number below 256 is one byte.
 byte-is : (k : ℕ) → k < 256 → bytesOf 1 k ≡ k ∷ []
@@ -81,7 +81,9 @@ module _ (doc : List ℕ) (bytes : (i : ℕ) → getD doc i 0 < 256) where
           go bs p (string k c) = rw k (string-laid k ∙ p)
           go bs p (array a s) =
               array-kind (λ k. h .kind ≡ k → h .size ≡ h .count * widthOf k → payload (valueBy doc h ts es) ≡ bs) (h .kind) a
-              (λ q s. rw q (array-laid 1 (λ z. omega arith) (omega arith) s ∙ p)) (λ q s. rw q (array-laid 4 (λ z. omega arith) (omega arith) s ∙ p)) (λ q s. rw q (array-laid 8 (λ z. omega arith) (omega arith) s ∙ p))
+              (λ q s. rw q (array-laid 1 (λ z. omega arith) (omega arith) s ∙ p))
+              (λ q s. rw q (array-laid 4 (λ z. omega arith) (omega arith) s ∙ p))
+              (λ q s. rw q (array-laid 8 (λ z. omega arith) (omega arith) s ∙ p))
               refl s
 
   -- ---- containers
@@ -158,7 +160,8 @@ module _ (doc : List ℕ) (bytes : (i : ℕ) → getD doc i 0 < 256) where
       let r = both l later (w .3) in
       let k = fair-kind (length doc) h inner (w .1) in
       let b = body-laid h inner (w .2) i (w .1) in
-      let n = name-laid h (kindOf (valueBy doc h (tagsOf doc inner) (entriesOf doc inner))) (kind-is doc h (tagsOf doc inner) (entriesOf doc inner) (k .0) (k .1)) (omega (arith, k .1)) (w .0 .within) in
+      let id = kind-is doc h (tagsOf doc inner) (entriesOf doc inner) (k .0) (k .1) in
+      let n = name-laid h (kindOf (valueBy doc h (tagsOf doc inner) (entriesOf doc inner))) id (omega (arith, k .1)) (w .0 .within) in
       let body = bodyBytes doc h (laid doc (eqb (h .kind) 9) inner) in
       record {
         elements = λ x. b x ++ r .elements x;

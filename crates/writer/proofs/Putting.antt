@@ -13,13 +13,12 @@ use Rattle.form.specs.Spans.{over}
 use Rattle.form.specs.Table.{Head, Forest, none, node, _⊕_, word}
 use Rattle.form.specs.Tables.{Within}
 use Rattle.form.proofs.Digits.{digits-length as bytes-length}
-use Rattle.form.proofs.Table.{append-none}
-use Rattle.writer.specs.Pieces.{headOf, nameBytes, listBytes, leafBytes, bodyBytes, laid}
-use Rattle.writer.specs.Steps.{Rows, SomeRoom, OneRoom, Puts}
+use Rattle.judging.specs.Pieces.{headOf, nameBytes, listBytes, leafBytes, bodyBytes, laid}
+use Rattle.judging.specs.Steps.{Rows}
+use Rattle.writer.specs.Steps.{SomeRoom, OneRoom, Puts}
 use Rattle.writer.proofs.Puts.{puts-none, puts-number, puts-length, puts-then}
-use Rattle.writer.proofs.Bytes.{laid-none, laid-one, laid-node, laid-append, list-length, body-list, body-compound, body-leaf}
-use Rattle.writer.proofs.Rows.{Here, rows-here, rows-none, rows-head, rows-inner}
-use Rattle.writer.proofs.Judging.{append-one}
+use Rattle.judging.proofs.Bytes.{laid-none, laid-one, laid-node, laid-append, list-length, body-list, body-compound, body-leaf}
+use Rattle.judging.proofs.Rows.{Here, rows-here, walk-all, walk-more, here-on, here-rest, here-one, rows-head, rows-inner}
 
 -- ---- how far a walk over records side by side has come
 
@@ -55,9 +54,7 @@ module _ (doc t : List ℕ) (list : Bool) (end : ℕ) (o : List ℕ) (at : ℕ) 
     -- At the end all are done.
     pub way-end : end ≤ i → Puts (laid doc list f) o at o₁ here
     way-end l =
-        let z : w .rest ≡ none = rows-none doc t list i end (w .rest) (w .rows) l in
-        let all : f ≡ w .done = w .split ∙ ap (λ g. w .done ⊕ g) z ∙ append-none (w .done) in
-        subst (λ g. Puts (laid doc list g) o at o₁ here) (sym all) (w .puts)
+        subst (λ g. Puts (laid doc list g) o at o₁ here) (sym (walk-all (w .done) (w .split) (w .rows) l)) (w .puts)
 
     module _ (l : i < end) where
       -- The first of those left.
@@ -65,47 +62,41 @@ module _ (doc t : List ℕ) (list : Bool) (end : ℕ) (o : List ℕ) (at : ℕ) 
       first = rows-here doc t list i end (w .rest) (w .rows) l
 
       -- It alone, with those in it.
-      one : Forest
+      abbrev one : Forest
       one = node (first .head) (first .inner) none
 
       -- The bytes left are its own and those after it.
       parted : length (laid doc list (w .rest)) ≡ length (laid doc list one) + length (laid doc list (first .later))
-      unfolding one
       parted =
           ap (λ g. length (laid doc list g)) (first .is)
           ∙ ap length (laid-node doc list (first .head) (first .inner) (first .later))
           ∙ length-append (laid doc list one) (laid doc list (first .later))
 
-      -- It comes after this one, and no later than the end.
-      pub way-on : {next : ℕ} → next ≡ word t i 7 → (i < next) × (next ≤ end)
-      way-on e = let x = first .on in let z = first .ends in (omega arith, omega arith)
+      module _ {next : ℕ} (e : next ≡ word t i 7) where
+        -- The next record comes after this one, and no later than the end.
+        pub way-on : (i < next) × (next ≤ end)
+        way-on = here-on first refl e
 
-      -- There is room for the next record.
-      pub way-one : (s : Within (length doc) t) → {next : ℕ} → next ≡ word t i 7 → OneRoom doc t list i next o₁ here
-      unfolding one
-      way-one s e = record {
-        one = record { small = s; head = first .head; inner = first .inner; rows = subst (λ x. Rows doc t list i x (node (first .head) (first .inner) none)) (sym (e ∙ first .ends)) (first .one) };
-        room = omega (arith, way-length, w .puts .next, w .room, parted);
-      }
+        -- There is room for this one.
+        pub way-one : Within (length doc) t → OneRoom doc t list i next o₁ here
+        way-one s = record { one = here-one first refl e s; room = omega (arith, way-length, w .puts .next, w .room, parted) }
 
-      -- It is written.
-      pub way-next : (s : Within (length doc) t) → {next : ℕ} (e : next ≡ word t i 7) {o₂ : List ℕ} {there : ℕ}
-          → ((p : OneRoom doc t list i next o₁ here) → Puts (laid doc list (node (p .one .head) (p .one .inner) none)) o₁ here o₂ there)
-          → Way doc t list end f o at o₂ next there
-      unfolding way-one one
-      way-next s {next} e told =
-          let z : next ≡ _ = e ∙ first .ends in
-          let d = w .done ⊕ node (first .head) (first .inner) none in
-          let more = laid-append doc list (w .done) (node (first .head) (first .inner) none) in
-          let b = w .room in
-          record {
-            done = d;
-            rest = first .later;
-            split = w .split ∙ ap (λ y. w .done ⊕ y) (first .is) ∙ append-one (w .done) (first .head) (first .inner) (first .later);
-            rows = subst (λ y. Rows doc t list y end (first .later)) (sym z) (first .rest);
-            puts = rw more (puts-then (w .puts) (omega arith) (told (way-one s e)));
-            room = omega (arith, parted, ap length more, length-append (laid doc list (w .done)) (laid doc list (node (first .head) (first .inner) none)));
-          }
+        -- It is written.
+        pub way-next : (s : Within (length doc) t) {o₂ : List ℕ} {there : ℕ}
+            → ((p : OneRoom doc t list i next o₁ here) → Puts (laid doc list (node (p .one .head) (p .one .inner) none)) o₁ here o₂ there)
+            → Way doc t list end f o at o₂ next there
+        unfolding way-one
+        way-next s told =
+            let more = laid-append doc list (w .done) one in
+            let b = w .room in
+            record {
+              done = w .done ⊕ one;
+              rest = first .later;
+              split = walk-more (w .done) (w .split) first;
+              rows = here-rest first refl e;
+              puts = rw more (puts-then (w .puts) (omega arith) (told (way-one s)));
+              room = omega (arith, parted, ap length more, length-append (laid doc list (w .done)) (laid doc list one));
+            }
 
 -- ---- one record
 
@@ -125,6 +116,14 @@ module _ (doc t : List ℕ) (list : Bool) (n end : ℕ) (o : List ℕ) (at : ℕ
   -- The bytes before its payload.
   name : List ℕ
   name = nameBytes doc list h
+
+  -- Its head has the kind that its words have.
+  pub kind-is : {k : ℕ} → word t n 0 ≡ k → h .kind ≡ k
+  kind-is e = ap (λ x. x .kind) (sym head) ∙ e
+
+  -- The records in it stand in the table.
+  pub held-rows : {b : Bool} → eqb (h .kind) 9 ≡ b → Rows doc t b (n + 1) end inner
+  held-rows e = subst (λ x. Rows doc t x (n + 1) end inner) e (rows-inner doc t list n end h inner (p .one .rows))
 
   -- Its payload.
   body : List ℕ
@@ -180,14 +179,10 @@ module _ (doc t : List ℕ) (list : Bool) (n end : ℕ) (o : List ℕ) (at : ℕ
 
     -- A list: its id and count, then the elements.
     module _ (e : word t n 0 ≡ 9) where
-      -- The head says so too.
-      nine : h .kind ≡ 9
-      nine = ap (λ x. x .kind) (sym head) ∙ e
-
       -- Its payload is a head and elements.
       listed : body ≡ listBytes h ++ laid doc true inner
       unfolding body
-      listed = body-list doc h _ nine ∙ ap (λ b. listBytes h ++ laid doc b inner) (eq-eqb (h .kind) 9 nine)
+      listed = body-list doc h _ (kind-is e) ∙ ap (λ b. listBytes h ++ laid doc b inner) (eq-eqb (h .kind) 9 (kind-is e))
 
       -- There is room for the head.
       pub list-room : from + 5 ≤ length o₁
@@ -206,14 +201,10 @@ module _ (doc t : List ℕ) (list : Bool) (n end : ℕ) (o : List ℕ) (at : ℕ
         pub elements-fit : first + length (laid doc true inner) ≤ length o₂
         elements-fit = omega (arith, left, ap length listed, length-append (listBytes h) (laid doc true inner), started .next, puts-length started list-fits)
 
-        -- The elements stand in the table.
-        pub list-rows : Rows doc t true (n + 1) end inner
-        list-rows = subst (λ x. Rows doc t x (n + 1) end inner) (eq-eqb (h .kind) 9 nine) (rows-inner doc t list n end h inner (p .one .rows))
-
         -- So they may be written.
         abbrev pub list-some : SomeRoom doc t true (n + 1) end o₂ first
         list-some = record {
-          some = record { small = p .one .small; forest = inner; rows = list-rows };
+          some = record { small = p .one .small; forest = inner; rows = held-rows (eq-eqb (h .kind) 9 (kind-is e)) };
           room = elements-fit;
         }
 
@@ -224,27 +215,23 @@ module _ (doc t : List ℕ) (list : Bool) (n end : ℕ) (o : List ℕ) (at : ℕ
 
     -- A compound: the entries, then the end byte.
     module _ (e : word t n 0 ≡ 10) where
-      -- The head says so too.
-      ten : h .kind ≡ 10
-      ten = ap (λ x. x .kind) (sym head) ∙ e
+      -- So it is no list.
+      pub no-list : eqb (h .kind) 9 ≡ false
+      no-list = ne-eqb (h .kind) 9 (λ q. omega (arith, kind-is e))
 
       -- Its payload is entries and an end byte.
       entered : body ≡ laid doc false inner ++ bytesOf 1 0
       unfolding body
-      entered = body-compound doc h _ ten ∙ ap (λ b. laid doc b inner ++ bytesOf 1 0) (ne-eqb (h .kind) 9 (λ q. omega (arith, ten)))
+      entered = body-compound doc h _ (kind-is e) ∙ ap (λ b. laid doc b inner ++ bytesOf 1 0) no-list
 
       -- There is room for them.
       pub entries-fit : from + length (laid doc false inner) + 1 ≤ length o₁
       entries-fit = omega (arith, left, ap length entered, length-append (laid doc false inner) (bytesOf 1 0), bytes-length 1 0)
 
-      -- The entries stand in the table.
-      pub entry-rows : Rows doc t false (n + 1) end inner
-      entry-rows = subst (λ x. Rows doc t x (n + 1) end inner) (ne-eqb (h .kind) 9 (λ q. omega (arith, ten))) (rows-inner doc t list n end h inner (p .one .rows))
-
       -- So they may be written.
       abbrev pub compound-some : SomeRoom doc t false (n + 1) end o₁ from
       compound-some = record {
-        some = record { small = p .one .small; forest = inner; rows = entry-rows };
+        some = record { small = p .one .small; forest = inner; rows = held-rows no-list };
         room = omega (arith, entries-fit);
       }
 
@@ -255,4 +242,4 @@ module _ (doc t : List ℕ) (list : Bool) (n end : ℕ) (o : List ℕ) (at : ℕ
 
         -- They are written, and the end byte.
         pub put-compound : {o₃ : List ℕ} → o₃ ≡ over o₂ last (bytesOf 1 0) → Puts (laid doc list (node h inner none)) o at o₃ (last + 1)
-        put-compound g = joined entered (puts-then (told compound-some) (omega (arith, entries-fit)) (puts-number 1 0 (last + 1) refl g))
+        put-compound g = joined entered (puts-then (told compound-some) (omega (arith, entries-fit)) (puts-number 1 0 (last + 1) refl refl g))

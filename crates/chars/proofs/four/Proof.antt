@@ -1,73 +1,49 @@
 -- Right by its tests, one for each of the definition.
-use Rattle.form.specs.Decoding.{fourOf}
+-- Assumes nothing.
+use mathlib.Core.Path.{_≡_}
 use native.Mathlib.Omega.{arith}
 use borrow.Author.Tests.{lt-ltb, le-ltb, le-leb, lt-leb}
-use borrow.Author.Needs.{needs}
+use lib.Dec.{ltb, leb}
+use lib.Bits.{mask-lt}
+use Rattle.form.specs.Answer.{pick}
+use Rattle.form.specs.Decoding.{is, stuck, fourOf}
+use Rattle.chars.proofs.Sequences.{follows, four-is}
 use Rattle.chars.proofs.four.Statement.{statement}
 use Rattle.chars.proofs.four.Tie as tie
 
-returns : tie.Need-returns
-unfolding fourOf
-returns c = let a = c .before .args in simp (lt-ltb (a .b) 128 (omega arith))
+-- b, c and d have been tested
+abbrev b-of : tie.Else2 → tie.Start
+b-of c = c .before .before
 
-returns-2 : tie.Need-returns-2
-unfolding fourOf
-returns-2 c = let a = c .before .before .args in simp (le-ltb (a .b) 128 (omega arith), le-leb 192 (a .b) (omega arith))
+abbrev c-of : tie.Else4 → tie.Start
+c-of c = b-of (c .before .before)
 
-returns-3 : tie.Need-returns-3
-unfolding fourOf
-returns-3 c = let a = c .before .before .before .args in simp (le-ltb (a .b) 128 (omega arith), lt-leb 192 (a .b) (omega arith), lt-ltb (a .c) 128 (omega arith))
+abbrev d-of : tie.Else6 → tie.Start
+d-of c = c-of (c .before .before)
 
-returns-4 : tie.Need-returns-4
-unfolding fourOf
-returns-4 c = let a = c .before .before .before .before .args in simp (le-ltb (a .b) 128 (omega arith), lt-leb 192 (a .b) (omega arith), le-ltb (a .c) 128 (omega arith), le-leb 192 (a .c) (omega arith))
-
-returns-5 : tie.Need-returns-5
-unfolding fourOf
-returns-5 c = let a = c .before .before .before .before .before .args in simp (le-ltb (a .b) 128 (omega arith), lt-leb 192 (a .b) (omega arith), le-ltb (a .c) 128 (omega arith), lt-leb 192 (a .c) (omega arith), lt-ltb (a .d) 128 (omega arith))
-
-returns-6 : tie.Need-returns-6
-unfolding fourOf
-returns-6 c = let a = c .before .before .before .before .before .before .args in simp (le-ltb (a .b) 128 (omega arith), lt-leb 192 (a .b) (omega arith), le-ltb (a .c) 128 (omega arith), lt-leb 192 (a .c) (omega arith), le-ltb (a .d) 128 (omega arith), le-leb 192 (a .d) (omega arith))
-
-cast-join : tie.Need-cast-join
-cast-join c = search needs
-
-join-requires : tie.Need-join-requires
-join-requires c κs = search needs
-
-join-requires-2 : tie.Need-join-requires-2
-join-requires-2 c κs = search needs
-
-join-requires-3 : tie.Need-join-requires-3
-join-requires-3 c κs = search needs
-
-returns-7 : tie.Need-returns-7
-unfolding fourOf
-returns-7 c = let a = c .before .before .before .before .before .before .before .before .before .before .args in simp (le-ltb (a .b) 128 (omega arith), lt-leb 192 (a .b) (omega arith), le-ltb (a .c) 128 (omega arith), lt-leb 192 (a .c) (omega arith), le-ltb (a .d) 128 (omega arith), lt-leb 192 (a .d) (omega arith), ← c .before .before .before .join .ensures, ← c .before .before .join2 .ensures, ← c .before .join3 .ensures, lt-ltb _ _ (c .if7 .taken))
-
-returns-8 : tie.Need-returns-8
-unfolding fourOf
-returns-8 c = let a = c .before .before .before .before .before .before .before .before .before .before .before .args in simp (le-ltb (a .b) 128 (omega arith), lt-leb 192 (a .b) (omega arith), le-ltb (a .c) 128 (omega arith), lt-leb 192 (a .c) (omega arith), le-ltb (a .d) 128 (omega arith), lt-leb 192 (a .d) (omega arith), ← c .before .before .before .before .join .ensures, ← c .before .before .before .join2 .ensures, ← c .before .before .join3 .ensures, le-ltb _ _ (c .before .if7 .left), le-leb _ _ (c .if8 .taken))
-
-returns-9 : tie.Need-returns-9
-unfolding fourOf
-returns-9 c = let a = c .before .before .before .before .before .before .before .before .before .before .before .args in simp (le-ltb (a .b) 128 (omega arith), lt-leb 192 (a .b) (omega arith), le-ltb (a .c) 128 (omega arith), lt-leb 192 (a .c) (omega arith), le-ltb (a .d) 128 (omega arith), lt-leb 192 (a .d) (omega arith), ← c .before .before .before .before .join .ensures, ← c .before .before .before .join2 .ensures, ← c .before .before .join3 .ensures, le-ltb _ _ (c .before .if7 .left), lt-leb _ _ (c .if8 .left))
+joined : (c : tie.After-join3) → let a = d-of (c .before .before .before) .args in let u = c .join3 .result in
+    fourOf (a .a) (a .b) (a .c) (a .d) ≡ pick (ltb u 65536) stuck (pick (leb 1114112 u) stuck (is u 4))
+joined c =
+    four-is _ _ _ _ _ _ _ (omega arith) (omega arith) (omega arith) (omega arith) (omega arith) (omega arith)
+    (c .before .before .join .ensures) (c .before .join2 .ensures) (c .join3 .ensures)
 
 pub four-spec : {M : Type 1} → statement M
 four-spec =
     tie.close
     (tie.spec
-    returns
-    returns-2
-    returns-3
-    returns-4
-    returns-5
-    returns-6
-    cast-join
-    join-requires
-    join-requires-2
-    join-requires-3
-    returns-7
-    returns-8
-    returns-9)
+    (λ c. unfold fourOf in simp (lt-ltb (c .before .args .b) 128 (omega arith)))
+    (λ c. unfold fourOf in let b = c .before .before .args .b in simp (le-ltb b 128 (omega arith), le-leb 192 b (omega arith)))
+    (λ c. unfold fourOf in let a = b-of (c .before) .args in rw (follows (a .b) (omega arith) (omega arith)) (simp (lt-ltb (a .c) 128 (omega arith))))
+    (λ c. unfold fourOf in let a = b-of (c .before .before) .args in
+    rw (follows (a .b) (omega arith) (omega arith)) (simp (le-ltb (a .c) 128 (omega arith), le-leb 192 (a .c) (omega arith))))
+    (λ c. unfold fourOf in let a = c-of (c .before) .args in
+    rw (follows (a .b) (omega arith) (omega arith), follows (a .c) (omega arith) (omega arith)) (simp (lt-ltb (a .d) 128 (omega arith))))
+    (λ c. unfold fourOf in let a = c-of (c .before .before) .args in
+    rw (follows (a .b) (omega arith) (omega arith), follows (a .c) (omega arith) (omega arith)) (simp (le-ltb (a .d) 128 (omega arith), le-leb 192 (a .d) (omega arith))))
+    (λ c. omega (arith, mask-lt (d-of c .args .a) 3))
+    (λ c κs. omega (arith, mask-lt (d-of c .args .a) 3))
+    (λ c κs. omega (arith, mask-lt (d-of (c .before) .args .a) 3, c .join .ensures))
+    (λ c κs. omega (arith, mask-lt (d-of (c .before .before) .args .a) 3, c .before .join .ensures, c .join2 .ensures))
+    (λ c. rw (joined (c .before)) (simp (lt-ltb _ _ (c .if7 .taken))))
+    (λ c. rw (joined (c .before .before)) (simp (le-ltb _ _ (c .before .if7 .left), le-leb _ _ (c .if8 .taken))))
+    (λ c. rw (joined (c .before .before)) (simp (le-ltb _ _ (c .before .if7 .left), lt-leb _ _ (c .if8 .left)))))

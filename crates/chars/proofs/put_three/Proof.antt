@@ -1,4 +1,5 @@
 -- Right since the three stores are the bytes of the three groups.
+-- Assumes nothing.
 use Prim.Native.Nat.{_/_}
 use native.Mathlib.Omega.{arith}
 use borrow.Author.Needs.{needs}
@@ -12,13 +13,14 @@ pub put-three-spec : {M : Type 1} → statement M
 put-three-spec =
     tie.close
     (tie.spec
-    (λ c. search needs)  -- cast-out
-    (λ c. search needs)  -- slice-write-out
-    (λ c κs. search needs)  -- group-requires
-    (λ c. search needs)  -- add-out
-    (λ c. simp length-set (omega arith))  -- slice-write-out-2
-    (λ c κs. search needs)  -- group-requires-2
-    (λ c. search needs)  -- add-out-2
-    (λ c. simp length-set (omega arith))  -- slice-write-out-3
-    (λ c. search needs)  -- same-length
-    (λ c. let a = c .before .before .before .args in three-put (a .out .now) (a .at) _ _ _ _ _ _ (omega arith) (lead-three (a .u / 4096) (omega arith)) (c .before .group .ensures) (c .group2 .ensures)))  -- returns
+    (λ c. search needs)
+    (λ c. search needs)
+    (λ c κs. search needs)
+    (λ c. search needs)
+    (λ c. simp length-set (omega arith))
+    (λ c κs. search needs)
+    (λ c. search needs)
+    (λ c. simp length-set (omega arith))
+    (λ c. search needs)
+    (λ c. let a = c .before .before .before .args in
+    three-put (a .out .now) (a .at) _ _ _ _ _ _ (omega arith) (lead-three (a .u / 4096) (omega arith)) (c .before .group .ensures) (c .group2 .ensures)))

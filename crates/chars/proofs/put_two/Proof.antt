@@ -1,4 +1,5 @@
 -- Right since the two stores are the bytes of the two groups.
+-- Assumes nothing.
 use Prim.Native.Nat.{_/_}
 use native.Mathlib.Omega.{arith}
 use borrow.Author.Needs.{needs}
@@ -12,10 +13,10 @@ pub put-two-spec : {M : Type 1} → statement M
 put-two-spec =
     tie.close
     (tie.spec
-    (λ c. search needs)  -- cast-out
-    (λ c. search needs)  -- slice-write-out
-    (λ c κs. search needs)  -- group-requires
-    (λ c. search needs)  -- add-out
-    (λ c. simp length-set (omega arith))  -- slice-write-out-2
-    (λ c. search needs)  -- same-length
-    (λ c. let a = c .before .before .args in two-put (a .out .now) (a .at) _ _ _ _ (omega arith) (lead-two (a .u / 64) (omega arith)) (c .group .ensures)))  -- returns
+    (λ c. search needs)
+    (λ c. search needs)
+    (λ c κs. search needs)
+    (λ c. search needs)
+    (λ c. simp length-set (omega arith))
+    (λ c. search needs)
+    (λ c. let a = c .before .before .args in two-put (a .out .now) (a .at) _ _ _ _ (omega arith) (lead-two (a .u / 64) (omega arith)) (c .group .ensures)))

@@ -1,54 +1,38 @@
 -- Right by its tests, one for each of the definition.
-use Rattle.form.specs.Decoding.{threeOf}
+-- Assumes nothing.
+use mathlib.Core.Path.{_≡_}
 use native.Mathlib.Omega.{arith}
-use borrow.Author.Tests.{lt-ltb, le-ltb, le-leb, lt-leb}
-use borrow.Author.Needs.{needs}
+use borrow.Author.Tests.{lt-ltb, le-ltb, le-leb}
+use lib.Dec.{ltb}
+use lib.Bits.{mask-lt}
+use Rattle.form.specs.Answer.{pick}
+use Rattle.form.specs.Decoding.{is, stuck, threeOf}
+use Rattle.chars.proofs.Sequences.{follows, three-is}
 use Rattle.chars.proofs.three.Statement.{statement}
 use Rattle.chars.proofs.three.Tie as tie
 
-returns : tie.Need-returns
-unfolding threeOf
-returns c = let b = c .before .args .b in simp (lt-ltb b 128 (omega arith))
+-- b and c have been tested
+abbrev b-of : tie.Else2 → tie.Start
+b-of c = c .before .before
 
-returns-2 : tie.Need-returns-2
-unfolding threeOf
-returns-2 c = let b = c .before .before .args .b in simp (le-ltb b 128 (omega arith), le-leb 192 b (omega arith))
+abbrev c-of : tie.Else4 → tie.Start
+c-of c = b-of (c .before .before)
 
-returns-3 : tie.Need-returns-3
-unfolding threeOf
-returns-3 c = let a = c .before .before .before .args in let b = a .b in simp (le-ltb b 128 (omega arith), lt-leb 192 b (omega arith), lt-ltb (a .c) 128 (omega arith))
-
-returns-4 : tie.Need-returns-4
-unfolding threeOf
-returns-4 c = let a = c .before .before .before .before .args in let b = a .b in simp (le-ltb b 128 (omega arith), lt-leb 192 b (omega arith), le-ltb (a .c) 128 (omega arith), le-leb 192 (a .c) (omega arith))
-
-cast-join : tie.Need-cast-join
-cast-join c = search needs
-
-join-requires : tie.Need-join-requires
-join-requires c κs = search needs
-
-join-requires-2 : tie.Need-join-requires-2
-join-requires-2 c κs = search needs
-
-returns-5 : tie.Need-returns-5
-unfolding threeOf
-returns-5 c = let a = c .before .before .before .before .before .before .before .args in let b = a .b in simp (le-ltb b 128 (omega arith), lt-leb 192 b (omega arith), le-ltb (a .c) 128 (omega arith), lt-leb 192 (a .c) (omega arith), ← c .before .before .join .ensures, ← c .before .join2 .ensures, lt-ltb _ _ (c .if5 .taken))
-
-returns-6 : tie.Need-returns-6
-unfolding threeOf
-returns-6 c = let a = c .before .before .before .before .before .before .before .args in let b = a .b in simp (le-ltb b 128 (omega arith), lt-leb 192 b (omega arith), le-ltb (a .c) 128 (omega arith), lt-leb 192 (a .c) (omega arith), ← c .before .before .join .ensures, ← c .before .join2 .ensures, le-ltb _ _ (c .if5 .left))
+joined : (c : tie.After-join2) → let a = c-of (c .before .before) .args in let u = c .join2 .result in
+    threeOf (a .a) (a .b) (a .c) ≡ pick (ltb u 2048) stuck (is u 3)
+joined c = three-is _ _ _ _ _ (omega arith) (omega arith) (omega arith) (omega arith) (c .before .join .ensures) (c .join2 .ensures)
 
 pub three-spec : {M : Type 1} → statement M
 three-spec =
     tie.close
     (tie.spec
-    returns
-    returns-2
-    returns-3
-    returns-4
-    cast-join
-    join-requires
-    join-requires-2
-    returns-5
-    returns-6)
+    (λ c. unfold threeOf in simp (lt-ltb (c .before .args .b) 128 (omega arith)))
+    (λ c. unfold threeOf in let b = c .before .before .args .b in simp (le-ltb b 128 (omega arith), le-leb 192 b (omega arith)))
+    (λ c. unfold threeOf in let a = b-of (c .before) .args in rw (follows (a .b) (omega arith) (omega arith)) (simp (lt-ltb (a .c) 128 (omega arith))))
+    (λ c. unfold threeOf in let a = b-of (c .before .before) .args in
+    rw (follows (a .b) (omega arith) (omega arith)) (simp (le-ltb (a .c) 128 (omega arith), le-leb 192 (a .c) (omega arith))))
+    (λ c. omega (arith, mask-lt (c-of c .args .a) 4))
+    (λ c κs. omega (arith, mask-lt (c-of c .args .a) 4))
+    (λ c κs. omega (arith, mask-lt (c-of (c .before) .args .a) 4, c .join .ensures))
+    (λ c. rw (joined (c .before)) (simp (lt-ltb _ _ (c .if5 .taken))))
+    (λ c. rw (joined (c .before)) (simp (le-ltb _ _ (c .if5 .left)))))

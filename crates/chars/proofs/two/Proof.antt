@@ -1,37 +1,32 @@
 -- Right by its tests, one for each of the definition.
-use borrow.Author.Tests.{lt-ltb, le-ltb, le-leb, lt-leb, eq-eqb, ne-eqb}
+-- Assumes nothing.
+use mathlib.Core.Path.{_≡_}
 use native.Mathlib.Omega.{arith}
-use Rattle.form.specs.Decoding.{twoOf}
-use borrow.Author.Needs.{needs}
+use borrow.Author.Tests.{lt-ltb, le-ltb, le-leb, eq-eqb, ne-eqb}
+use lib.Dec.{ltb, eqb}
+use lib.Bits.{mask-lt}
+use Rattle.form.specs.Answer.{pick}
+use Rattle.form.specs.Decoding.{is, stuck, twoOf}
+use Rattle.chars.proofs.Sequences.{two-is}
 use Rattle.chars.proofs.two.Statement.{statement}
 use Rattle.chars.proofs.two.Tie as tie
 
-returns : tie.Need-returns
-unfolding twoOf
-returns c = let b = c .before .args .b in simp (lt-ltb b 128 (omega arith))
+abbrev start-of : tie.After-join → tie.Start
+start-of c = c .before .before .before
 
-returns-2 : tie.Need-returns-2
-unfolding twoOf
-returns-2 c = let b = c .before .before .args .b in simp (le-ltb b 128 (omega arith), le-leb 192 b (omega arith))
-
-cast-join : tie.Need-cast-join
-cast-join c = search needs
-
-join-requires : tie.Need-join-requires
-join-requires c κs = search needs
-
-returns-3 : tie.Need-returns-3
-unfolding twoOf
-returns-3 c = let b = c .before .before .before .before .args .b in simp (le-ltb b 128 (omega arith), lt-leb 192 b (omega arith), ← c .before .join .ensures, eq-eqb _ _ (c .if3 .taken))
-
-returns-4 : tie.Need-returns-4
-unfolding twoOf
-returns-4 c = let b = c .before .before .before .before .before .args .b in simp (le-ltb b 128 (omega arith), lt-leb 192 b (omega arith), ← c .before .before .join .ensures, ne-eqb _ _ (c .before .if3 .left), lt-ltb _ _ (c .if4 .taken))
-
-returns-5 : tie.Need-returns-5
-unfolding twoOf
-returns-5 c = let b = c .before .before .before .before .before .args .b in simp (le-ltb b 128 (omega arith), lt-leb 192 b (omega arith), ← c .before .before .join .ensures, ne-eqb _ _ (c .before .if3 .left), le-ltb _ _ (c .if4 .left))
+-- b follows a lead byte
+joined : (c : tie.After-join) → let u = c .join .result in
+    twoOf (start-of c .args .a) (start-of c .args .b) ≡ pick (eqb u 0) (is u 2) (pick (ltb u 128) stuck (is u 2))
+joined c = two-is _ _ _ (omega arith) (omega arith) (c .join .ensures)
 
 pub two-spec : {M : Type 1} → statement M
 two-spec =
-    tie.close (tie.spec returns returns-2 cast-join join-requires returns-3 returns-4 returns-5)
+    tie.close
+    (tie.spec
+    (λ c. unfold twoOf in simp (lt-ltb (c .before .args .b) 128 (omega arith)))
+    (λ c. unfold twoOf in let b = c .before .before .args .b in simp (le-ltb b 128 (omega arith), le-leb 192 b (omega arith)))
+    (λ c. omega (arith, mask-lt (c .before .before .args .a) 5))
+    (λ c κs. omega (arith, mask-lt (c .before .before .args .a) 5))
+    (λ c. rw (joined (c .before)) (simp (eq-eqb _ _ (c .if3 .taken))))
+    (λ c. rw (joined (c .before .before)) (simp (ne-eqb _ _ (c .before .if3 .left), lt-ltb _ _ (c .if4 .taken))))
+    (λ c. rw (joined (c .before .before)) (simp (ne-eqb _ _ (c .before .if3 .left), le-ltb _ _ (c .if4 .left)))))

@@ -17,15 +17,15 @@ returns-2 c = sym (entry-last _ _ (c .before .before .if1 .left) (c .if2 .taken)
 returns-4 : tie.Need-returns-4
 returns-4 c =
     let e = c .before .before in
-    sym (entry-kind _ _ (e .before .before .before .if1 .left) (e .before .if2 .left) (e .string-end .ensures (omega (arith, c .before .if3 .left)) .0) (c .if4 .taken))
+    sym (entry-kind _ _ (e .before .before .before .if1 .left) (e .before .if2 .left) (e .string-end .ensures (c .before .if3 .left) .0) (c .if4 .taken))
 
 sub-len : tie.Need-sub-t10
-sub-len c = omega (arith, c .before .before .string-end .ensures (omega (arith, c .before .if3 .left)) .1)
+sub-len c = omega (arith, c .before .before .string-end .ensures (c .before .if3 .left) .1)
 
 returns-5 : tie.Need-returns-5
 returns-5 c =
     let e = c .before .before in
-    named-end _ _ _ (e .before .before .before .if1 .left) (e .before .if2 .left) (c .if4 .left) (e .string-end .ensures (omega (arith, c .before .if3 .left)) .0)
+    named-end _ _ _ (e .before .before .before .if1 .left) (e .before .if2 .left) (c .if4 .left) (e .string-end .ensures (c .before .if3 .left) .0)
 
 pub entry-at-spec : {M : Type 1} → statement M
 entry-at-spec =

@@ -2,18 +2,15 @@
 -- Assumes nothing.
 use borrow.Author.Needs.{needs}
 use mathlib.Core.Path.{sym, _∙_}
-use Rattle.form.proofs.Fields.{leaf-fixed, leaf-string, leaf-array}
+use Rattle.form.proofs.Fields.{leaf-string, leaf-array}
 use Rattle.fields.proofs.leaf_at.Statement.{statement}
 use Rattle.fields.proofs.leaf_at.Tie as tie
 
-returns : tie.Need-returns
-returns c = c .bytes-at .ensures ∙ rw (c .before .width-of .ensures .0) (sym (leaf-fixed _ _ _ (c .before .before .if1 .taken)))
-
 returns-2 : tie.Need-returns-2
-returns-2 c = c .string-at .ensures ∙ sym (leaf-string _ _ _ (c .before .if2 .taken))
-
-returns-3 : tie.Need-returns-3
-returns-3 c = c .array-at .ensures ∙ rw (c .before .width-of2 .ensures .0) (sym (leaf-array _ _ _ (c .before .before .before .if1 .left) (c .before .before .if2 .left)))
+returns-2 c =
+    let at-width = c .before in
+    let at-rest = at-width .before in
+    c .array-at .ensures ∙ rw (at-width .width-of .ensures .0) (sym (leaf-array _ _ _ (at-rest .before .before .pre .0) (at-rest .match .rest .1)))
 
 pub leaf-at-spec : {M : Type 1} → statement M
 leaf-at-spec =
@@ -22,8 +19,5 @@ leaf-at-spec =
     (λ c κs. search needs)
     (λ c κs. search needs)
     (λ c κs. search needs)
-    (λ c κs. search needs)
-    (λ c κs. search needs)
-    returns
-    returns-2
-    returns-3)
+    (λ c. c .string-at .ensures ∙ sym (leaf-string _ _ _ (c .before .match .keys1)))
+    returns-2)

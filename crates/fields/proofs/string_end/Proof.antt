@@ -25,15 +25,15 @@ string-end-spec =
     tie.close
     (tie.spec
     (λ c. search needs)  -- sub-if1
-    (λ c h. absurd (omega arith))  -- returns
+    (λ c h. absurd (h refl))  -- returns
     (λ c. search needs)  -- add-start
     (λ c κs. search needs)  -- number-at-requires
     (λ c. search needs)  -- sub-if2
-    (λ c h. absurd (omega arith))  -- returns-2
+    (λ c h. absurd (h refl))  -- returns-2
     (λ c. search needs)  -- add-end
     (λ c. search needs)  -- sub-is-well-formed
     (λ c. search needs)  -- part-is-well-formed-start
     (λ c. search needs)  -- part-is-well-formed-end
     (λ c κs. search needs)  -- is-well-formed-requires
     returns-3
-    (λ c h. absurd (omega arith)))  -- returns-4
+    (λ c h. absurd (h refl)))  -- returns-4

@@ -13,20 +13,21 @@ use Rattle.gather.proofs.held.Tie as tie
 
 -- the start, where the side is known
 abbrev whole-start : tie.After-side → tie.Start
-whole-start c = c .before .before .before .before
+whole-start c = let at-lines = c .before .before in at-lines .before .before
 
 abbrev cut-start : tie.After-side2 → tie.Start
-cut-start c = c .before .before .before .before
+cut-start c = let at-lines = c .before .before in at-lines .before .before
 
 -- the side, where the record of a cut container is written
 abbrev side-of : tie.After-put2 → tie.After-side2
-side-of c = c .before .before .before .before .before .before
+side-of c = let at-wide = c .before .before in let at-first = at-wide .before .before in at-first .before .before
 
 container-requires : tie.Need-container-requires
 container-requires c κs =
-    let at-side = c .before .before .before .before in
+    let at-wide = c .before in
+    let at-side = at-wide .before .before .before in
     let asked = asked-known (at-side .side .given .1) (whole-start at-side .pre) in
-    omega (arith, asked, c .before .wide .ensures, c .wide2 .ensures)
+    omega (arith, asked, at-wide .wide .ensures, c .wide2 .ensures)
 
 -- the kind that is written for the elements of a cut container
 first-is : (c : tie.Joined1) → c .if1 .first ≡ pick (eqb (c .before .before .side2 .given .0 .1 .0) 0) 0 (cut-start (c .before .before) .args .inner)
@@ -52,7 +53,7 @@ put-line-requires c κs =
     let at-then = c .before in
     let at-side = side-of (at-then .before .before .before) in
     let asked = asked-known (at-side .side2 .given .1) (cut-start at-side .pre) in
-    (omega (arith, at-then .if2 .taken, asked .lines-fit), asked .level-le, asked .n-lt, asked .promised-lt, asked .count-lt)
+    (omega (arith, at-then .if2 .taken, asked .lines-fit), asked .level-le, asked .n-lt, asked .promised-lt, omega (arith, asked .promised-lt, asked .count-lt))
 
 add-t33 : tie.Need-add-t33
 add-t33 c =

@@ -8,10 +8,6 @@ use Rattle.keys.specs.Keys.{Sides}
 use Rattle.keys.proofs.Sides.{sides-start, sides-up, sides-down, sides-taken, sides-free}
 use Rattle.keys.proofs.halve.Statement.{statement}
 use Rattle.keys.proofs.halve.Tie as tie
-use Rattle.keys.proofs.halve.Reads as reads
-use Rattle.keys.proofs.halve.Lts as lts
-use Rattle.keys.proofs.order_name.Reads as order-name-reads
-use Rattle.keys.proofs.wide.Reads as wide-reads
 
 abbrev Inv-loop : tie.InvT-loop
 Inv-loop out keys base top key size low₀ high₀ low high = Sides out keys base top (take size key) low high
@@ -80,10 +76,14 @@ returns c =
     let n = c .before .before in
     let l = n .before .before .before .before in
     let s = l .before .before .before .before in
-    sides-taken (s .pre .0) _ {m = l .loop .low + (l .loop .high - l .loop .low) / 2} (l .loop .inv) (omega arith) (omega arith) (rw (c .enum-told3 .given .1, c .before .before .before .wide .ensures) at (n .order-name .ensures))
+    sides-taken (s .pre .0) _ {m = l .loop .low + (l .loop .high - l .loop .low) / 2} (l .loop .inv) (omega arith) (omega arith)
+    (rw (c .enum-told3 .given .1, c .before .before .before .wide .ensures) at (n .order-name .ensures))
 
 returns-2 : tie.Need-returns-2 Inv-loop μ-loop
-returns-2 c = sides-free (c .before .before .before .before .before .pre .0) _ (c .before .loop .inv) (c .loop-test .left)
+returns-2 c =
+    let at-shared-slice-known2 = c .before .before .before in
+    let start = at-shared-slice-known2 .before .before in
+    sides-free (start .pre .0) _ (c .before .loop .inv) (c .loop-test .left)
 
 pub halve-spec : {M : Type 1} → statement M
 halve-spec =

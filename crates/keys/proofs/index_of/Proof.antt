@@ -7,11 +7,6 @@ use Rattle.keys.proofs.Orders.{true-false}
 use Rattle.keys.proofs.Names.{name-fits, name-part}
 use Rattle.keys.proofs.index_of.Statement.{statement}
 use Rattle.keys.proofs.index_of.Tie as tie
-use Rattle.keys.proofs.index_of.Reads as reads
-use Rattle.keys.proofs.index_of.Lts as lts
-use Rattle.keys.proofs.count.Reads as count-reads
-use Rattle.keys.proofs.halve.Reads as halve-reads
-use Rattle.raw.proofs.u16_at.Reads as u16-at-reads
 
 add-at : tie.Need-add-at
 add-at c = omega arith
@@ -33,7 +28,9 @@ count-requires c κs = search needs
 
 halve-requires : tie.Need-halve-requires
 halve-requires c κs =
-    let s = c .before .before .before .before .before in
+    let at-shared-slice-known2 = c .before .before .before in
+    let start = at-shared-slice-known2 .before .before in
+    let s = start in
     (s .pre .0, name-fits (s .args .out .now) (s .args .place) (c .count .result) (c .count .ensures ∙ c .before .u16-at .ensures) (s .pre .1))
 
 enum-told : tie.Need-enum-told

@@ -4,8 +4,6 @@ use borrow.Author.Needs.{needs}
 use Rattle.keys.proofs.Runs.{joint-is}
 use Rattle.keys.proofs.joint.Statement.{statement}
 use Rattle.keys.proofs.joint.Tie as tie
-use Rattle.keys.proofs.joint.Reads as reads
-use Rattle.keys.proofs.joint.Lts as lts
 
 sub-result : tie.Need-sub-result
 sub-result c = search needs

@@ -5,8 +5,6 @@ use native.Mathlib.Omega.{arith}
 use Rattle.keys.proofs.Shifts.{Lifting, lifting-start, lifting-next, lifting-end}
 use Rattle.keys.proofs.lift.Statement.{statement}
 use Rattle.keys.proofs.lift.Tie as tie
-use Rattle.keys.proofs.lift.Reads as reads
-use Rattle.keys.proofs.lift.Lts as lts
 
 abbrev Inv-loop : tie.InvT-loop
 Inv-loop keys₀ from to n i₀ keys i = Lifting keys₀ keys from to n i

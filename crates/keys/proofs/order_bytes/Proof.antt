@@ -6,9 +6,6 @@ use Prim.Native.Nat.{_-_, _≤_}
 use Rattle.keys.proofs.Orders.{LeftOver, left-start, left-next, left-less, left-more, left-short, left-long, left-same}
 use Rattle.keys.proofs.order_bytes.Statement.{statement}
 use Rattle.keys.proofs.order_bytes.Tie as tie
-use Rattle.keys.proofs.order_bytes.Reads as reads
-use Rattle.keys.proofs.order_bytes.Lts as lts
-use Rattle.keys.proofs.lesser.Reads as lesser-reads
 
 abbrev Inv-loop : tie.InvT-loop
 Inv-loop out at n key size common i₀ i = (i ≤ common) × LeftOver out at n key size i
@@ -33,13 +30,17 @@ shared-slice-read-y c = omega arith
 
 returns : tie.Need-returns Inv-loop μ-loop
 returns c =
-    let l = c .before .before .before .before in
+    let in-loop = c .before .before .before in
+    let at-loop = in-loop .before in
+    let l = at-loop in
     let s = l .before .before .before .before in
     left-less _ _ _ _ _ _ (s .pre .0) (s .pre .1) (omega arith) (omega arith) (l .loop .inv .1) (c .if1 .taken)
 
 returns-2 : tie.Need-returns-2 Inv-loop μ-loop
 returns-2 c =
-    let l = c .before .before .before .before .before in
+    let at-shared-slice-known3 = c .before .before .before in
+    let at-loop = at-shared-slice-known3 .before .before in
+    let l = at-loop in
     let s = l .before .before .before .before in
     left-more _ _ _ _ _ _ (s .pre .0) (s .pre .1) (omega arith) (omega arith) (l .loop .inv .1) (c .if2 .taken)
 
@@ -51,7 +52,9 @@ loop-less c = omega arith
 
 loop-again : tie.Need-loop-again Inv-loop μ-loop
 loop-again c =
-    let l = c .before .before .before .before .before in
+    let at-shared-slice-known3 = c .before .before .before in
+    let at-loop = at-shared-slice-known3 .before .before in
+    let l = at-loop in
     let s = l .before .before .before .before in
     (omega arith, left-next _ _ _ _ _ _ (s .pre .0) (s .pre .1) (omega arith) (omega arith) (omega (arith, c .before .if1 .left, c .if2 .left)) (l .loop .inv .1))
 

@@ -6,11 +6,6 @@ use lib.ListN.{take}
 use Rattle.keys.proofs.Names.{order-named}
 use Rattle.keys.proofs.order_name.Statement.{statement}
 use Rattle.keys.proofs.order_name.Tie as tie
-use Rattle.keys.proofs.order_name.Reads as reads
-use Rattle.keys.proofs.order_name.Lts as lts
-use Rattle.keys.proofs.count.Reads as count-reads
-use Rattle.keys.proofs.order_bytes.Reads as order-bytes-reads
-use Rattle.raw.proofs.u16_at.Reads as u16-at-reads
 
 add-order-bytes : tie.Need-add-order-bytes
 add-order-bytes c = search needs
@@ -26,7 +21,9 @@ order-bytes-requires c κs = search needs
 
 returns : tie.Need-returns
 returns c =
-    let a = c .before .before .before .before .before .args in
+    let at-shared-slice-known2 = c .before .before .before in
+    let start = at-shared-slice-known2 .before .before in
+    let a = start .args in
     order-named (a .out .now) (a .place) (c .before .count .result) (take (a .size) (a .key .now)) (c .order-bytes .result)
     (c .before .count .ensures ∙ c .before .before .u16-at .ensures) (c .order-bytes .ensures)
 

@@ -7,8 +7,6 @@ use lib.ListN.{length-set}
 use Rattle.keys.proofs.Shifts.{Moved, moved-start, moved-next, moved-end}
 use Rattle.keys.proofs.put_in.Statement.{statement}
 use Rattle.keys.proofs.put_in.Tie as tie
-use Rattle.keys.proofs.put_in.Reads as reads
-use Rattle.keys.proofs.put_in.Lts as lts
 
 abbrev Inv-loop : tie.InvT-loop
 Inv-loop keys₀ top index place i₀ keys i = (index ≤ i) × (i ≤ top) × Moved keys₀ keys top i

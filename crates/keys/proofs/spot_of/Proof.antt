@@ -6,16 +6,15 @@ use lib.ListN.{take}
 use Rattle.keys.proofs.Runs.{taken-first, spot-second}
 use Rattle.keys.proofs.spot_of.Statement.{statement}
 use Rattle.keys.proofs.spot_of.Tie as tie
-use Rattle.keys.proofs.spot_of.Reads as reads
-use Rattle.keys.proofs.spot_of.Lts as lts
-use Rattle.keys.proofs.halve.Reads as halve-reads
-use Rattle.keys.proofs.joint.Reads as joint-reads
 
 joint-requires : tie.Need-joint-requires
 joint-requires c κs = let k = c .before .before .before .pre .0 in omega (arith, k .first .low, k .second .low)
 
 halve-requires : tie.Need-halve-requires
-halve-requires c κs = let s = c .before .before .before .before in (rw (c .joint .ensures) (s .pre .0 .first), s .pre .1)
+halve-requires c κs =
+    let at-shared-slice-known = c .before .before .before in
+    let start = at-shared-slice-known .before in
+    let s = start in (rw (c .joint .ensures) (s .pre .0 .first), s .pre .1)
 
 enum-told : tie.Need-enum-told
 enum-told c = search needs

@@ -2,7 +2,7 @@
 -- Assumes nothing.
 use mathlib.Core.Path.{ap}
 use borrow.Author.Needs.{needs}
-use Rattle.quotes.specs.Answers.{textOut}
+use Rattle.texts.specs.Answers.{textOut}
 use Rattle.tokens.specs.Answers.{stopsIs}
 use Rattle.lexer.proofs.Finds.{text-refused, off-character, on-a-character, place-within}
 use Rattle.lexer.proofs.token.Statement.{statement}

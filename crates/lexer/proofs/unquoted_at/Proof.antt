@@ -7,6 +7,10 @@ use Rattle.lexer.proofs.Finds.{reaches, unquoted-number, unquoted-strin
 use Rattle.lexer.proofs.unquoted_at.Statement.{statement}
 use Rattle.lexer.proofs.unquoted_at.Tie as tie
 
+-- the place behind the word
+abbrev word-of : tie.After-opens-number → tie.After-word-at
+word-of c = c .before .before .before
+
 pub unquoted-at-spec : {M : Type 1} → statement M
 unquoted-at-spec =
     tie.close
@@ -15,19 +19,24 @@ unquoted-at-spec =
     (λ c. search needs)
     (λ c κs. search needs)
     (λ c κs.
-    let v = c .before .before .before in
-    let s = v .before .before in
+    let w = word-of (c .before) in
+    let s = w .before .before in
     let a = s .args in
-    reaches (stopsIs (a .set)) (a .text .now) (a .i) (wordIs (v .word-at .result)) (v .word-at .ensures) (s .pre))
+    reaches (stopsIs (a .set)) (a .text .now) (a .i) (wordIs (w .word-at .result)) (w .word-at .ensures) (s .pre))
     (λ c κs. search needs)
     (λ c.
-    let o = c .before .before .before in
-    let v = o .before .before in
-    let a = v .before .before .args in
-    unquoted-number (stopsIs (a .set)) (a .text .now) (a .i) (wordIs (v .word-at .result)) (v .word-at .ensures) _ _ (o .opens-number .ensures) _ (c .before .before .if1 .taken) (c .before .number-at .ensures) (c .numeral-found .ensures))
+    let at-opens = c .before .before .before in
+    let w = word-of at-opens in
+    let a = w .before .before .args in
+    unquoted-number (stopsIs (a .set)) (a .text .now) (a .i) (wordIs (w .word-at .result)) (w .word-at .ensures) _ _ (at-opens .opens-number .ensures) _
+    (c .before .before .if1 .taken)
+    (c .before .number-at .ensures)
+    (c .numeral-found .ensures))
     (λ c κs. search needs)
     (λ c.
-    let o = c .before .before in
-    let v = o .before .before in
-    let a = v .before .before .args in
-    unquoted-string (stopsIs (a .set)) (a .text .now) (a .i) (wordIs (v .word-at .result)) (v .word-at .ensures) _ _ (o .opens-number .ensures) (c .before .if1 .left) (c .found .ensures)))
+    let at-opens = c .before .before in
+    let w = word-of at-opens in
+    let a = w .before .before .args in
+    unquoted-string (stopsIs (a .set)) (a .text .now) (a .i) (wordIs (w .word-at .result)) (w .word-at .ensures) _ _ (at-opens .opens-number .ensures)
+    (c .before .if1 .left)
+    (c .found .ensures)))

@@ -1,10 +1,9 @@
 -- `listing::list_lines` is safe and ends: the turns fall.
 -- Assumes nothing.
 use borrow.Author.Needs.{needs}
-use native.Mathlib.Omega.{arith}
-use Prim.Native.Nat.{_+_, _*_, _-_, _≤_, _<_}
-use mathlib.Core.Path.{_≡_, refl, sym, ap, _∙_}
-use lib.ListN.{length, length-set}
+use Prim.Native.Nat.{_-_}
+use mathlib.Core.Path.{_≡_, refl}
+use lib.ListN.{length}
 use Rattle.listing.proofs.list_lines.Statement.{statement}
 use Rattle.listing.proofs.list_lines.Tie as tie
 

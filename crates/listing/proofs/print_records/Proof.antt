@@ -1,10 +1,7 @@
 -- `listing::print_records` is safe and ends: i rises to n.
 -- Assumes nothing.
 use borrow.Author.Needs.{needs}
-use native.Mathlib.Omega.{arith}
-use Prim.Native.Nat.{_+_, _*_, _-_, _≤_, _<_}
-use mathlib.Core.Path.{_≡_, refl, sym, ap, _∙_}
-use lib.ListN.{length, length-set}
+use Prim.Native.Nat.{_-_, _≤_}
 use Rattle.listing.proofs.print_records.Statement.{statement}
 use Rattle.listing.proofs.print_records.Tie as tie
 

@@ -1,7 +1,9 @@
 -- Right since what is all plain is good, and else `judge` has the verdict.
+-- Assumes nothing.
 use borrow.Author.Needs.{needs}
 use Rattle.form.specs.Answer.{badString}
 use Rattle.mutf8.specs.declared.Checked.{Checked}
+use Rattle.mutf8.specs.declared.Coding.the-variants.{Modified}
 use Rattle.mutf8.proofs.Walks.{checked-is}
 use Rattle.mutf8.proofs.Alike.{plain-good}
 use Rattle.mutf8.proofs.check.Statement.{statement}
@@ -11,7 +13,7 @@ pub check-spec : {M : Type 1} → statement M
 check-spec =
     tie.close
     (tie.spec
-    (λ c κs. search needs)  -- is-plain-requires
-    (λ c. checked-is badString Checked.Good (plain-good _ (c .before .is-plain .ensures (c .if1 .taken))))  -- returns
-    (λ c κs. search needs)  -- judge-requires
-    (λ c. checked-is badString (c .judge .result) (c .judge .ensures)))  -- returns-2
+    (λ c κs. search needs)
+    (λ c. checked-is badString Checked.Good (plain-good Modified _ (c .before .is-plain .ensures (c .if1 .taken))))
+    (λ c κs. search needs)
+    (λ c. checked-is badString (c .judge .result) (c .judge .ensures)))

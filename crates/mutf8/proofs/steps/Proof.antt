@@ -1,79 +1,37 @@
 -- Right since each turn reads one value more, and the answer is where none was read or the stop was reached.
-use Prim.Native.Nat.{_-_, _≤_}
+-- Assumes nothing.
+use Prim.Native.Nat.{_+_, _-_, _≤_, _<_}
 use native.Mathlib.Omega.{arith}
 use borrow.Author.Needs.{needs}
 use lib.ListN.{length}
-use Rattle.form.specs.Decoding.{scalarOf}
-use Rattle.form.proofs.Scalars.{mutf8}
-use Rattle.mutf8.specs.Runs.{Walked, none}
 use Rattle.chars.proofs.Fronts.{told}
-use Rattle.mutf8.proofs.Walks.{common-scalar, walked-more, reach}
+use Rattle.mutf8.specs.Answers.{oneOf}
+use Rattle.mutf8.specs.Runs.{Walked, none}
+use Rattle.mutf8.proofs.Walks.{walked-more, reach}
 use Rattle.mutf8.proofs.Alike.{walked-plain}
 use Rattle.mutf8.proofs.steps.Statement.{statement}
 use Rattle.mutf8.proofs.steps.Tie as tie
 
 abbrev Inv-loop : tie.InvT-loop
-Inv-loop s at stop i₀ i = (at ≤ i) × (i ≤ length s) × Walked scalarOf s at i
+Inv-loop s at stop coding i₀ i = (at ≤ i) × (i ≤ length s) × Walked (oneOf coding) s at i
 
 abbrev μ-loop : tie.MeasureT-loop
-μ-loop s at stop i₀ i = length s - i
+μ-loop s at stop coding i₀ i = length s - i
 
-loop-holds : tie.Need-loop-holds Inv-loop μ-loop
-loop-holds c = (omega arith, c .before .pre .0, none)
+-- the turn of a byte that was looked at, and of a value that was read
+abbrev turn-of : tie.After-shared-slice-known2 Inv-loop μ-loop → tie.At-loop Inv-loop μ-loop
+turn-of c = c .before .before
 
-shared-slice-read-unplain : tie.Need-shared-slice-read-unplain Inv-loop μ-loop
-shared-slice-read-unplain c = omega arith
+abbrev call-of : tie.After-n Inv-loop μ-loop → tie.After-front-at Inv-loop μ-loop
+call-of c = c .before .before
 
-unplain-requires : tie.Need-unplain-requires Inv-loop μ-loop
-unplain-requires c κs = search needs
+abbrev value-of : tie.After-n Inv-loop μ-loop → tie.At-loop Inv-loop μ-loop
+value-of c = turn-of (call-of c .before .before .before)
 
-add-i : tie.Need-add-i Inv-loop μ-loop
-add-i c = omega arith
-
-loop-less : tie.Need-loop-less Inv-loop μ-loop
-loop-less c = omega arith
-
-loop-again : tie.Need-loop-again Inv-loop μ-loop
-loop-again c =
-    let v = c .before .before .before .before .loop .inv in
-    (omega arith, omega arith, walked-plain common-scalar _ _ _ (omega arith) (c .before .unplain .ensures (c .if1 .taken)) (v .2))
-
-scalar-at-requires : tie.Need-scalar-at-requires Inv-loop μ-loop
-scalar-at-requires c κs = search needs
-
-enum-known-n : tie.Need-enum-known-n Inv-loop μ-loop
-enum-known-n c = search needs
-
--- how far the value at i reaches
-add-i-2 : tie.Need-add-i-2 Inv-loop μ-loop
-add-i-2 c =
-    let l = c .before .before .before .before .before .before .before .before .loop in
-    let s = c .before .before .before .before .before .before .before .before .before .before .args .s .now in
-    omega (arith, reach mutf8 s (l .i) _ _ (c .before .before .before .scalar-at .result) (c .before .n .given .1) (c .before .before .before .scalar-at .ensures))
-
-loop-less-2 : tie.Need-loop-less-2 Inv-loop μ-loop
-loop-less-2 c =
-    let l = c .before .before .before .before .before .before .before .before .loop in
-    let s = c .before .before .before .before .before .before .before .before .before .before .args .s .now in
-    omega (arith, reach mutf8 s (l .i) _ _ (c .before .before .before .scalar-at .result) (c .before .n .given .1) (c .before .before .before .scalar-at .ensures))
-
-loop-again-2 : tie.Need-loop-again-2 Inv-loop μ-loop
-loop-again-2 c =
-    let l = c .before .before .before .before .before .before .before .before .loop in
-    let s = c .before .before .before .before .before .before .before .before .before .before .args .s .now in
-    let r = reach mutf8 s (l .i) _ _ (c .before .before .before .scalar-at .result) (c .before .n .given .1) (c .before .before .before .scalar-at .ensures) in
-    (omega (arith, l .inv .0, r .0), r .1, walked-more _ _ _ _ (c .before .before .before .scalar-at .result) (c .before .n .given .1) (c .before .before .before .scalar-at .ensures) (l .inv .2))
-
-enum-told : tie.Need-enum-told Inv-loop μ-loop
-enum-told c = search needs
-
-returns : tie.Need-returns Inv-loop μ-loop
-returns c =
-    let v = c .before .before .before .before .before .before .before .loop .inv in
-    record { on = v .0; within = v .1; walked = v .2; halted = λ _. told _ (c .before .before .scalar-at .ensures) (c .enum-told .given .1) }
-
-returns-2 : tie.Need-returns-2 Inv-loop μ-loop
-returns-2 c = let v = c .before .loop .inv in record { on = v .0; within = v .1; walked = v .2; halted = λ h. absurd (omega arith) }
+-- the value takes a byte at least, and no more than there are
+reached : (c : tie.After-n Inv-loop μ-loop) → let l = value-of c in let n = c .n .given .0 .1 .0 in
+    (0 < n) × (l .loop .i + n ≤ length (l .before .before .args .s .now))
+reached c = let a = value-of c .before .before .args in reach (a .coding) (a .s .now) _ _ _ _ (c .n .given .1) (call-of c .front-at .ensures)
 
 pub steps-spec : {M : Type 1} → statement M
 steps-spec =
@@ -81,17 +39,23 @@ steps-spec =
     (tie.spec
     Inv-loop
     μ-loop
-    loop-holds
-    shared-slice-read-unplain
-    unplain-requires
-    add-i
-    loop-less
-    loop-again
-    scalar-at-requires
-    enum-known-n
-    add-i-2
-    loop-less-2
-    loop-again-2
-    enum-told
-    returns
-    returns-2)
+    (λ c. (omega arith, c .before .pre .0, none))
+    (λ c. omega arith)
+    (λ c κs. search needs)
+    (λ c. omega arith)
+    (λ c. omega arith)
+    (λ c. let l = turn-of (c .before .before) in let a = l .before .before .args in
+    (omega arith, omega arith, walked-plain (a .coding) _ _ _ (omega arith) (c .before .unplain .ensures (c .if1 .taken)) (l .loop .inv .2)))
+    (λ c κs. search needs)
+    (λ c. search needs)
+    (λ c. omega (arith, reached (c .before)))
+    (λ c. omega (arith, reached (c .before)))
+    (λ c. let l = value-of (c .before) in let a = l .before .before .args in let r = reached (c .before) in (
+      omega (arith, l .loop .inv .0, r .0),
+      r .1,
+      walked-more (a .coding) (a .s .now) _ _ _ _ _ (c .before .n .given .1) (call-of (c .before) .front-at .ensures) (l .loop .inv .2),
+    ))
+    (λ c. search needs)
+    (λ c. let r = c .before .before in let v = turn-of (r .before .before .before) .loop .inv in
+    record { on = v .0; within = v .1; walked = v .2; halted = λ _. told _ (r .front-at .ensures) (c .enum-told .given .1) })
+    (λ c. let v = c .before .loop .inv in record { on = v .0; within = v .1; walked = v .2; halted = λ h. absurd (omega arith) }))

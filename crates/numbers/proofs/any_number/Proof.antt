@@ -20,7 +20,8 @@ returns c =
     let a = z .args in
     let h = le-trans (z .pre .0) (z .pre .1) in
     c .decimal-number .ensures
-    ∙ number-with (a .start) (a .end) (a .start) (a .text .now) h (z .pre .2) (point-behind (a .start) (a .end) (a .start) (a .text .now) h (z .pre .2) (a .at) (p .first-of .result) (p .first-of .ensures) (z .pre .0) (z .pre .3) (c .before .if1 .taken))
+    ∙ number-with (a .start) (a .end) (a .start) (a .text .now) h (z .pre .2)
+    (point-behind (a .start) (a .end) (a .start) (a .text .now) h (z .pre .2) (a .at) (p .first-of .result) (p .first-of .ensures) (z .pre .0) (z .pre .3) (c .before .if1 .taken))
 
 whole-number-requires : tie.Need-whole-number-requires
 whole-number-requires c κs = search needs
@@ -32,7 +33,8 @@ returns-2 c =
     let a = z .args in
     let h = le-trans (z .pre .0) (z .pre .1) in
     c .whole-number .ensures
-    ∙ number-without (a .start) (a .end) (a .start) (a .text .now) h (z .pre .2) (no-point-behind (a .start) (a .end) (a .start) (a .text .now) h (z .pre .2) (a .at) (p .first-of .result) (p .first-of .ensures) (z .pre .0) (z .pre .3) (c .before .if1 .left))
+    ∙ number-without (a .start) (a .end) (a .start) (a .text .now) h (z .pre .2)
+    (no-point-behind (a .start) (a .end) (a .start) (a .text .now) h (z .pre .2) (a .at) (p .first-of .result) (p .first-of .ensures) (z .pre .0) (z .pre .3) (c .before .if1 .left))
 
 pub any-number-spec : {M : Type 1} → statement M
 any-number-spec = tie.close (tie.spec first-of-requires decimal-number-requires returns whole-number-requires returns-2)

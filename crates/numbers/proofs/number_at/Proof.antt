@@ -28,7 +28,8 @@ behind-minus-requires c κs = search needs
 starts : (c : tie.After-behind-minus) → let a = c .before .before .before .args in (a .start ≤ c .behind-minus .result) × (c .behind-minus .result ≤ a .end)
 starts c =
     let z = c .before .before .before in
-    from-le (z .args .start) (z .args .end) (c .behind-minus .result) (c .before .minus-at .result) (z .args .text .now) (z .pre .0) (z .pre .1) (c .before .minus-at .ensures) (c .behind-minus .ensures)
+    from-le (z .args .start) (z .args .end) (c .behind-minus .result) (c .before .minus-at .result) (z .args .text .now) (z .pre .0) (z .pre .1) (c .before .minus-at .ensures)
+    (c .behind-minus .ensures)
 
 sub-if1 : tie.Need-sub-if1
 sub-if1 c = starts c .1
@@ -61,7 +62,10 @@ heads c =
     }
 
 tail-number-requires : tie.Need-tail-number-requires
-tail-number-requires c κs = (c .before .before .before .before .before .before .pre .1, heads (c .before))
+tail-number-requires c κs =
+    let at-behind-minus = c .before .before .before in
+    let start = at-behind-minus .before .before .before in
+    (start .pre .1, heads (c .before))
 
 -- the number of the digits is one of an i64
 fits : (c : tie.After-run-from) → leb (c .run-from .result .value) (pick (c .before .before .before .minus-at .result) (2 ^ 63) (2 ^ 63 - 1)) ≡ true
@@ -84,7 +88,8 @@ returns-3 c =
     let f = r .before .before in
     let z = f .before .before .before in
     ap (λ (n : ℤ). got (int n)) (toZ-ofZ w64 (c .signed-i64 .result) (record { sfits = c .signed-i64 .ok }) ∙ c .signed-i64 .ensures)
-    ∙ short-int (z .args .start) (z .args .end) (f .behind-minus .result) (f .before .minus-at .result) (z .args .text .now) (z .pre .0) (z .pre .1) (f .before .minus-at .ensures) (f .behind-minus .ensures) (r .run-from .result) (r .run-from .ensures)
+    ∙ short-int (z .args .start) (z .args .end) (f .behind-minus .result) (f .before .minus-at .result) (z .args .text .now) (z .pre .0) (z .pre .1) (f .before .minus-at .ensures)
+    (f .behind-minus .ensures) (r .run-from .result) (r .run-from .ensures)
     (t .before .if2 .left) (t .if3 .taken)
 
 add-if4 : tie.Need-add-if4
@@ -97,7 +102,10 @@ is-suffix-requires : tie.Need-is-suffix-requires
 is-suffix-requires c κs = search needs
 
 suffixed-number-requires : tie.Need-suffixed-number-requires
-suffixed-number-requires c κs = fits (c .before .before .before .before .before .before)
+suffixed-number-requires c κs =
+    let at-then4 = c .before .before .before in
+    let at-run-from = at-then4 .before .before .before in
+    fits (at-run-from)
 
 returns-4 : tie.Need-returns-4
 returns-4 c =
@@ -108,7 +116,8 @@ returns-4 c =
     let f = r .before .before in
     let z = f .before .before .before in
     c .suffixed-number .ensures
-    ∙ short-suffixed (z .args .start) (z .args .end) (f .behind-minus .result) (f .before .minus-at .result) (z .args .text .now) (z .pre .0) (z .pre .1) (f .before .minus-at .ensures) (f .behind-minus .ensures) (r .run-from .result) (r .run-from .ensures)
+    ∙ short-suffixed (z .args .start) (z .args .end) (f .behind-minus .result) (f .before .minus-at .result) (z .args .text .now) (z .pre .0) (z .pre .1) (f .before .minus-at .ensures)
+    (f .behind-minus .ensures) (r .run-from .result) (r .run-from .ensures)
     (e .if2 .left) (t .if4 .taken) (sym (x .is-suffix .ensures) ∙ c .before .if5 .taken)
 
 tail-number-requires-2 : tie.Need-tail-number-requires-2

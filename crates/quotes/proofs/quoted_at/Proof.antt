@@ -1,144 +1,91 @@
 -- Right since from each place on the token is what it is as a whole: a run of plain bytes, an escape or a character takes it on.
 -- Assumes nothing.
-use Prim.Native.Nat.{_+_, _-_, _≤_}
-use mathlib.Core.Path.{_≡_, refl, _∙_}
+use Prim.Native.Nat.{ℕ, _+_, _-_, _≤_}
+use mathlib.Core.Path.{_≡_, refl, sym, ap, _∙_}
 use native.Mathlib.Omega.{arith}
 use borrow.Author.Needs.{needs}
 use lib.ListN.{length, getD}
-use Rattle.quotes.proofs.Walks.{begins-le, reach, Going, going-start, going-closed, going-escape, going-refused, going-cut, going-character, going-open, going-plain}
+use Rattle.quotes.specs.declared.escapes.Escape.{Escape}
+use Rattle.quotes.specs.Answers.{escapeIs}
+use Rattle.texts.proofs.Texts.{begins-le}
+use Rattle.quotes.proofs.Walks.{Going, Stood, going-start, going-wide, going-closed, going-told, going-character, going-open, going-plain}
 use Rattle.quotes.proofs.quoted_at.Statement.{statement}
 use Rattle.quotes.proofs.quoted_at.Tie as tie
 
 abbrev Inv-loop : tie.InvT-loop
-Inv-loop text start q i₀ width₀ i width = (i ≤ length text) × (width ≤ i) × (q ≡ getD text start 0) × Going text start i width
+Inv-loop text start q i₀ width₀ i width = (i ≤ length text) × (width .0 ≤ i) × (q ≡ getD text start 0) × Going text start i (width .0)
 
 abbrev μ-loop : tie.MeasureT-loop
 μ-loop text start q i₀ width₀ i width = length text - i
 
+-- The places: where the function begins, where a turn does, and behind the turn's run of plain bytes.
+abbrev start-of : tie.At-loop Inv-loop μ-loop → tie.Start Inv-loop μ-loop
+start-of c = c .before .before .before
+
+abbrev turn-of : tie.After-wider Inv-loop μ-loop → tie.At-loop Inv-loop μ-loop
+turn-of c = c .before .before .before
+
+abbrev run-of : tie.Else2 Inv-loop μ-loop → tie.After-wider Inv-loop μ-loop
+run-of c = c .before .before .before
+
+abbrev escape-of : tie.After-known-told Inv-loop μ-loop → tie.After-escape-at Inv-loop μ-loop
+escape-of c = c .before .before .before
+
 -- what a run of plain bytes leaves
-ran : (c : tie.After-plain-end Inv-loop μ-loop)
-    → Going (c .before .before .before .before .before .args .text .now) (c .before .before .before .before .before .args .start) (c .plain-end .result)
-    (c .before .before .loop .width + (c .plain-end .result - c .before .before .loop .i))
+ran : (c : tie.After-wider Inv-loop μ-loop)
+    → let a = start-of (turn-of c) .args in Going (a .text .now) (a .start) (c .before .plain-end .result) (c .wider .result .0)
 ran c =
-    let l = c .before .before .loop in
-    let e = c .plain-end .ensures in
-    going-plain _ _ (l .i) _ (l .width) (e .0) (e .1) (e .2) (l .inv .3)
+    let l = turn-of c .loop in
+    let e = c .before .plain-end .ensures in
+    going-wide _ _ _ _ _ (c .wider .ensures) (going-plain _ _ (l .i) _ (l .width .0) (e .0) (e .1) (e .2) (l .inv .3))
 
-shared-slice-read-q : tie.Need-shared-slice-read-q Inv-loop μ-loop
-shared-slice-read-q c = omega arith
+-- what the escape behind it says, by the case that a `match` took of it
+stood : (c : tie.After-escape-at Inv-loop μ-loop) (v : Escape) → c .escape-at .result ≡ v
+    → let r = run-of (c .before .before) in let a = start-of (turn-of r) .args in
+    Stood (a .text .now) (a .start) (r .before .plain-end .result) (r .wider .result .0) v
+stood c v d =
+    let at-backslash = c .before in
+    let r = run-of (at-backslash .before) in
+    let told = sym (ap escapeIs d) ∙ c .escape-at .ensures in
+    going-told _ _ _ _ (omega arith) (ran r) (at-backslash .before .if2 .left) (at-backslash .if3 .taken) v told
 
-add-i : tie.Need-add-i Inv-loop μ-loop
-add-i c = omega arith
-
-loop-holds : tie.Need-loop-holds Inv-loop μ-loop
-loop-holds c = (omega arith, omega arith, refl, going-start _ _)
-
-plain-end-requires : tie.Need-plain-end-requires Inv-loop μ-loop
-plain-end-requires c κs = (omega arith, omega arith)
-
-sub-width : tie.Need-sub-width Inv-loop μ-loop
-sub-width c = omega arith
-
-add-width : tie.Need-add-width Inv-loop μ-loop
-add-width c = omega arith
-
-loop-less : tie.Need-loop-less Inv-loop μ-loop
-loop-less c = omega arith
-
-loop-again : tie.Need-loop-again Inv-loop μ-loop
-loop-again c = (omega arith, omega arith, refl, ran (c .before))
-
-shared-slice-read-b : tie.Need-shared-slice-read-b Inv-loop μ-loop
-shared-slice-read-b c = omega arith
-
-add-width-2 : tie.Need-add-width-2 Inv-loop μ-loop
-add-width-2 c = omega arith
+-- the bytes that the escape takes
+reached : (c : tie.After-known-told Inv-loop μ-loop)
+    → let r = run-of (escape-of c .before .before) in let n = c .before .bytes .given .0 .1 .0 in
+    (2 ≤ n) × (r .before .plain-end .result + n ≤ length (start-of (turn-of r) .args .text .now))
+reached c = let s = stood (escape-of c) _ (c .before .bytes .given .1) in (s .0, s .1)
 
 returns : tie.Need-returns Inv-loop μ-loop
-returns c = going-closed _ _ _ _ (omega arith) (ran (c .before .before .before)) (c .if2 .taken)
-
-escape-at-requires : tie.Need-escape-at-requires Inv-loop μ-loop
-escape-at-requires c κs = (omega arith, omega arith)
-
-enum-known-bytes : tie.Need-enum-known-bytes Inv-loop μ-loop
-enum-known-bytes c = search needs
-
--- how far the escape reaches
-reached : (c : tie.After-known-told Inv-loop μ-loop)
-    → (2 ≤ c .before .bytes .given .0 .1 .0) × (c .before .before .before .before .before .before .before .before .plain-end .result + c .before .bytes .given .0 .1 .0 ≤ length (c .before .before .before .before .before .before .before .before .before .before .before .before .before .args .text .now))
-reached c =
-    let e = c .before .before .before .escape-at in
-    let p = c .before .before .before .before .before .before .before .before in
-    reach (p .before .before .before .before .before .args .text .now) (p .plain-end .result) _ _ (e .result) (omega arith) (e .ensures) (c .before .bytes .given .1)
-
-add-i-2 : tie.Need-add-i-2 Inv-loop μ-loop
-add-i-2 c = omega (arith, reached c)
-
-add-width-3 : tie.Need-add-width-3 Inv-loop μ-loop
-add-width-3 c = omega (arith, reached c)
-
-loop-less-2 : tie.Need-loop-less-2 Inv-loop μ-loop
-loop-less-2 c = omega (arith, reached c)
+returns c =
+    let at-quote = c .before in
+    going-closed _ _ _ _ (omega arith) (ran (at-quote .before .before .before)) (at-quote .if2 .taken) _ (c .wider2 .ensures)
 
 loop-again-2 : tie.Need-loop-again-2 Inv-loop μ-loop
 loop-again-2 c =
-    let e = c .before .before .before .escape-at in
-    let g = ran (c .before .before .before .before .before .before .before .before) in (
-      reached c .1,
-      omega (arith, reached c),
-      refl,
-      going-escape _ _ _ _ (omega arith) g (c .before .before .before .before .before .if2 .left) (c .before .before .before .before .if3 .taken) (e .result) (e .ensures) _ _ (c .before .bytes .given .1),
-    )
-
-enum-known-number : tie.Need-enum-known-number Inv-loop μ-loop
-enum-known-number c = search needs
+    let at-bytes = c .before in
+    let s = stood (escape-of at-bytes) _ (at-bytes .before .bytes .given .1) in
+    (s .1, omega (arith, s .0, s .1), refl, going-wide _ _ _ _ _ (c .wider3 .ensures) (s .2))
 
 returns-2 : tie.Need-returns-2 Inv-loop μ-loop
-returns-2 c =
-    let e = c .before .before .before .escape-at in
-    let g = ran (c .before .before .before .before .before .before .before .before) in
-    going-refused _ _ _ _ (omega arith) g (c .before .before .before .before .before .if2 .left) (c .before .before .before .before .if3 .taken) (e .result) (e .ensures) _ _ (c .before .number .given .1)
-
-enum-told : tie.Need-enum-told Inv-loop μ-loop
-enum-told c = search needs
-
-left-open-requires : tie.Need-left-open-requires Inv-loop μ-loop
-left-open-requires c κs = search needs
+returns-2 c = let at-match = c .before .before in stood (at-match .before) _ (c .before .number .given .1)
 
 returns-3 : tie.Need-returns-3 Inv-loop μ-loop
-returns-3 c =
-    let e = c .before .before .before .escape-at in
-    let g = ran (c .before .before .before .before .before .before .before .before) in
-    c .left-open .ensures ∙ going-cut _ _ _ _ (omega arith) g (c .before .before .before .before .before .if2 .left) (c .before .before .before .before .if3 .taken) (e .result) (e .ensures) (c .before .enum-told .given .1)
+returns-3 c = let at-match = c .before .before in c .left-open .ensures ∙ stood (at-match .before) _ (c .before .enum-told .given .1)
 
-beginning-requires : tie.Need-beginning-requires Inv-loop μ-loop
-beginning-requires c κs = search needs
-
--- a character adds at most 1
-add-width-4 : tie.Need-add-width-4 Inv-loop μ-loop
-add-width-4 c = omega (arith, c .beginning .ensures, begins-le (getD (c .before .before .before .before .before .before .before .before .before .before .args .text .now) (c .before .before .before .before .before .plain-end .result) 0))
-
-add-i-3 : tie.Need-add-i-3 Inv-loop μ-loop
-add-i-3 c = omega arith
-
-loop-less-3 : tie.Need-loop-less-3 Inv-loop μ-loop
-loop-less-3 c = omega arith
+-- a byte begins one character at most
+one : (c : tie.After-begins Inv-loop μ-loop) → c .begins .result ≤ 1
+one c =
+    let r = run-of (c .before .before) in
+    omega (arith, c .begins .ensures, begins-le (getD (start-of (turn-of r) .args .text .now) (r .before .plain-end .result) 0))
 
 loop-again-3 : tie.Need-loop-again-3 Inv-loop μ-loop
 loop-again-3 c =
-    let p = c .before .before .before .before .before in
-    let b = getD (p .before .before .before .before .before .args .text .now) (p .plain-end .result) 0 in (
-      omega arith,
-      omega (arith, c .beginning .ensures, begins-le b),
-      refl,
-      rw (c .beginning .ensures) (going-character _ _ _ _ (omega arith) (ran p) (c .before .before .if2 .left) (c .before .if3 .left)),
-    )
-
-left-open-requires-2 : tie.Need-left-open-requires-2 Inv-loop μ-loop
-left-open-requires-2 c κs = search needs
-
-returns-4 : tie.Need-returns-4 Inv-loop μ-loop
-returns-4 c = c .left-open2 .ensures ∙ going-open _ _ _ _ (omega arith) (c .before .before .loop .inv .3)
+    let at-byte = c .before in
+    let other = at-byte .before .before in
+    let r = run-of other in
+    let step = going-character _ _ _ _ (omega arith) (ran r) (other .if2 .left) (at-byte .before .if3 .left) in
+    let wide = c .wider4 .ensures ∙ ap (λ (n : ℕ). r .wider .result .0 + n) (at-byte .begins .ensures) in
+    (omega arith, omega (arith, one at-byte), refl, going-wide _ _ _ _ _ wide step)
 
 pub quoted-at-spec : {M : Type 1} → statement M
 quoted-at-spec =
@@ -146,32 +93,32 @@ quoted-at-spec =
     (tie.spec
     Inv-loop
     μ-loop
-    shared-slice-read-q
-    add-i
-    loop-holds
-    plain-end-requires
-    sub-width
-    add-width
-    loop-less
-    loop-again
-    shared-slice-read-b
-    add-width-2
+    (λ c. omega arith)  -- shared-slice-read-q
+    (λ c. omega arith)  -- add-i
+    (λ c. (omega arith, omega arith, refl, going-start _ _))  -- loop-holds
+    (λ c κs. (omega arith, omega arith))  -- plain-end-requires
+    (λ c. omega arith)  -- sub-wider
+    (λ c κs. omega arith)  -- wider-requires
+    (λ c. omega arith)  -- loop-less
+    (λ c. (omega arith, omega arith, refl, ran (c .before)))  -- loop-again
+    (λ c. omega arith)  -- shared-slice-read-b
+    (λ c κs. omega arith)  -- wider-requires-2
     returns
-    escape-at-requires
-    enum-known-bytes
-    add-i-2
-    add-width-3
-    loop-less-2
+    (λ c κs. (omega arith, omega arith))  -- escape-at-requires
+    (λ c. search needs)  -- enum-known-bytes
+    (λ c. omega (arith, reached c))  -- add-i-2
+    (λ c κs. omega (arith, reached c))  -- wider-requires-3
+    (λ c. omega (arith, reached (c .before)))  -- loop-less-2
     loop-again-2
-    enum-known-number
+    (λ c. search needs)  -- enum-known-number
     returns-2
-    enum-told
-    left-open-requires
+    (λ c. search needs)  -- enum-told
+    (λ c κs. search needs)  -- left-open-requires
     returns-3
-    beginning-requires
-    add-width-4
-    add-i-3
-    loop-less-3
+    (λ c κs. search needs)  -- begins-requires
+    (λ c κs. omega (arith, one c))  -- wider-requires-4
+    (λ c. omega arith)  -- add-i-3
+    (λ c. omega arith)  -- loop-less-3
     loop-again-3
-    left-open-requires-2
-    returns-4)
+    (λ c κs. search needs)  -- left-open-requires-2
+    (λ c. c .left-open2 .ensures ∙ going-open _ _ _ _ (omega arith) (c .before .before .loop .inv .3)))  -- returns-4

@@ -14,26 +14,31 @@ use lib.ListN.{length}
 use Rattle.reader.proofs.document.Statement.{statement}
 use Rattle.reader.proofs.document.Tie as tie
 
--- the root's name
+-- the start, where the document is not too long and not empty
+abbrev start-of : tie.Else2 → tie.Start
+start-of c = let at-long = c .before in at-long .before .before .before
+
+-- the root's name, where it was read
+abbrev name-of : tie.After-known-told2 → tie.After-string-at
+name-of c = c .before .before .before
+
+abbrev some-of : tie.After-string-at → tie.Else2
+some-of c = let at-kind = c .before in at-kind .before .before
+
 abbrev span : tie.After-known-told2 → Span
 span c = let g = c .before .start .given .0 in record { start = g .0; size = g .1 .0; count = g .1 .1 .0; next = g .1 .1 .1 .0 }
 
-is : (c : tie.After-known-told2) → stringAt (c .before .before .before .before .before .before .before .before .before .before .args .doc .now) 1 ≡ got (span c)
-is c = sym (c .before .before .before .string-at .ensures) ∙ ap partOut (c .before .start .given .1)
-
-returns : tie.Need-returns
-returns c = (document-long _ _ (c .if1 .taken), refl)
-
-returns-2 : tie.Need-returns-2
-returns-2 c = (document-none _ _ (c .before .if1 .left) (c .if2 .taken), refl)
+is : (c : tie.After-known-told2) → stringAt (start-of (some-of (name-of c)) .args .doc .now) 1 ≡ got (span c)
+is c = sym (name-of c .string-at .ensures) ∙ ap partOut (c .before .start .given .1)
 
 root-requires : tie.Need-root-requires
 root-requires c κs =
-    let k = c .before .before .before .before .before in
-    let w = string-within _ _ (is (c .before)) in
-    let o = k .before .before .before .before .before .before in
-    let n = length (o .args .table .now) in
-    let l : length (o .args .doc .now) ≤ 16777216 = k .before .before .before .if1 .left in
+    let told = c .before in
+    let some = some-of (name-of told) in
+    let args = start-of some .args in
+    let w = string-within _ _ (is told) in
+    let n = length (args .table .now) in
+    let l : length (args .doc .now) ≤ 16777216 = some .before .if1 .left in
     record {
       ready = record { doc-le = l; at-le = w .to; cap-le = room-le n; fits = room-fits n; n-le = omega arith; above-le = omega arith };
       kind-le = omega arith;
@@ -43,25 +48,29 @@ root-requires c κs =
 
 returns-3 : tie.Need-returns-3
 returns-3 c =
-    let k = c .before .before .before .before in
-    (document-no _ _ (k .before .before .before .if1 .left) (omega arith) (k .if3 .taken) (sym (c .before .before .before .string-at .ensures) ∙ ap partOut (c .before .number .given .1)), refl)
+    let at-name = c .before .before .before in
+    let name-no = sym (at-name .string-at .ensures) ∙ ap partOut (c .before .number .given .1) in
+    (document-no _ _ (some-of at-name .before .if1 .left) (omega arith) (at-name .before .match .keys1) name-no, refl)
 
 returns-4 : tie.Need-returns-4
 returns-4 c =
-    let n = c .before .before in
-    let k = n .before .before .before .before .before .before in
-    rw (document-got _ _ (k .before .before .before .if1 .left) (omega arith) (k .if3 .taken) (is (n .before .before)))
-    (stepped-from (n .root .result) _ _ _ _ _ _ _ _ (n .root .ensures))
+    let at-root = c .before .before in
+    let told = at-root .before .before in
+    let at-name = name-of told in
+    rw (document-got _ _ (some-of at-name .before .if1 .left) (omega arith) (at-name .before .match .keys1) (is told))
+    (stepped-from (at-root .root .result) _ _ _ _ _ _ _ _ (at-root .root .ensures))
 
 returns-5 : tie.Need-returns-5
-returns-5 c = (document-kind _ _ (c .before .before .before .if1 .left) (omega arith) (c .if3 .left), refl)
+returns-5 c =
+    let some = c .before .before in
+    (document-kind _ _ (some .before .if1 .left) (omega arith) (c .match .rest .1), refl)
 
 pub document-spec : {M : Type 1} → statement M
 document-spec =
     tie.close
     (tie.spec
-    returns
-    returns-2
+    (λ c. (document-long _ _ (c .if1 .taken), refl))
+    (λ c. (document-none _ _ (c .before .if1 .left) (c .if2 .taken), refl))
     (λ c. search needs)
     (λ c κs. search needs)
     (λ c. search needs)

@@ -1,4 +1,4 @@
--- `reader::read` meets its contract.
+-- `reader::read` meets its contract: the answer is the document's, and a refusal clears the table.
 -- Assumes nothing.
 use borrow.Author.Needs.{needs}
 use Rattle.reader.proofs.Steps.{refused, accepted}
@@ -7,11 +7,19 @@ use Rattle.reader.proofs.read.Tie as tie
 
 returns : tie.Need-returns
 returns c =
-    let d = c .before .before .before .before .before .before .before .before .before in
-    refused _ (d .before .before .before .before .args .table .now) (d .document .last .1 .0) (rw (c .before .before .before .before .before .number .given .1) at (d .document .ensures) .0) (d .document .kept .1 .0) (c .before .before .clear .ensures)
+    let at-clear = c .before .before in
+    let told = at-clear .before .before in
+    let at-table = told .before .before .before in
+    let at-document = at-table .before .before in
+    let at-arg = at-document .before in
+    let d = at-document .document in
+    refused _ (at-arg .before .before .before .args .table .now) (d .last .1 .0) (rw (told .before .number .given .1) at (d .ensures) .0) (d .kept .1 .0)
+    (at-clear .clear .ensures)
 
 returns-2 : tie.Need-returns-2
-returns-2 c = accepted _ _ (rw (c .before .at .given .1) at (c .before .before .before .before .before .document .ensures))
+returns-2 c =
+    let at-table = c .before .before .before in
+    accepted _ _ (rw (c .before .at .given .1) at (at-table .before .before .document .ensures))
 
 pub read-spec : {M : Type 1} → statement M
 read-spec =

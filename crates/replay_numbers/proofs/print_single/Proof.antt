@@ -1,6 +1,6 @@
 -- `print_single` is safe: what is rounded is no NaN.
 -- Assumes nothing.
-use mathlib.Core.Path.{_≡_, sym, subst}
+use mathlib.Core.Path.{sym, subst}
 use mathlib.Core.Bool.{Bool, not}
 use Prim.Native.Nat.{ℕ, _%_, _^_, _≤_}
 use lib.Arith.{le→nltb}

@@ -1,8 +1,7 @@
 -- `replay` is safe and ends. The measure is the number of turns that are left; the buffers keep their lengths.
 -- Assumes nothing.
 use borrow.Author.Needs.{needs}
-use mathlib.Core.Path.{_≡_, refl, sym, _∙_}
-use native.Mathlib.Omega.{arith}
+use mathlib.Core.Path.{_≡_, refl}
 use lib.ListN.{length}
 use Rattle.replay_numbers.proofs.replay.Statement.{statement}
 use Rattle.replay_numbers.proofs.replay.Tie as tie

@@ -1,10 +1,7 @@
 -- `replay_strings::print_bytes` is safe and ends: i rises to n.
 -- Assumes nothing.
 use borrow.Author.Needs.{needs}
-use native.Mathlib.Omega.{arith}
-use Prim.Native.Nat.{_+_, _*_, _-_, _≤_, _<_}
-use mathlib.Core.Path.{_≡_, refl, sym, ap, _∙_}
-use lib.ListN.{length, length-set}
+use Prim.Native.Nat.{_-_, _≤_}
 use Rattle.replay_strings.proofs.print_bytes.Statement.{statement}
 use Rattle.replay_strings.proofs.print_bytes.Tie as tie
 

@@ -1,10 +1,8 @@
 -- `replay_tables::changed` is safe and ends: i rises to the number of words.
 -- Assumes nothing.
 use borrow.Author.Needs.{needs}
-use native.Mathlib.Omega.{arith}
-use Prim.Native.Nat.{_+_, _*_, _-_, _≤_, _<_}
-use mathlib.Core.Path.{_≡_, refl, sym, ap, _∙_}
-use lib.ListN.{length, length-set}
+use Prim.Native.Nat.{_-_, _≤_}
+use lib.ListN.{length}
 use Rattle.replay_tables.proofs.changed.Statement.{statement}
 use Rattle.replay_tables.proofs.changed.Tie as tie
 

@@ -12,13 +12,13 @@ abbrev records-of : tie.Else1 → tie.After-records
 records-of c = c .before .before
 
 abbrev gather-of : tie.After-slice-known5 → tie.After-gather
-gather-of c = c .before .before .before .before
+gather-of c = let at-table = c .before .before in at-table .before .before
 
 abbrev most-of : tie.After-gather → tie.After-most
 most-of c = c .before .before .before
 
 abbrev bytes-of : tie.After-most → tie.After-shared-slice-known
-bytes-of c = c .before .before .before .before
+bytes-of c = let at-changes = c .before in at-changes .before .before .before
 
 -- 24.
 returns : tie.Need-returns
@@ -30,7 +30,8 @@ returns c =
 
 tight-requires : tie.Need-tight-requires
 tight-requires c κs =
-    let at-test = c .before .before .before .before in
+    let at-more = c .before .before .before in
+    let at-test = at-more .before in
     let at-records = records-of at-test in
     let at-gather = gather-of (at-records .before .before) in
     let start = bytes-of (most-of at-gather) .before in
@@ -40,8 +41,11 @@ tight-requires c κs =
 -- More lines than were put.
 returns-2 : tie.Need-returns-2
 returns-2 c =
-    let at-tight = c .before .before .before .before .before .before in
-    let at-more = at-tight .before .before .before .before in
+    let at-out = c .before .before in
+    let at-table = at-out .before .before in
+    let at-tight = at-table .before .before in
+    let at-arg = at-tight .before in
+    let at-more = at-arg .before .before .before in
     let at-records = records-of (at-more .before) in
     let at-gather = gather-of (at-records .before .before) in
     let g = kept-in _ _ _ _ _ _ (at-gather .gather .result) (at-records .records .given .1) (at-gather .gather .ensures) in

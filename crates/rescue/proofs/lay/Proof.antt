@@ -11,13 +11,16 @@ use Rattle.rescue.proofs.lay.Tie as tie
 
 slice-aggregate-write : tie.Need-slice-aggregate-write
 slice-aggregate-write c =
-    let start = c .before .before .before .before in
+    let at-doc = c .before .before .before in
+    let start = at-doc .before in
     sym (length-take-le (9 * start .args .records) (start .args .table .now) (start .pre .fits))
 
 returns : tie.Need-returns
 returns c =
-    let at-write = c .before .before .before .before in
-    let at-doc = at-write .before .before .before .before .before in
+    let at-table = c .before .before in
+    let at-write = at-table .before .before in
+    let at-arg = at-write .before .before in
+    let at-doc = at-arg .before .before .before in
     laid-is _ _ _ _ _ _ _ _ (λ j. omega (arith, at-doc .shared-slice-known .given j)) (at-doc .before .pre) refl (at-write .write .ensures)
 
 pub lay-spec : {M : Type 1} → statement M

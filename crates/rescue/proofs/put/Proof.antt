@@ -11,11 +11,12 @@ use Rattle.rescue.proofs.put.Tie as tie
 
 -- The place where the bytes of the document are known.
 abbrev bytes-of : tie.After-put-arg2 → tie.After-shared-slice-known
-bytes-of c = c .before .before .before .before
+bytes-of c = let at-arg = c .before in at-arg .before .before .before
 
 slice-aggregate-put : tie.Need-slice-aggregate-put
 slice-aggregate-put c =
-    let start = c .before .before .before .before in
+    let at-doc = c .before .before .before in
+    let start = at-doc .before in
     sym (length-take-le (9 * start .args .records) (start .args .table .now) (start .pre .gathered .fits))
 
 put-requires : tie.Need-put-requires

@@ -9,13 +9,20 @@ use Rattle.rescue.proofs.rescue.Tie as tie
 
 -- The places that the ways to an answer go by: the call of the reader, its refusal, the call of `cut`.
 abbrev read-of : tie.After-number → tie.After-read
-read-of c = c .before .before .before .before
+read-of c = let at-match = c .before in at-match .before .before .before
 
 abbrev number-of : tie.After-cut → tie.After-number
-number-of c = c .before .before .before .before .before .before
+number-of c =
+    let at-arg = c .before in
+    let at-test = at-arg .before .before .before in
+    at-test .before .before
 
 abbrev cut-of : tie.After-clear → tie.After-cut
-cut-of c = c .before .before .before .before .before .before .before .before
+cut-of c =
+    let at-changes = c .before .before in
+    let at-out = at-changes .before .before in
+    let at-table = at-out .before .before in
+    at-table .before .before
 
 cut-requires : tie.Need-cut-requires
 cut-requires c κs =
@@ -35,7 +42,8 @@ returns c =
 -- 31.
 returns-2 : tie.Need-returns-2
 returns-2 c =
-    let at-read = c .before .before .before .before in
+    let at-match = c .before in
+    let at-read = at-match .before .before .before in
     rescue-accepted _ _ _ _ _ _ (ap readOut (c .enum-told .given .1)) (at-read .read .ensures)
 
 -- Another refusal.

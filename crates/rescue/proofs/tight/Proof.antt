@@ -10,10 +10,13 @@ use Rattle.rescue.proofs.tight.Tie as tie
 
 -- The places that the ways to an answer go by: the call of `lay`, the start.
 abbrev lay-of : tie.After-slice-known5 → tie.After-lay
-lay-of c = c .before .before .before .before
+lay-of c = let at-table = c .before .before in at-table .before .before
 
 abbrev start-of : tie.After-lay → tie.Start
-start-of c = c .before .before .before .before .before .before .before
+start-of c =
+    let at-changes = c .before .before .before in
+    let at-doc = at-changes .before .before .before in
+    at-doc .before
 
 -- The layout leaves the table as long as it was.
 gather-requires : tie.Need-gather-requires
@@ -34,8 +37,10 @@ returns c =
 -- The document is written, and the lines are put when all is gathered once more.
 returns-2 : tie.Need-returns-2
 returns-2 c =
-    let at-gather = c .before .before .before .before in
-    let at-bytes = at-gather .before .before .before .before in
+    let at-table = c .before .before in
+    let at-gather = at-table .before .before in
+    let at-arg = at-gather .before in
+    let at-bytes = at-arg .before .before .before in
     let at-lay = lay-of (at-bytes .before .before) in
     let start = start-of at-lay in
     tight-saved _ _ _ _ _ _ (start .pre) _ _ (at-lay .lay .ensures) _ (ap answerOut (at-bytes .bytes .given .1))

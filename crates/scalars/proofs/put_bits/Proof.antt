@@ -1,45 +1,57 @@
 -- `put_bits` meets its contract: kind and room are asked in their order, and the bytes are the number's, whatever the width.
 -- Assumes nothing.
 use borrow.Author.Needs.{needs}
-use mathlib.Core.Path.{refl, sym, _∙_}
+use Prim.Native.Nat.{_+_, _≤_}
+use mathlib.Core.Path.{refl}
 use native.Mathlib.Omega.{arith}
 use lib.ListN.{length}
 use Rattle.form.specs.Numbers.{bytesOf}
 use Rattle.form.proofs.Digits.{digits-length}
-use Rattle.scalars.proofs.Placing.{unbarred, placed-barred, placed-did}
+use Rattle.scalars.proofs.Placing.{admitted-room, placed-barred, placed-did}
 use Rattle.scalars.proofs.put_bits.Statement.{statement}
 use Rattle.scalars.proofs.put_bits.Tie as tie
 
-barred-requires : tie.Need-barred-requires
-barred-requires c κs = search needs
+-- The beginning, and where kind and room were asked.
+abbrev start-of : tie.After-admits → tie.Start
+start-of c = c .before .before .before
 
-put-number-requires : tie.Need-put-number-requires
-put-number-requires c κs =
-    let a = c .before .before .before .before .args in
-    let h = unbarred (a .spot .want) (a .kind) (length (a .out .now)) (a .spot .at) (a .width) (sym (c .before .before .barred .ensures) ∙ c .before .if1 .taken) .1 in
-    (c .before .before .before .before .pre, h)
+abbrev asked-of : tie.After-enum-told → tie.After-admits
+asked-of c = c .before .before
 
-add-t14 : tie.Need-add-t14
-add-t14 c =
-    let a = c .before .before .before .before .before .before .before .args in
-    let h = unbarred (a .spot .want) (a .kind) (length (a .out .now)) (a .spot .at) (a .width) (sym (c .before .before .before .before .before .barred .ensures) ∙ c .before .before .before .before .if1 .taken) .1 in
-    omega (arith, h)
-
-same-length : tie.Need-same-length
-same-length c = search needs
+-- There is room for the bytes.
+room : (c : tie.After-enum-told) → let a = start-of (asked-of c) .args in a .target .at + a .width ≤ length (a .out .now)
+room c =
+    let a = start-of (asked-of c) .args in
+    admitted-room (a .target .want) (a .kind) (length (a .out .now)) (a .target .at) (a .width) (c .enum-told .given .1) (asked-of c .admits .ensures)
 
 returns : tie.Need-returns
-returns c =
-    λ tag k s.
-    let a = c .before .before .before .before .before .before .before .args in
-    placed-did (a .out .now) (a .spot .want) (a .spot .place) (a .spot .next) (a .spot .at) (a .kind) (a .width) (bytesOf (a .width) (a .bits)) (digits-length (a .width) (a .bits)) tag k s (c .before .before .before .before .before .barred .ensures) (c .before .before .before .before .if1 .taken) (c .before .before .put-number .ensures)
+returns c tag k s =
+    let put = c .before .before in
+    let told = put .before .before in
+    let a = start-of (asked-of told) .args in
+    let t = a .target in
+    placed-did (a .out .now) (t .want) (t .index .0) (t .next) (t .at) (a .kind) (a .width) (bytesOf (a .width) (a .bits)) (digits-length (a .width) (a .bits)) tag k s
+    (told .enum-told .given .1) (asked-of told .admits .ensures) (put .put-number .ensures)
 
 returns-2 : tie.Need-returns-2
-returns-2 c =
-    λ tag k s.
-    let a = c .before .before .before .args in
-    (placed-barred (a .out .now) (a .spot .want) (a .spot .place) (a .spot .next) (a .spot .at) (a .kind) (a .width) (bytesOf (a .width) (a .bits)) (digits-length (a .width) (a .bits)) tag k s (c .before .barred .ensures) (c .if1 .left), refl)
+returns-2 c tag k s =
+    let told = c .before in
+    let asked = told .before .before in
+    let a = start-of asked .args in
+    let t = a .target in
+    let e = placed-barred (a .out .now) (t .want) (t .index .0) (t .next) (t .at) (a .kind) (a .width) (bytesOf (a .width) (a .bits)) (digits-length (a .width) (a .bits)) tag k s
+    (told .number .given .1) (asked .admits .ensures) in
+    (e, refl)
 
 pub put-bits-spec : {M : Type 1} → statement M
 put-bits-spec =
-    tie.close (tie.spec barred-requires put-number-requires add-t14 same-length returns returns-2)
+    tie.close
+    (tie.spec
+    (λ c κs. search needs)
+    (λ c. search needs)
+    (λ c κs. let told = c .before in (start-of (asked-of told) .pre, room told))
+    (λ c. let put = c .before .before in omega (arith, room (put .before .before)))
+    (λ c. search needs)
+    (λ c. search needs)
+    returns
+    returns-2)

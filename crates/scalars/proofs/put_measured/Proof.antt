@@ -2,106 +2,123 @@
 -- Assumes nothing.
 use borrow.Author.Needs.{needs}
 use Prim.Native.Nat.{_+_, _≤_}
-use mathlib.Core.Path.{_≡_, refl, sym, ap, _∙_}
-use mathlib.Core.List.{List}
+use mathlib.Core.Path.{_≡_, refl, sym, ap, _∙_, subst}
 use native.Mathlib.Omega.{arith}
 use lib.ListN.{length}
-use Rattle.form.specs.Answer.{got}
-use Rattle.form.specs.Numbers.{bytesOf}
-use Rattle.form.proofs.Digits.{digits-length}
-use Rattle.form.proofs.Table.{over-length}
 use Rattle.text_form.specs.Lexing.{contentOf}
-use Rattle.quotes.specs.Answers.{contentOut}
-use Rattle.scalars.proofs.Placing.{unbarred, content-is, content-no, string-refused, string-no, string-12, string-barred, string-did}
+use Rattle.contents.specs.declared.Contents.{Contents}
+use Rattle.contents.specs.Answers.{contentOut}
+use Rattle.contents.specs.Puts.{PutIs}
+use Rattle.contents.proofs.Fitted.{Sized, Long, sized}
+use Rattle.scalars.proofs.Placing.{admitted-room, string-refused, string-long, string-barred, string-did}
 use Rattle.scalars.proofs.put_measured.Statement.{statement}
 use Rattle.scalars.proofs.put_measured.Tie as tie
 
--- The content was asked for at the start.
-abbrev start : tie.After-content-length → tie.Start
-start c = c .before .before .before
+-- The beginning; where the content's length was asked for, and told.
+abbrev index-of : tie.After-content-length → tie.After-index
+index-of c = c .before
 
--- The content whose length was measured.
-measured : (c : tie.After-size) → let a = start (c .before .before) .args in (s : List _) × (contentOf (a .text .now) (a .quoted) (a .start) (a .end) ≡ got s) × (c .size .given .0 .0 ≡ length s)
-measured c = content-is _ _ (sym (ap contentOut (c .size .given .1)) ∙ c .before .before .content-length .ensures)
+abbrev start-of : tie.After-content-length → tie.Start
+start-of c = index-of c .before .before .before
 
--- The length was told before kind and room were asked.
-abbrev sized : tie.After-barred → tie.After-size
-sized c = c .before .before .before
+abbrev length-of : tie.After-known-told2 → tie.After-content-length
+length-of c = c .before .before .before
+
+-- Where kind and room were asked, and told; where the length was put.
+abbrev sized-of : tie.After-admits → tie.After-known-told2
+sized-of c = c .before .before
+
+abbrev asked-of : tie.After-enum-told → tie.After-admits
+asked-of c = c .before .before
+
+abbrev put-of : tie.After-put-content-arg → tie.After-put-number
+put-of c = c .before .before .before
+
+abbrev told-of : tie.After-put-content-arg → tie.After-enum-told
+told-of c = put-of c .before .before
+
+-- What is known of the content, by the case that the `match` took of its length.
+measured : (c : tie.After-content-length) {v : Contents} → c .content-length .result ≡ v
+    → let a = start-of c .args in Sized (contentOf (a .text .now) (a .quoted) (a .start) (a .end)) v
+measured c {v} d = sized _ v (sym (ap contentOut d) ∙ c .content-length .ensures)
+
+-- A content of the length that was told.
+long : (c : tie.After-known-told2) → let a = start-of (length-of c) .args in Long (contentOf (a .text .now) (a .quoted) (a .start) (a .end)) (c .before .size .given .0 .0)
+long c = measured (length-of c) (c .before .size .given .1)
 
 -- There is room for the length and the content.
-room : (c : tie.Then2) → let z = sized (c .before) in let a = start (z .before .before) .args in a .spot .at + (2 + z .size .given .0 .0) ≤ length (a .out .now)
+room : (c : tie.After-enum-told) → let z = sized-of (asked-of c) in let a = start-of (length-of z) .args in a .target .at + (2 + z .before .size .given .0 .0) ≤ length (a .out .now)
 room c =
-    let z = sized (c .before) in
-    let a = start (z .before .before) .args in
-    unbarred (a .spot .want) 8 (length (a .out .now)) (a .spot .at) (2 + z .size .given .0 .0) (sym (c .before .barred .ensures) ∙ c .if2 .taken) .1
+    let z = sized-of (asked-of c) in
+    let a = start-of (length-of z) .args in
+    admitted-room (a .target .want) 8 (length (a .out .now)) (a .target .at) (2 + z .before .size .given .0 .0) (c .enum-told .given .1) (asked-of c .admits .ensures)
 
+-- Over 65,535 bytes.
 returns : tie.Need-returns
 returns c =
-    let z = c .before .before in
-    let a = start (z .before .before) .args in
-    (string-12 (a .text .now) (a .quoted) (a .start) (a .end) (a .spot .want) (a .spot .place) (a .spot .next) (a .spot .at) (z .size .given .0 .0) (a .out .now) (measured z) (c .if1 .taken), refl)
-
-put-number-requires : tie.Need-put-number-requires
-put-number-requires c κs = (omega arith, omega (arith, room (c .before)))
-
--- From the content's call back to where there is room.
-abbrev roomy : tie.After-put-content-arg → tie.Then2
-roomy c = let put = c .before .before .before in put .before .before
+    let a = start-of (length-of (c .before)) .args in
+    let t = a .target in
+    (string-long (a .text .now) (a .quoted) (a .start) (a .end) (t .want) (t .index .0) (t .next) (t .at) (a .out .now) (long (c .before)) (c .if1 .taken), refl)
 
 put-content-requires : tie.Need-put-content-requires
 put-content-requires c κs =
-    let h = room (roomy c) in
-    let z = sized (roomy c .before) in
-    let s = start (z .before .before) in
-    let a = s .args in
-    let n = z .size .given .0 .0 in
-    let m = measured z in
-    let w = digits-length 2 n in
-    let l = ap length (c .before .before .before .put-number .ensures) ∙ over-length (a .out .now) (a .spot .at) (bytesOf 2 n) (omega (arith, h, w)) in
-    record { bytes = m .0; is = m .1; within = s .pre; fits = omega (arith, h, l, m .2) }
+    let z = sized-of (asked-of (told-of c)) in
+    let m = long z in
+    record { bytes = m .bytes; is = m .is; within = start-of (length-of z) .pre; fits = omega (arith, room (told-of c), put-of c .put-number .kept .0, m .size) }
 
+-- The content's own refusal.
 returns-2 : tie.Need-returns-2
 returns-2 c =
-    let last = c .before .before in
-    let put = last .before .before .before .before in
-    let t = roomy (last .before) in
-    let z = sized (t .before) in
-    let a = start (z .before .before) .args in
-    string-did (a .text .now) (a .quoted) (a .start) (a .end) (a .spot .want) (a .spot .place) (a .spot .next) (a .spot .at) (z .size .given .0 .0) (a .out .now) (measured z)
-    (t .before .before .if1 .left) (t .before .barred .ensures) (t .if2 .taken) (put .put-number .last .0) (last .put-content .last .1 .1 .1 .1 .0) (last .put-content .result) (put .put-number .ensures)
-    (last .put-content .ensures)
+    let told = c .before in
+    let asked = told .before .before in
+    let a = start-of asked .args in
+    let t = a .target in
+    (string-refused (a .text .now) (a .quoted) (a .start) (a .end) (t .want) (t .index .0) (t .next) (t .at) (a .out .now) (measured asked (told .number .given .1)), refl)
 
 returns-3 : tie.Need-returns-3
 returns-3 c =
-    let called = c .before .before .before in
-    let a = start called .args in
-    let e = content-no _ _ _ (sym (ap contentOut (c .before .number .given .1)) ∙ called .content-length .ensures) in
-    let n = string-no (a .text .now) (a .quoted) (a .start) (a .end) (a .spot .place) (length (a .out .now)) _ _ e in
-    (string-refused (a .text .now) (a .quoted) (a .start) (a .end) (a .spot .place) (length (a .out .now)) (a .spot .want) (a .spot .next) (a .spot .at) _ _ n, refl)
+    let last = c .before .before in
+    let told = told-of (last .before) in
+    let asked = asked-of told in
+    let z = sized-of asked in
+    let a = start-of (length-of z) .args in
+    let t = a .target in
+    let m = long z in
+    let put = put-of (last .before) .put-number in
+    let r = last .put-content in
+    let o = r .last .1 .1 .1 .1 .0 in
+    string-did (a .text .now) (a .quoted) (a .start) (a .end) (t .want) (t .index .0) (t .next) (t .at) (a .out .now) m (asked .before .if1 .left)
+    (told .enum-told .given .1) (asked .admits .ensures) (put .last .0) o (r .result) (put .ensures)
+    (subst (λ x. PutIs x (put .last .0) (t .at + 2) (r .result) o) (m .is) (r .ensures))
 
+-- Its kind or its room refuses it.
 returns-4 : tie.Need-returns-4
 returns-4 c =
-    let z = sized (c .before) in
-    let a = start (z .before .before) .args in
-    let n = z .size .given .0 .0 in
-    let e = string-barred (a .text .now) (a .quoted) (a .start) (a .end) (a .spot .want) (a .spot .place) (a .spot .next) (a .spot .at) n (a .out .now) (measured z) (c .before .before .if1 .left)
-    (c .before .barred .ensures) (c .if2 .left) in
+    let told = c .before in
+    let asked = told .before .before in
+    let z = sized-of asked in
+    let a = start-of (length-of z) .args in
+    let t = a .target in
+    let e = string-barred (a .text .now) (a .quoted) (a .start) (a .end) (t .want) (t .index .0) (t .next) (t .at) (a .out .now) (long z) (asked .before .if1 .left)
+    (told .number2 .given .1) (asked .admits .ensures) in
     (e, refl)
 
 pub put-measured-spec : {M : Type 1} → statement M
 put-measured-spec =
     tie.close
     (tie.spec
-    (λ c κs. search needs)  -- content-length-requires
-    (λ c. search needs)  -- enum-known-number
-    (λ c. search needs)  -- enum-known-size
+    (λ c κs. search needs)
+    (λ c. search needs)
+    (λ c. search needs)
     returns
-    (λ c. search needs)  -- add-barred
-    (λ c κs. search needs)  -- barred-requires
-    put-number-requires
-    (λ c. omega (arith, room (roomy c)))  -- add-put-content
+    (λ c. search needs)
+    (λ c κs. search needs)
+    (λ c. search needs)
+    (λ c κs. (omega arith, omega (arith, room (c .before))))
+    (λ c. omega (arith, room (told-of c)))
     put-content-requires
-    (λ c. search needs)  -- same-length
+    (λ c. search needs)
     returns-2
+    (λ c. search needs)
     returns-3
     returns-4)

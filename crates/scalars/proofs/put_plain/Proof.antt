@@ -2,68 +2,83 @@
 -- Assumes nothing.
 use borrow.Author.Needs.{needs}
 use Prim.Native.Nat.{_+_, _-_, _≤_}
-use mathlib.Core.Path.{refl, sym, ap, _∙_}
+use mathlib.Core.Path.{refl}
 use native.Mathlib.Omega.{arith}
 use lib.ListN.{length}
-use Rattle.form.specs.Numbers.{bytesOf}
-use Rattle.form.proofs.Digits.{digits-length}
-use Rattle.form.proofs.Table.{over-length}
-use Rattle.scalars.proofs.Placing.{unbarred, verbatim-is, verbatim-put, string-barred, string-did}
+use Rattle.scalars.proofs.Placing.{admitted-room, own-long, string-barred, string-did}
 use Rattle.scalars.proofs.put_plain.Statement.{statement}
 use Rattle.scalars.proofs.put_plain.Tie as tie
 
--- There is room for the length and the span.
-room : (c : tie.Then1) → let a = c .before .before .before .before .args in a .spot .at + (2 + (a .end - a .start)) ≤ length (a .out .now)
-room c =
-    let a = c .before .before .before .before .args in
-    unbarred (a .spot .want) 8 (length (a .out .now)) (a .spot .at) (2 + (a .end - a .start)) (sym (c .before .barred .ensures) ∙ c .if1 .taken) .1
+-- The beginning; where kind and room were asked, and told; where the length was put, and the span.
+abbrev index-of : tie.After-admits → tie.After-index
+index-of c = c .before
 
-put-number-requires : tie.Need-put-number-requires
-put-number-requires c κs = (omega arith, omega (arith, room (c .before)))
+abbrev start-of : tie.After-admits → tie.Start
+start-of c = index-of c .before .before .before
+
+abbrev asked-of : tie.After-enum-told → tie.After-admits
+asked-of c = c .before .before
+
+abbrev length-of : tie.After-copy-short-arg → tie.After-put-number
+length-of c = c .before .before .before
+
+abbrev told-of : tie.After-copy-short-arg → tie.After-enum-told
+told-of c = length-of c .before .before
+
+abbrev span-of : tie.After-slice-known3 → tie.After-copy-short
+span-of c = c .before .before
+
+-- There is room for the length and the span.
+room : (c : tie.After-enum-told) → let a = start-of (asked-of c) .args in a .target .at + (2 + (a .end - a .start)) ≤ length (a .out .now)
+room c =
+    let a = start-of (asked-of c) .args in
+    admitted-room (a .target .want) 8 (length (a .out .now)) (a .target .at) (2 + (a .end - a .start)) (c .enum-told .given .1) (asked-of c .admits .ensures)
 
 copy-short-requires : tie.Need-copy-short-requires
 copy-short-requires c κs =
-    let s = c .before .before .before .before .before .before .before .before .before in
-    let a = s .args in
-    let h = room (c .before .before .before .before .before) in
-    let w = digits-length 2 (a .end - a .start) in
-    let l = ap length (c .before .before .before .put-number .ensures) ∙ over-length (a .out .now) (a .spot .at) (bytesOf 2 (a .end - a .start)) (omega (arith, h, w)) in
-    (omega (arith, s .pre .0, s .pre .1), omega (arith, h, l))
+    let p = start-of (asked-of (told-of c)) .pre in
+    (omega (arith, p .0, p .1), omega (arith, room (told-of c), length-of c .put-number .kept .0))
 
 returns : tie.Need-returns
-returns c =
-    λ quoted.
-    let s = c .before .before .before .before .before .before .before .before .before .before .before .before in
+returns c quoted =
+    let span = span-of c in
+    let told = told-of (span .before) in
+    let asked = asked-of told in
+    let s = start-of asked in
     let a = s .args in
-    let p = s .pre in
-    string-did (a .text .now) quoted (a .start) (a .end) (a .spot .want) (a .spot .place) (a .spot .next) (a .spot .at) (a .end - a .start) (a .out .now)
-    (verbatim-is (a .text .now) (a .start) (a .end) (p .0) (p .1) (p .2) quoted) (omega (arith, p .2 .short))
-    (c .before .before .before .before .before .before .before .before .before .barred .ensures) (c .before .before .before .before .before .before .before .before .if1 .taken) (c .before .before .before .before .before .before .put-number .last .0) (c .before .before .copy-short .last .1 .1 .1 .0) _ (c .before .before .before .before .before .before .put-number .ensures)
-    (verbatim-put (a .text .now) (a .start) (a .end) (p .0) (p .1) (p .2) quoted _ _ _ _ refl (c .before .before .copy-short .ensures))
+    let t = a .target in
+    let own = own-long (a .text .now) (a .start) (a .end) (s .pre .0) (s .pre .1) (s .pre .2) quoted in
+    let put = length-of (span .before) .put-number in
+    string-did (a .text .now) quoted (a .start) (a .end) (t .want) (t .index .0) (t .next) (t .at) (a .out .now) own (omega (arith, s .pre .2 .short))
+    (told .enum-told .given .1) (asked .admits .ensures) (put .last .0) (span .copy-short .last .1 .1 .1 .0) _ (put .ensures)
+    (omega (arith, own .size), span .copy-short .ensures)
 
 returns-2 : tie.Need-returns-2
-returns-2 c =
-    λ quoted.
-    let s = c .before .before .before .before in
+returns-2 c quoted =
+    let told = c .before in
+    let asked = told .before .before in
+    let s = start-of asked in
     let a = s .args in
-    let p = s .pre in (
-      string-barred (a .text .now) quoted (a .start) (a .end) (a .spot .want) (a .spot .place) (a .spot .next) (a .spot .at) (a .end - a .start) (a .out .now)
-          (verbatim-is (a .text .now) (a .start) (a .end) (p .0) (p .1) (p .2) quoted) (omega (arith, p .2 .short)) (c .before .barred .ensures) (c .if1 .left),
-      refl,
-    )
+    let t = a .target in
+    let own = own-long (a .text .now) (a .start) (a .end) (s .pre .0) (s .pre .1) (s .pre .2) quoted in
+    let e = string-barred (a .text .now) quoted (a .start) (a .end) (t .want) (t .index .0) (t .next) (t .at) (a .out .now) own (omega (arith, s .pre .2 .short))
+    (told .number .given .1) (asked .admits .ensures) in
+    (e, refl)
 
 pub put-plain-spec : {M : Type 1} → statement M
 put-plain-spec =
     tie.close
     (tie.spec
-    (λ c. search needs)  -- sub-size
-    (λ c. search needs)  -- add-barred
-    (λ c κs. search needs)  -- barred-requires
-    put-number-requires
-    (λ c. omega (arith, room (c .before .before .before .before .before)))  -- add-copy-short
+    (λ c. search needs)
+    (λ c. search needs)
+    (λ c κs. search needs)
+    (λ c. search needs)
+    (λ c κs. (omega arith, omega (arith, room (c .before))))
+    (λ c. omega (arith, room (told-of c)))
     copy-short-requires
-    (λ c. omega (arith, room (c .before .before .before .before .before .before .before .before)))  -- add-t19
-    (λ c. omega (arith, room (c .before .before .before .before .before .before .before .before)))  -- add-t20
-    (λ c. search needs)  -- same-length
+    (λ c. omega (arith, room (told-of (span-of c .before))))
+    (λ c. omega (arith, room (told-of (span-of c .before))))
+    (λ c. search needs)
+    (λ c. search needs)
     returns
     returns-2)

@@ -3,14 +3,11 @@
 use Prim.Native.Nat.{ℕ, _<_, _≤_, _+_, _*_, _-_, _/_}
 use lib.ListN.{length}
 use mathlib.Core.Bool.{not}
-use mathlib.Core.Path.{_≡_, refl, subst}
-use borrow.Author.Needs.{needs}
+use mathlib.Core.Path.{refl, subst}
 use borrow.Fn.Kinds.{In, Out}
 use borrow.Fn.PlainCycle.{Measures, is, falls, and}
 use native.Mathlib.Omega.{arith}
-use Rattle.siblings.specs.Lists.{Row, Sorts}
-use Rattle.siblings.specs.Links.{Mem, walk}
-use Rattle.siblings.specs.Names.{endOf}
+use Rattle.siblings.specs.Lists.{Sorts}
 use Rattle.siblings.proofs.Sorts.{sorts-one, not-not, row-left, row-right, sorts-two, sorts-join}
 use Rattle.siblings.proofs.Walks.{walk-first}
 use Rattle.siblings.proofs.sort.Reads as sort

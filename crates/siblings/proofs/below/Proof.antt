@@ -1,6 +1,6 @@
 -- `siblings::below` meets its contract.
 -- Assumes nothing.
-use mathlib.Core.Path.{_≡_, sym}
+use mathlib.Core.Path.{sym}
 use Rattle.siblings.proofs.Answers.{found-at, found-nothing}
 use Rattle.siblings.proofs.below.Statement.{statement}
 use Rattle.siblings.proofs.below.Tie as tie

@@ -1,16 +1,13 @@
 -- `siblings::blank` meets its contract.
 -- Assumes nothing.
 use native.Mathlib.Omega.{arith}
-use Prim.Native.Nat.{ℕ, _+_, _-_, _≤_, _<_}
+use Prim.Native.Nat.{ℕ, _-_, _≤_, _<_}
 use mathlib.Core.Path.{_≡_}
 use Rattle.siblings.specs.Links.{link}
 use Rattle.siblings.specs.Cells.{Blank}
 use Rattle.siblings.proofs.Cells.{blank-next}
 use Rattle.siblings.proofs.blank.Statement.{statement}
 use Rattle.siblings.proofs.blank.Tie as tie
-use Rattle.siblings.proofs.blank.Reads as reads
-use Rattle.siblings.proofs.blank.Lts as lts
-use Rattle.siblings.proofs.cell.Reads as cell-reads
 
 abbrev Inv-loop : tie.InvT-loop
 Inv-loop table from to k₀ k = (from ≤ k) × ((z : ℕ) → from ≤ z → z < k → link table z ≡ 0)

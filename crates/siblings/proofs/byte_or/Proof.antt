@@ -1,14 +1,11 @@
 -- `siblings::byte_or` meets its contract.
 -- Assumes nothing.
 use native.Mathlib.Omega.{arith}
-use mathlib.Core.Path.{_≡_, _∙_}
+use mathlib.Core.Path.{_∙_}
 use Rattle.siblings.proofs.Cells.{byte-in, byte-out}
 use borrow.Author.Needs.{needs}
 use Rattle.siblings.proofs.byte_or.Statement.{statement}
 use Rattle.siblings.proofs.byte_or.Tie as tie
-use Rattle.siblings.proofs.byte_or.Reads as reads
-use Rattle.siblings.proofs.byte_or.Lts as lts
-use Rattle.siblings.proofs.byte.Reads as byte-reads
 
 add-byte : tie.Need-add-byte
 add-byte c = search needs

@@ -1,17 +1,13 @@
 -- `siblings::cell` meets its contract.
 -- Assumes nothing.
 use native.Mathlib.Omega.{arith}
-use mathlib.Core.Path.{_≡_, ap, _∙_}
+use mathlib.Core.Path.{ap, _∙_}
 use lib.ListN.{getD}
-use Rattle.siblings.specs.Links.{link, slotOf}
+use Rattle.siblings.specs.Links.{link}
 use Rattle.siblings.proofs.Tables.{slot-range}
 use borrow.Author.Needs.{needs}
 use Rattle.siblings.proofs.cell.Statement.{statement}
 use Rattle.siblings.proofs.cell.Tie as tie
-use Rattle.siblings.proofs.cell.Reads as reads
-use Rattle.siblings.proofs.cell.Lts as lts
-use Rattle.siblings.proofs.slot.Reads as slot-reads
-use Rattle.siblings.proofs.wide.Reads as wide-reads
 
 slot-requires : tie.Need-slot-requires
 slot-requires c κs = search needs

@@ -4,10 +4,6 @@ use Rattle.siblings.specs.Names.{nameOf}
 use borrow.Author.Needs.{needs}
 use Rattle.siblings.proofs.class_of.Statement.{statement}
 use Rattle.siblings.proofs.class_of.Tie as tie
-use Rattle.siblings.proofs.class_of.Reads as reads
-use Rattle.siblings.proofs.class_of.Lts as lts
-use Rattle.siblings.proofs.class_span.Reads as class-span-reads
-use Rattle.table.proofs.word.Reads as word-reads
 
 word-requires : tie.Need-word-requires
 word-requires c κs = search needs

@@ -5,9 +5,6 @@ use Rattle.siblings.proofs.Classes.{class-none, class-some}
 use borrow.Author.Needs.{needs}
 use Rattle.siblings.proofs.class_span.Statement.{statement}
 use Rattle.siblings.proofs.class_span.Tie as tie
-use Rattle.siblings.proofs.class_span.Reads as reads
-use Rattle.siblings.proofs.class_span.Lts as lts
-use Rattle.siblings.proofs.byte.Reads as byte-reads
 
 returns : tie.Need-returns
 returns c = (class-none _ _ _ (c .before .before .pre) (c .if1 .taken), omega arith)

@@ -1,12 +1,8 @@
 -- `siblings::climbs` meets its contract.
 -- Assumes nothing.
-use native.Mathlib.Omega.{arith}
 use borrow.Author.Needs.{needs}
 use Rattle.siblings.proofs.climbs.Statement.{statement}
 use Rattle.siblings.proofs.climbs.Tie as tie
-use Rattle.siblings.proofs.climbs.Reads as reads
-use Rattle.siblings.proofs.climbs.Lts as lts
-use Rattle.siblings.proofs.names.Reads as names-reads
 
 returns : tie.Need-returns
 returns c = search needs

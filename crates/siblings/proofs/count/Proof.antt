@@ -1,12 +1,10 @@
 -- `siblings::count` meets its contract.
 -- Assumes nothing.
 use native.Mathlib.Omega.{arith}
-use Prim.Native.Nat.{ℕ, _+_, _-_, _≤_, _<_}
+use Prim.Native.Nat.{_-_}
 use Rattle.siblings.proofs.Rows.{Counting, counting-start, counting-end, counting-here, counting-next}
 use Rattle.siblings.proofs.count.Statement.{statement}
 use Rattle.siblings.proofs.count.Tie as tie
-use Rattle.siblings.proofs.count.Reads as reads
-use Rattle.siblings.proofs.count.Lts as lts
 
 abbrev Inv-loop : tie.InvT-loop
 Inv-loop table first stop n₀ i₀ n i = Counting table stop first n i

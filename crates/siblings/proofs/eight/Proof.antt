@@ -5,9 +5,6 @@ use Rattle.siblings.specs.Links.{eightOf}
 use borrow.Author.Needs.{needs}
 use Rattle.siblings.proofs.eight.Statement.{statement}
 use Rattle.siblings.proofs.eight.Tie as tie
-use Rattle.siblings.proofs.eight.Reads as reads
-use Rattle.siblings.proofs.eight.Lts as lts
-use Rattle.siblings.proofs.four.Reads as four-reads
 
 four-requires : tie.Need-four-requires
 four-requires c κs = search needs

@@ -1,9 +1,8 @@
 -- `siblings::enter` meets its contract: the records of the class before the one at hand stand in cells, and none of them has an earlier twin.
 -- Assumes nothing.
 use native.Mathlib.Omega.{arith}
-use Prim.Native.Nat.{_+_, _*_, _-_, _≤_, _<_}
-use lib.ListN.{length}
-use mathlib.Core.Path.{_≡_, refl, sym, ap, _∙_}
+use Prim.Native.Nat.{_-_}
+use mathlib.Core.Path.{refl, _∙_}
 use borrow.Author.Needs.{needs}
 use Rattle.siblings.specs.Names.{endOf}
 use Rattle.siblings.specs.Cells.{Ready}
@@ -11,10 +10,6 @@ use Rattle.siblings.proofs.Tables.{agree-end}
 use Rattle.siblings.proofs.Cells.{Filled, filled-start, filled-end, filled-cells, filled-on, filled-fit, filled-twin, filled-next, filled-at, frame-same}
 use Rattle.siblings.proofs.enter.Statement.{statement}
 use Rattle.siblings.proofs.enter.Tie as tie
-use Rattle.siblings.proofs.enter.Reads as reads
-use Rattle.siblings.proofs.enter.Lts as lts
-use Rattle.siblings.proofs.place.Reads as place-reads
-use Rattle.table.proofs.word.Reads as word-reads
 
 abbrev Inv-loop : tie.InvT-loop
 Inv-loop doc table₀ first stop last class spare₀ i₀ table spare i =

@@ -2,18 +2,12 @@
 -- one is sought.
 -- Assumes nothing.
 use native.Mathlib.Omega.{arith}
-use mathlib.Core.Path.{_≡_, refl, ap, _∙_}
+use mathlib.Core.Path.{refl, ap, _∙_}
 use lib.ListN.{length}
 use borrow.Author.Needs.{needs}
 use Rattle.siblings.proofs.Answers.{family-answer, repeat-few}
 use Rattle.siblings.proofs.first_repeat.Statement.{statement}
 use Rattle.siblings.proofs.first_repeat.Tie as tie
-use Rattle.siblings.proofs.first_repeat.Reads as reads
-use Rattle.siblings.proofs.first_repeat.Lts as lts
-use Rattle.siblings.proofs.below.Reads as below-reads
-use Rattle.siblings.proofs.count.Reads as count-reads
-use Rattle.siblings.proofs.many.Reads as many-reads
-use Rattle.siblings.proofs.plain.Reads as plain-reads
 
 count-requires : tie.Need-count-requires
 count-requires c κs =

@@ -1,13 +1,11 @@
 -- `siblings::fold` meets its contract.
 -- Assumes nothing.
 use native.Mathlib.Omega.{arith}
-use Prim.Native.Nat.{ℕ, _+_, _*_, _/_, _%_}
+use Prim.Native.Nat.{_+_, _/_, _%_}
 use Rattle.siblings.proofs.Cells.{product-below}
 use borrow.Author.Needs.{needs}
 use Rattle.siblings.proofs.fold.Statement.{statement}
 use Rattle.siblings.proofs.fold.Tie as tie
-use Rattle.siblings.proofs.fold.Reads as reads
-use Rattle.siblings.proofs.fold.Lts as lts
 
 add-result : tie.Need-add-result
 add-result c = search needs

@@ -5,9 +5,6 @@ use Rattle.siblings.specs.Links.{fourOf}
 use borrow.Author.Needs.{needs}
 use Rattle.siblings.proofs.four.Statement.{statement}
 use Rattle.siblings.proofs.four.Tie as tie
-use Rattle.siblings.proofs.four.Reads as reads
-use Rattle.siblings.proofs.four.Lts as lts
-use Rattle.siblings.proofs.byte.Reads as byte-reads
 
 shared-slice-read-byte : tie.Need-shared-slice-read-byte
 shared-slice-read-byte c = search needs

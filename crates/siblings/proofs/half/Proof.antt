@@ -1,16 +1,11 @@
 -- `siblings::half` meets its contract: what was linked is undone.
 -- Assumes nothing.
 use native.Mathlib.Omega.{arith}
-use mathlib.Core.Path.{_≡_, refl, ap, _∙_}
+use mathlib.Core.Path.{_≡_, ap}
 use lib.ListN.{length}
-use borrow.Author.Needs.{needs}
 use Rattle.siblings.proofs.Cells.{wiped-back}
 use Rattle.siblings.proofs.half.Statement.{statement}
 use Rattle.siblings.proofs.half.Tie as tie
-use Rattle.siblings.proofs.half.Reads as reads
-use Rattle.siblings.proofs.half.Lts as lts
-use Rattle.siblings.proofs.enter.Reads as enter-reads
-use Rattle.siblings.proofs.wipe.Reads as wipe-reads
 
 back : (c : tie.After-slice-known3) →
     let w = c .before .before in

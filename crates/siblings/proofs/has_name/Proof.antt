@@ -1,16 +1,13 @@
 -- `siblings::has_name` meets its contract: the search of the words goes from record to record.
 -- Assumes nothing.
-use borrow.Author.Needs.{needs}
 use native.Mathlib.Omega.{arith}
-use Prim.Native.Nat.{_+_, _*_, _-_, _≤_}
-use mathlib.Core.Path.{_≡_, refl, sym, ap, _∙_}
-use lib.ListN.{length, getD}
+use Prim.Native.Nat.{_+_, _*_, _-_}
+use mathlib.Core.Path.{_≡_, sym, _∙_}
+use lib.ListN.{getD}
 use Rattle.form.specs.Spans.{same, part}
 use Rattle.siblings.proofs.Holding.{Seek, seek-start, seek-end, seek-within, seek-on, seek-hit, seek-next}
 use Rattle.siblings.proofs.has_name.Statement.{statement}
 use Rattle.siblings.proofs.has_name.Tie as tie
-use Rattle.siblings.proofs.has_name.Reads as reads
-use Rattle.siblings.proofs.has_name.Lts as lts
 
 abbrev Inv-loop : tie.InvT-loop
 Inv-loop doc table from to start len i₀ i = Seek doc table from to (part doc start len) i

@@ -1,16 +1,11 @@
 -- `siblings::hashed` meets its contract.
 -- Assumes nothing.
-use native.Mathlib.Omega.{arith}
-use mathlib.Core.Path.{_≡_, refl, ap, _∙_}
+use mathlib.Core.Path.{ap, _∙_}
 use lib.ListN.{length}
 use borrow.Author.Needs.{needs}
 use Rattle.siblings.proofs.Cells.{ready-same, joined-two}
 use Rattle.siblings.proofs.hashed.Statement.{statement}
 use Rattle.siblings.proofs.hashed.Tie as tie
-use Rattle.siblings.proofs.hashed.Reads as reads
-use Rattle.siblings.proofs.hashed.Lts as lts
-use Rattle.siblings.proofs.half.Reads as half-reads
-use Rattle.siblings.proofs.lesser.Reads as lesser-reads
 
 half-requires : tie.Need-half-requires
 half-requires c κs = c .before .before .before .pre

@@ -1,13 +1,11 @@
 -- `siblings::home` meets its contract.
 -- Assumes nothing.
 use native.Mathlib.Omega.{arith}
-use mathlib.Core.Path.{_≡_, refl}
+use mathlib.Core.Path.{refl}
 use Rattle.siblings.proofs.Cells.{home-below}
 use borrow.Author.Needs.{needs}
 use Rattle.siblings.proofs.home.Statement.{statement}
 use Rattle.siblings.proofs.home.Tie as tie
-use Rattle.siblings.proofs.home.Reads as reads
-use Rattle.siblings.proofs.home.Lts as lts
 
 sub-cells : tie.Need-sub-cells
 sub-cells c = search needs

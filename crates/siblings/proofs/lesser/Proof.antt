@@ -1,12 +1,9 @@
 -- `siblings::lesser` meets its contract.
 -- Assumes nothing.
-use native.Mathlib.Omega.{arith}
 use Rattle.siblings.proofs.Cells.{lesser-first, lesser-left, lesser-right}
 use borrow.Author.Needs.{needs}
 use Rattle.siblings.proofs.lesser.Statement.{statement}
 use Rattle.siblings.proofs.lesser.Tie as tie
-use Rattle.siblings.proofs.lesser.Reads as reads
-use Rattle.siblings.proofs.lesser.Lts as lts
 
 enum-told : tie.Need-enum-told
 enum-told c = search needs

@@ -1,16 +1,11 @@
 -- `siblings::many` meets its contract.
 -- Assumes nothing.
-use native.Mathlib.Omega.{arith}
-use mathlib.Core.Path.{_≡_, refl, ap, _∙_}
+use mathlib.Core.Path.{refl, ap, _∙_}
 use lib.ListN.{length}
 use borrow.Author.Needs.{needs}
 use Rattle.siblings.proofs.Cells.{family-same, least-same}
 use Rattle.siblings.proofs.many.Statement.{statement}
 use Rattle.siblings.proofs.many.Tie as tie
-use Rattle.siblings.proofs.many.Reads as reads
-use Rattle.siblings.proofs.many.Lts as lts
-use Rattle.siblings.proofs.scattered.Reads as scattered-reads
-use Rattle.siblings.proofs.sorted.Reads as sorted-reads
 
 rising-requires : tie.Need-rising-requires
 rising-requires c κs = c .before .before .before .pre .0

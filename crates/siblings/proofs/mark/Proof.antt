@@ -1,14 +1,9 @@
 -- `siblings::mark` meets its contract.
 -- Assumes nothing.
-use native.Mathlib.Omega.{arith}
 use Rattle.siblings.specs.Names.{nameOf}
 use borrow.Author.Needs.{needs}
 use Rattle.siblings.proofs.mark.Statement.{statement}
 use Rattle.siblings.proofs.mark.Tie as tie
-use Rattle.siblings.proofs.mark.Reads as reads
-use Rattle.siblings.proofs.mark.Lts as lts
-use Rattle.siblings.proofs.mark_span.Reads as mark-span-reads
-use Rattle.table.proofs.word.Reads as word-reads
 
 word-requires : tie.Need-word-requires
 word-requires c κs = search needs

@@ -1,15 +1,10 @@
 -- `siblings::mark_long` meets its contract.
 -- Assumes nothing.
-use mathlib.Core.Path.{_≡_, refl, _∙_}
+use mathlib.Core.Path.{refl, _∙_}
 use Rattle.siblings.proofs.Cells.{mark-most}
 use borrow.Author.Needs.{needs}
 use Rattle.siblings.proofs.mark_long.Statement.{statement}
 use Rattle.siblings.proofs.mark_long.Tie as tie
-use Rattle.siblings.proofs.mark_long.Reads as reads
-use Rattle.siblings.proofs.mark_long.Lts as lts
-use Rattle.siblings.proofs.both.Reads as both-reads
-use Rattle.siblings.proofs.four.Reads as four-reads
-use Rattle.siblings.proofs.stir.Reads as stir-reads
 
 add-m : tie.Need-add-m
 add-m c = search needs

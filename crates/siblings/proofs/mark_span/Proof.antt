@@ -1,17 +1,11 @@
 -- `siblings::mark_span` meets its contract.
 -- Assumes nothing.
 use native.Mathlib.Omega.{arith}
-use mathlib.Core.Path.{_≡_, _∙_}
+use mathlib.Core.Path.{_∙_}
 use Rattle.siblings.proofs.Cells.{mark-few, mark-some, mark-many}
 use borrow.Author.Needs.{needs}
 use Rattle.siblings.proofs.mark_span.Statement.{statement}
 use Rattle.siblings.proofs.mark_span.Tie as tie
-use Rattle.siblings.proofs.mark_span.Reads as reads
-use Rattle.siblings.proofs.mark_span.Lts as lts
-use Rattle.siblings.proofs.byte_or.Reads as byte-or-reads
-use Rattle.siblings.proofs.four.Reads as four-reads
-use Rattle.siblings.proofs.mark_long.Reads as mark-long-reads
-use Rattle.siblings.proofs.stir.Reads as stir-reads
 
 byte-or-requires : tie.Need-byte-or-requires
 byte-or-requires c κs = search needs

@@ -5,10 +5,6 @@ use Prim.Native.Nat.{_+_}
 use Rattle.siblings.proofs.Runs.{Merging, Either, merging-start, merging-swap, merging-fit, merging-one, merging-two, merging-end}
 use Rattle.siblings.proofs.merge.Statement.{statement}
 use Rattle.siblings.proofs.merge.Tie as tie
-use Rattle.siblings.proofs.merge.Reads as reads
-use Rattle.siblings.proofs.merge.Lts as lts
-use Rattle.siblings.proofs.pick.Reads as pick-reads
-use Rattle.siblings.proofs.relink.Reads as relink-reads
 
 abbrev Inv-loop : tie.InvT-loop
 Inv-loop doc table₀ a na b nb up x₀ y₀ p₀ q₀ acc₀ table x y p q acc = Merging doc table₀ (na + nb) up (λ z. Either table₀ a na b nb z) table x p y q acc

@@ -4,9 +4,6 @@ use Rattle.siblings.specs.Names.{nameOf}
 use borrow.Author.Needs.{needs}
 use Rattle.siblings.proofs.names.Statement.{statement}
 use Rattle.siblings.proofs.names.Tie as tie
-use Rattle.siblings.proofs.names.Reads as reads
-use Rattle.siblings.proofs.names.Lts as lts
-use Rattle.siblings.proofs.spans.Reads as spans-reads
 
 returns : tie.Need-returns
 unfolding nameOf

@@ -1,7 +1,7 @@
 -- `siblings::order_bytes` meets its contract: what is left differs by as much.
 -- Assumes nothing.
 use native.Mathlib.Omega.{arith}
-use Prim.Native.Nat.{ℕ, _+_, _-_, _≤_, _<_}
+use Prim.Native.Nat.{_+_, _-_, _≤_}
 use mathlib.Core.Path.{_≡_}
 use Rattle.form.specs.Spans.{part}
 use Rattle.form.specs.Numbers.{value}
@@ -9,10 +9,6 @@ use Rattle.siblings.proofs.Numbers.{start-same, eight-less, eight-same}
 use Rattle.siblings.proofs.Orders.{ordered-rest}
 use Rattle.siblings.proofs.order_bytes.Statement.{statement}
 use Rattle.siblings.proofs.order_bytes.Tie as tie
-use Rattle.siblings.proofs.order_bytes.Reads as reads
-use Rattle.siblings.proofs.order_bytes.Lts as lts
-use Rattle.siblings.proofs.eight.Reads as eight-reads
-use Rattle.siblings.proofs.order_rest.Reads as order-rest-reads
 
 abbrev Inv-loop : tie.InvT-loop
 Inv-loop doc a b n i₀ i = (i ≤ n) × (value (part doc a n) + value (part doc (b + i) (n - i)) ≡ value (part doc b n) + value (part doc (a + i) (n - i)))

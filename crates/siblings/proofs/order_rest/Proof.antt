@@ -1,17 +1,13 @@
 -- `siblings::order_rest` meets its contract: what is left differs by as much.
 -- Assumes nothing.
-use borrow.Author.Needs.{needs}
 use native.Mathlib.Omega.{arith}
-use Prim.Native.Nat.{ℕ, _+_, _-_, _≤_, _<_}
-use mathlib.Core.Path.{_≡_, sym, _∙_}
-use lib.ListN.{getD, length}
+use Prim.Native.Nat.{_+_, _-_, _≤_}
+use mathlib.Core.Path.{_≡_}
 use Rattle.form.specs.Spans.{part}
 use Rattle.form.specs.Numbers.{value}
 use Rattle.siblings.proofs.Numbers.{start-same, stop-same, step-less, step-same}
 use Rattle.siblings.proofs.order_rest.Statement.{statement}
 use Rattle.siblings.proofs.order_rest.Tie as tie
-use Rattle.siblings.proofs.order_rest.Reads as reads
-use Rattle.siblings.proofs.order_rest.Lts as lts
 
 abbrev Inv-loop : tie.InvT-loop
 Inv-loop doc a b n i₀ i = (i ≤ n) × (value (part doc a n) + value (part doc (b + i) (n - i)) ≡ value (part doc b n) + value (part doc (a + i) (n - i)))

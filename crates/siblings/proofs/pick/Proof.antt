@@ -4,9 +4,6 @@ use native.Mathlib.Omega.{arith}
 use Rattle.siblings.proofs.Orders.{picked-up, picked-down}
 use Rattle.siblings.proofs.pick.Statement.{statement}
 use Rattle.siblings.proofs.pick.Tie as tie
-use Rattle.siblings.proofs.pick.Reads as reads
-use Rattle.siblings.proofs.pick.Lts as lts
-use Rattle.siblings.proofs.sooner.Reads as sooner-reads
 
 returns : tie.Need-returns
 returns c = (omega arith, λ l. absurd (omega arith))

@@ -2,20 +2,13 @@
 -- Assumes nothing.
 use native.Mathlib.Omega.{arith}
 use Prim.Native.Nat.{_%_}
-use mathlib.Core.Path.{_≡_, refl, sym, ap, _∙_}
+use mathlib.Core.Path.{refl, sym, ap, _∙_}
 use mathlib.Core.Logic.{inl, inr}
 use Rattle.siblings.specs.Cells.{Open}
 use Rattle.siblings.proofs.Cells.{place-cells, place-put, place-met, probe-room}
 use borrow.Author.Needs.{needs}
 use Rattle.siblings.proofs.place.Statement.{statement}
 use Rattle.siblings.proofs.place.Tie as tie
-use Rattle.siblings.proofs.place.Reads as reads
-use Rattle.siblings.proofs.place.Lts as lts
-use Rattle.siblings.proofs.edge.Reads as edge-reads
-use Rattle.siblings.proofs.home.Reads as home-reads
-use Rattle.siblings.proofs.mark.Reads as mark-reads
-use Rattle.siblings.proofs.probe.Reads as probe-reads
-use Rattle.siblings.proofs.relink.Reads as relink-reads
 
 spot : (c : tie.After-known-told) →
     let d = c .before .before .before .before in

@@ -9,11 +9,6 @@ use Rattle.siblings.proofs.Answers.{Trying, trying-start, trying-in, tr
 use Rattle.siblings.proofs.Classes.{Seen, seen-start, seen-fresh, seen-next}
 use Rattle.siblings.proofs.plain.Statement.{statement}
 use Rattle.siblings.proofs.plain.Tie as tie
-use Rattle.siblings.proofs.plain.Reads as reads
-use Rattle.siblings.proofs.plain.Lts as lts
-use Rattle.siblings.proofs.class_of.Reads as class-of-reads
-use Rattle.siblings.proofs.taken_in.Reads as taken-in-reads
-use Rattle.table.proofs.word.Reads as word-reads
 
 abbrev Inv-loop : tie.InvT-loop
 Inv-loop doc table first stop seen₀ i₀ seen i = (f : Family doc table first stop) × Trying doc table first stop f i × Seen doc table first stop f seen i

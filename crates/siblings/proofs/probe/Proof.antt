@@ -1,16 +1,12 @@
 -- `siblings::probe` meets its contract.
 -- Assumes nothing.
 use native.Mathlib.Omega.{arith}
-use mathlib.Core.Path.{_≡_, sym, _∙_}
-use Prim.Native.Nat.{_+_, _-_, _≤_}
-use Rattle.siblings.specs.Cells.{Passed, Cells}
+use mathlib.Core.Path.{sym, _∙_}
+use Prim.Native.Nat.{_-_, _≤_}
+use Rattle.siblings.specs.Cells.{Passed}
 use Rattle.siblings.proofs.Cells.{passed-start, probe-room, probe-fit, probe-met, probe-next}
 use Rattle.siblings.proofs.probe.Statement.{statement}
 use Rattle.siblings.proofs.probe.Tie as tie
-use Rattle.siblings.proofs.probe.Reads as reads
-use Rattle.siblings.proofs.probe.Lts as lts
-use Rattle.siblings.proofs.cell.Reads as cell-reads
-use Rattle.siblings.proofs.twin.Reads as twin-reads
 
 abbrev Inv-loop : tie.InvT-loop
 Inv-loop doc table i from to k₀ k = (from ≤ k) × Passed doc table i from k

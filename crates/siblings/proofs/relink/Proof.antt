@@ -1,17 +1,13 @@
 -- `siblings::relink` meets its contract.
 -- Assumes nothing.
-use mathlib.Core.Path.{_≡_, ap, _∙_}
+use mathlib.Core.Path.{ap, _∙_}
 use lib.ListN.{getD, set}
 use native.Mathlib.Omega.{arith}
-use Rattle.siblings.specs.Links.{link, linked, slotOf}
+use Rattle.siblings.specs.Links.{link, linked}
 use Rattle.siblings.proofs.Tables.{slot-range}
 use borrow.Author.Needs.{needs}
 use Rattle.siblings.proofs.relink.Statement.{statement}
 use Rattle.siblings.proofs.relink.Tie as tie
-use Rattle.siblings.proofs.relink.Reads as reads
-use Rattle.siblings.proofs.relink.Lts as lts
-use Rattle.siblings.proofs.slot.Reads as slot-reads
-use Rattle.siblings.proofs.wide.Reads as wide-reads
 
 slot-requires : tie.Need-slot-requires
 slot-requires c κs = search needs

@@ -6,10 +6,6 @@ use Rattle.siblings.specs.Lists.{Family}
 use Rattle.siblings.proofs.Ascents.{Climbing, climbing-start, climbing-end, climbing-fit, climbing-on, climbing-fits, climbing-next}
 use Rattle.siblings.proofs.rising.Statement.{statement}
 use Rattle.siblings.proofs.rising.Tie as tie
-use Rattle.siblings.proofs.rising.Reads as reads
-use Rattle.siblings.proofs.rising.Lts as lts
-use Rattle.siblings.proofs.climbs.Reads as climbs-reads
-use Rattle.table.proofs.word.Reads as word-reads
 
 abbrev Inv-loop : tie.InvT-loop
 Inv-loop doc table first stop i₀ i = (f : Family doc table first stop) × Climbing doc table first stop f i

@@ -1,16 +1,10 @@
 -- `siblings::scattered` meets its contract: each test gives a part of what the search in cells requires.
 -- Assumes nothing.
 use native.Mathlib.Omega.{arith}
-use mathlib.Core.Path.{_≡_, refl, ap, _∙_}
+use mathlib.Core.Path.{refl, ap}
 use lib.ListN.{length}
-use borrow.Author.Needs.{needs}
 use Rattle.siblings.proofs.scattered.Statement.{statement}
 use Rattle.siblings.proofs.scattered.Tie as tie
-use Rattle.siblings.proofs.scattered.Reads as reads
-use Rattle.siblings.proofs.scattered.Lts as lts
-use Rattle.siblings.proofs.blank.Reads as blank-reads
-use Rattle.siblings.proofs.hashed.Reads as hashed-reads
-use Rattle.siblings.proofs.reach.Reads as reach-reads
 
 returns : tie.Need-returns
 returns c = (refl, tt)

@@ -1,7 +1,7 @@
 -- `siblings::slot` meets its contract.
 -- Assumes nothing.
 use borrow.Author.Needs.{needs}
-use mathlib.Core.Path.{_≡_, sym, _∙_}
+use mathlib.Core.Path.{sym, _∙_}
 use Rattle.siblings.proofs.Tables.{kind-is, slot-held, slot-held2, slot-plain}
 use Rattle.siblings.proofs.slot.Statement.{statement}
 use Rattle.siblings.proofs.slot.Tie as tie

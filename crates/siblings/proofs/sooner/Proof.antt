@@ -1,14 +1,10 @@
 -- `siblings::sooner` meets its contract.
 -- Assumes nothing.
 use borrow.Author.Needs.{needs}
-use native.Mathlib.Omega.{arith}
 use lib.Dec.{ltb}
 use Rattle.siblings.proofs.Orders.{rank-less, rank-more, rank-same, told}
 use Rattle.siblings.proofs.sooner.Statement.{statement}
 use Rattle.siblings.proofs.sooner.Tie as tie
-use Rattle.siblings.proofs.sooner.Reads as reads
-use Rattle.siblings.proofs.sooner.Lts as lts
-use Rattle.siblings.proofs.names.Reads as names-reads
 
 returns : tie.Need-returns
 returns c =

@@ -1,17 +1,11 @@
 -- `siblings::sorted` meets its contract: the records are sorted as a list, and compared one with the next while the links are undone.
 -- Assumes nothing.
 use native.Mathlib.Omega.{arith}
-use mathlib.Core.Path.{_≡_, refl, ap, _∙_}
-use lib.ListN.{length}
 use borrow.Author.Needs.{needs}
 use Rattle.siblings.proofs.Answers.{family-row, family-chain, family-table, family-least}
 use borrow.Author.Needs.{needs}
 use Rattle.siblings.proofs.sorted.Statement.{statement}
 use Rattle.siblings.proofs.sorted.Tie as tie
-use Rattle.siblings.proofs.sorted.Reads as reads
-use Rattle.siblings.proofs.sorted.Lts as lts
-use Rattle.siblings.proofs.sort.Reads as sort-reads
-use Rattle.siblings.proofs.unlink.Reads as unlink-reads
 
 sort-requires : tie.Need-sort-requires
 sort-requires c κs =

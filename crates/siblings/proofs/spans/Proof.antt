@@ -6,9 +6,6 @@ use Rattle.siblings.proofs.Orders.{spans-num}
 use borrow.Author.Needs.{needs}
 use Rattle.siblings.proofs.spans.Statement.{statement}
 use Rattle.siblings.proofs.spans.Tie as tie
-use Rattle.siblings.proofs.spans.Reads as reads
-use Rattle.siblings.proofs.spans.Lts as lts
-use Rattle.siblings.proofs.order_bytes.Reads as order-bytes-reads
 
 returns : tie.Need-returns
 returns c =

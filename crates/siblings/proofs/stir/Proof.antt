@@ -1,15 +1,10 @@
 -- `siblings::stir` meets its contract.
 -- Assumes nothing.
-use native.Mathlib.Omega.{arith}
-use mathlib.Core.Path.{_≡_, refl}
+use mathlib.Core.Path.{refl}
 use Rattle.siblings.specs.Cells.{stirOf}
 use borrow.Author.Needs.{needs}
 use Rattle.siblings.proofs.stir.Statement.{statement}
 use Rattle.siblings.proofs.stir.Tie as tie
-use Rattle.siblings.proofs.stir.Reads as reads
-use Rattle.siblings.proofs.stir.Lts as lts
-use Rattle.siblings.proofs.fold.Reads as fold-reads
-use Rattle.siblings.proofs.mix.Reads as mix-reads
 
 mix-requires : tie.Need-mix-requires
 mix-requires c κs = search needs

@@ -7,9 +7,6 @@ use Rattle.siblings.specs.Lists.{Family}
 use Rattle.siblings.proofs.Answers.{Asking, asking-start, asking-in, asking-on, asking-hit, asking-next, asking-end}
 use Rattle.siblings.proofs.taken.Statement.{statement}
 use Rattle.siblings.proofs.taken.Tie as tie
-use Rattle.siblings.proofs.taken.Reads as reads
-use Rattle.siblings.proofs.taken.Lts as lts
-use Rattle.siblings.proofs.twin.Reads as twin-reads
 
 abbrev Inv-loop : tie.InvT-loop
 Inv-loop doc table first stop i j₀ j = (f : Family doc table first stop) × Asking doc table first stop f i j

@@ -5,9 +5,6 @@ use Rattle.siblings.proofs.Classes.{fresh-alone}
 use borrow.Author.Needs.{needs}
 use Rattle.siblings.proofs.taken_in.Statement.{statement}
 use Rattle.siblings.proofs.taken_in.Tie as tie
-use Rattle.siblings.proofs.taken_in.Reads as reads
-use Rattle.siblings.proofs.taken_in.Lts as lts
-use Rattle.siblings.proofs.taken.Reads as taken-reads
 
 taken-requires : tie.Need-taken-requires
 taken-requires c κs = search needs

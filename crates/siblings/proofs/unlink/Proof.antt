@@ -1,14 +1,10 @@
 -- `siblings::unlink` meets its contract: the list is walked once more.
 -- Assumes nothing.
 use native.Mathlib.Omega.{arith}
-use mathlib.Core.Path.{_≡_, _∙_}
+use mathlib.Core.Path.{_∙_}
 use Rattle.siblings.proofs.Scans.{Scan, scan-start, scan-here, scan-fits, scan-on, scan-last}
 use Rattle.siblings.proofs.unlink.Statement.{statement}
 use Rattle.siblings.proofs.unlink.Tie as tie
-use Rattle.siblings.proofs.unlink.Reads as reads
-use Rattle.siblings.proofs.unlink.Lts as lts
-use Rattle.siblings.proofs.lower.Reads as lower-reads
-use Rattle.siblings.proofs.relink.Reads as relink-reads
 
 abbrev Inv-loop : tie.InvT-loop
 Inv-loop doc table₀ head n none x₀ left₀ low₀ table x left low = Scan doc table₀ head n none table x left low

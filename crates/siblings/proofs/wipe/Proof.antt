@@ -1,14 +1,11 @@
 -- `siblings::wipe` meets its contract.
 -- Assumes nothing.
 use native.Mathlib.Omega.{arith}
-use Prim.Native.Nat.{_+_, _-_, _≤_}
+use Prim.Native.Nat.{_-_, _≤_}
 use Rattle.siblings.specs.Cells.{Wiped}
 use Rattle.siblings.proofs.Cells.{wiped-start, wiped-next, wiped-end}
 use Rattle.siblings.proofs.wipe.Statement.{statement}
 use Rattle.siblings.proofs.wipe.Tie as tie
-use Rattle.siblings.proofs.wipe.Reads as reads
-use Rattle.siblings.proofs.wipe.Lts as lts
-use Rattle.siblings.proofs.relink.Reads as relink-reads
 
 abbrev Inv-loop : tie.InvT-loop
 Inv-loop table₀ from to k₀ table k = (from ≤ k) × (k ≤ to) × Wiped table₀ table from k

@@ -24,15 +24,31 @@ returns-5 c = says-no (λ is. let e = c .before .before .word4 .ensures in let l
 
 returns-6 : tie.Need-returns-6
 returns-6 c =
-    container-all _ _ _ _ _ _ (c .before .before .before .before .word6 .ensures) (c .before .before .before .before .before .before .before .before .word4 .ensures) (c .before .before .before .hop-through .result) (c .before .before .before .hop-through .ensures)
-    (c .before .before .before .before .before .before .before .before .before .before .before .before .before .before .before .before .before .pre .2) (sym (c .before .before .before .before .before .before .before .before .before .before .before .before .before .before .before .word .ensures) ∙ c .before .before .before .before .before .before .before .before .before .before .before .before .before .before .if1 .left) (sym (c .before .before .before .before .before .before .before .before .before .before .before .before .before .word2 .ensures) ∙ c .before .before .before .before .before .before .before .before .before .before .before .before .if2 .left)
-    (sym (c .before .before .before .before .before .before .before .before .before .before .before .word3 .ensures) ∙ c .before .before .before .before .before .before .before .before .before .if3 .left ∙ c .before .before .before .before .before .before .before .before .before .before .list-kind-at .ensures)
-    (rw (c .before .before .before .before .before .before .before .before .word4 .ensures) at (c .before .before .before .before .before .before .if5 .left))
-    _ (c .before .hops .given .1) _ (c .before .before .before .before .before .word5 .ensures)
+    let at-hop-through = c .before .before .before in
+    let at-word6 = at-hop-through .before in
+    let at-word5 = at-word6 .before in
+    let at-else5 = at-word5 .before in
+    let at-word4 = at-else5 .before .before in
+    let at-else3 = at-word4 .before in
+    let at-list-kind-at = at-else3 .before in
+    let at-word3 = at-list-kind-at .before in
+    let at-else2 = at-word3 .before in
+    let at-word2 = at-else2 .before in
+    let at-else1 = at-word2 .before in
+    let at-word = at-else1 .before in
+    let start = at-word .before .before in
+    container-all _ _ _ _ _ _ (at-word6 .word6 .ensures) (at-word4 .word4 .ensures) (at-hop-through .hop-through .result) (at-hop-through .hop-through .ensures)
+    (start .pre .2) (sym (at-word .word .ensures) ∙ at-else1 .if1 .left) (sym (at-word2 .word2 .ensures) ∙ at-else2 .if2 .left)
+    (sym (at-word3 .word3 .ensures) ∙ at-else3 .if3 .left ∙ at-list-kind-at .list-kind-at .ensures)
+    (rw (at-word4 .word4 .ensures) at (at-else5 .if5 .left))
+    _ (c .before .hops .given .1) _ (at-word5 .word5 .ensures)
 
 returns-7 : tie.Need-returns-7
 returns-7 c =
-    container-broken _ _ _ _ _ _ (c .before .before .before .word6 .ensures) (c .before .before .before .before .before .before .before .word4 .ensures) (c .before .before .hop-through .result) (c .before .before .hop-through .ensures)
+    let at-word6 = c .before .before .before in
+    let at-else4 = at-word6 .before .before .before in
+    let at-word4 = at-else4 .before in
+    container-broken _ _ _ _ _ _ (at-word6 .word6 .ensures) (at-word4 .word4 .ensures) (c .before .before .hop-through .result) (c .before .before .hop-through .ensures)
     (c .enum-told .given .1)
 
 pub container-agrees-spec : {M : Type 1} → statement M

@@ -32,7 +32,9 @@ loop-less c =
 
 loop-again : tie.Need-loop-again Inv-loop μ-loop
 loop-again c =
-    hop-more _ _ _ _ _ _ _ _ (c .before .before .before .before .loop .inv) (c .before .before .before .loop-test .taken)
+    let in-loop = c .before .before .before in
+    let at-loop = in-loop .before in
+    hop-more _ _ _ _ _ _ _ _ (at-loop .loop .inv) (in-loop .loop-test .taken)
     (c .before .before .child-agrees .ensures .yes (not-false _ (c .before .if1 .left))) _ (c .word .ensures)
 
 returns-2 : tie.Need-returns-2 Inv-loop μ-loop

@@ -11,28 +11,43 @@ use Rattle.table.proofs.leaf_agrees.Tie as tie
 
 leaf-fits-requires : tie.Need-leaf-fits-requires
 leaf-fits-requires c κs =
-    omega (arith, c .word3 .ensures, c .before .before .before .shared-slice-known .given (9 * c .before .before .before .before .args .i + 5))
+    let at-shared-slice-known = c .before .before .before in
+    let start = at-shared-slice-known .before in
+    omega (arith, c .word3 .ensures, at-shared-slice-known .shared-slice-known .given (9 * start .args .i + 5))
 
 returns : tie.Need-returns
 returns c =
-    let e = rw (c .before .before .before .word2 .ensures, c .before .before .before .before .word .ensures, c .before .before .word3 .ensures) at (c .before .leaf-fits .ensures) in
+    let at-word2 = c .before .before .before in
+    let at-word = at-word2 .before in
+    let e = rw (at-word2 .word2 .ensures, at-word .word .ensures, c .before .before .word3 .ensures) at (c .before .leaf-fits .ensures) in
     says-no (λ is. apart _ (e ∙ is .fits) (not-true _ (c .if1 .taken)))
 
 returns-2 : tie.Need-returns-2
 returns-2 c =
-    says-no (λ is. c .before .span-fits .ensures .no (not-true _ (c .if2 .taken)) (rw (c .before .before .word4 .ensures, c .before .before .before .before .before .before .before .word .ensures) (is .body)))
+    let at-else1 = c .before .before .before in
+    let at-word2 = at-else1 .before .before .before in
+    let at-word = at-word2 .before in
+    says-no (λ is. c .before .span-fits .ensures .no (not-true _ (c .if2 .taken)) (rw (c .before .before .word4 .ensures, at-word .word .ensures) (is .body)))
 
 returns-3 : tie.Need-returns-3
 returns-3 c = says-no (λ is. c .if3 .taken (c .before .word5 .ensures ∙ is .plain))
 
 returns-4 : tie.Need-returns-4
 returns-4 c =
-    let e = rw (c .before .before .before .before .before .before .before .before .before .word2 .ensures, c .before .before .before .before .before .before .before .before .before .before .word .ensures, c .before .before .before .before .before .before .before .before .word3 .ensures) at (c .before .before .before .before .before .before .before .leaf-fits .ensures) in
-    let b = c .before .before .before .before .span-fits .ensures .yes (not-false _ (c .before .before .before .if2 .left)) in
+    let at-else2 = c .before .before .before in
+    let at-span-fits = at-else2 .before in
+    let at-word4 = at-span-fits .before in
+    let at-else1 = at-word4 .before in
+    let at-leaf-fits = at-else1 .before in
+    let at-word3 = at-leaf-fits .before in
+    let at-word2 = at-word3 .before in
+    let at-word = at-word2 .before in
+    let e = rw (at-word2 .word2 .ensures, at-word .word .ensures, at-word3 .word3 .ensures) at (at-leaf-fits .leaf-fits .ensures) in
+    let b = at-span-fits .span-fits .ensures .yes (not-false _ (at-else2 .if2 .left)) in
     says-eqb _ _
     (λ p. record {
-      fits = sym e ∙ not-false _ (c .before .before .before .before .before .before .if1 .left);
-      body = rw (c .before .before .before .before .before .word4 .ensures, c .before .before .before .before .before .before .before .before .before .before .word .ensures) at b;
+      fits = sym e ∙ not-false _ (at-else1 .if1 .left);
+      body = rw (at-word4 .word4 .ensures, at-word .word .ensures) at b;
       plain = sym (c .before .before .word5 .ensures) ∙ c .before .if3 .left;
       next = sym (c .word6 .ensures) ∙ p;
     })

@@ -18,7 +18,9 @@ width-of-requires c κs = array-le _ (sym (c .before .is-array .ensures) ∙ c .
 
 mul-result : tie.Need-mul-result
 mul-result c =
-    let a = c .before .before .before .before .args in
+    let at-else1 = c .before .before .before in
+    let start = at-else1 .before in
+    let a = start .args in
     let le : c .width-of .result ≤ 8 = rw (c .width-of .ensures) (width-le (a .kind)) in
     omega (arith, mul-le-mul-left (a .count) le)
 
@@ -29,7 +31,10 @@ returns-3 : tie.Need-returns-3
 returns-3 c = fits-none _ _ _ (c .if3 .taken)
 
 returns-4 : tie.Need-returns-4
-returns-4 c = fits-other _ _ _ (c .before .before .before .before .if1 .left) (sym (c .before .before .before .is-array .ensures) ∙ c .before .before .if2 .left) (c .if4 .taken)
+returns-4 c =
+    let at-is-array = c .before .before .before in
+    let at-else1 = at-is-array .before in
+    fits-other _ _ _ (at-else1 .if1 .left) (sym (at-is-array .is-array .ensures) ∙ c .before .before .if2 .left) (c .if4 .taken)
 
 returns-5 : tie.Need-returns-5
 returns-5 c =

@@ -27,9 +27,12 @@ returns-3 c =
 
 returns-4 : tie.Need-returns-4
 returns-4 c =
+    let at-word2 = c .before .before .before in
+    let at-else1 = at-word2 .before in
+    let at-word = at-else1 .before in
     c .word3 .ensures
-    ∙ kind-first _ _ (sym (c .before .before .before .before .before .word .ensures) ∙ c .before .before .before .before .if1 .left)
-    (λ e. c .before .before .if2 .left (c .before .before .before .word2 .ensures ∙ e))
+    ∙ kind-first _ _ (sym (at-word .word .ensures) ∙ at-else1 .if1 .left)
+    (λ e. c .before .before .if2 .left (at-word2 .word2 .ensures ∙ e))
 
 pub list-kind-at-spec : {M : Type 1} → statement M
 list-kind-at-spec =

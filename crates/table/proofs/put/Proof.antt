@@ -9,8 +9,6 @@ use Prim.Native.Nat.{_*_}
 use Rattle.table.specs.Records.{recordWords}
 use Rattle.table.proofs.put.Statement.{statement}
 use Rattle.table.proofs.put.Tie as tie
-use Rattle.table.proofs.put.Reads as reads
-use Rattle.table.proofs.put.Lts as lts
 
 returns : tie.Need-returns
 returns c = simp towards-suc (sets-over (recordWords (c .args .r)) (c .args .table .now) (9 * c .args .n) (c .pre))

@@ -5,21 +5,16 @@ mod All
 mod One
 use Rattle.writer.proofs.put_all.Reads as put-all
 use Rattle.writer.proofs.put_one.Reads as put-one
-use Rattle.table.proofs.word.Reads as word
-use Rattle.writer.proofs.put_name.Reads as put-name
-use Rattle.writer.proofs.put_list.Reads as put-list
-use Rattle.writer.proofs.put_leaf.Reads as put-leaf
-use Rattle.raw.proofs.put_number.Reads as put-number
 use Rattle.writer.proofs.+put_all+put_one.Lts-put_all as put-all-lts
 use Rattle.writer.proofs.+put_all+put_one.Lts-put_one as put-one-lts
 use Rattle.writer.proofs.+put_all+put_one.{statement}
 use Rattle.writer.proofs.+put_all+put_one.Tie.{close}
-use Common.{μ-put-all, μ-put-one, put-all-at, put-one-at, put-all-below, put-one-below}
+use Common.{μ-put-all, μ-put-one, put-all-at, put-one-at}
 
 pub +put-all+put-one-spec : {M : Type 1} → statement M
 +put-all+put-one-spec =
     close μ-put-all μ-put-one
-    (λ t. put-all-lts.spec (word.Asked, word.Learnt, put-one-below t, put-one.Post) (put-all-at t) put-all.Post All.Inv-loop All.μ-loop
+    (λ t. put-all-lts.spec (All.claims t) (put-all-at t) put-all.Post All.Inv-loop All.μ-loop
     (All.loop-holds t)
     (All.word-requires t)
     (All.put-one-requires t)
@@ -27,20 +22,20 @@ pub +put-all+put-one-spec : {M : Type 1} → statement M
     (All.loop-again t)
     (All.same-length t)
     (All.returns t))
-    (λ t. put-one-lts.spec (put-name.Asked, put-name.Learnt, word.Asked, word.Learnt, put-list.Asked, put-list.Learnt, put-all-below t, put-all.Post, put-number.Asked, put-number.Learnt, put-leaf.Asked, put-leaf.Learnt) (put-one-at t) put-one.Post
+    (λ t. put-one-lts.spec (One.claims t) (put-one-at t) put-one.Post
     (One.put-name-requires t)
     (One.word-requires t)
     (One.put-list-requires t)
     (One.add-put-all t)
     (One.put-all-requires t)
-    (One.same-length t)
-    (One.returns t)
     (One.add-put-all-2 t)
     (One.put-all-requires-2 t)
     (One.put-number-requires t)
     (One.add-result t)
+    (One.put-leaf-requires t)
+    (One.same-length t)
+    (One.returns t)
     (One.same-length-2 t)
     (One.returns-2 t)
-    (One.put-leaf-requires t)
     (One.same-length-3 t)
     (One.returns-3 t))

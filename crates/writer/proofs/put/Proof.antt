@@ -1,4 +1,4 @@
--- `writer::put` meets its contract: the root, as records side by side, is written, and its bytes are the layout of the table's document.
+-- Right since the root, as records side by side, is written, and its bytes are the layout of the table's document.
 -- Assumes nothing.
 use borrow.Author.Needs.{needs}
 use native.Mathlib.Omega.{arith}

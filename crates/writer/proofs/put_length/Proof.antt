@@ -1,42 +1,55 @@
--- `writer::put_length` meets its contract: each way through the code is a case of the definition.
+-- Right since each way through the code is a case of the definition.
 -- Assumes nothing.
 use borrow.Author.Needs.{needs}
 use native.Mathlib.Omega.{arith}
-use mathlib.Core.Path.{refl, ap, _∙_}
-use Rattle.form.proofs.Digits.{digits-length as bytes-length}
-use Rattle.writer.specs.Pieces.{headOf}
-use Rattle.writer.proofs.Bytes.{length-string, length-array, length-fixed}
-use Rattle.writer.proofs.Puts.{puts-none, puts-number}
+use mathlib.Core.Path.{_≡_, refl, sym, ap, _∙_}
 use lib.ListN.{length}
+use Rattle.form.specs.Numbers.{bytesOf}
+use Rattle.form.specs.Table.{Head}
+use Rattle.form.proofs.Digits.{digits-length as bytes-length}
+use Rattle.judging.specs.Pieces.{headOf, lengthBytes}
+use Rattle.judging.proofs.Bytes.{length-string, length-array, length-fixed}
+use Rattle.writer.proofs.Puts.{puts-none, puts-number}
 use Rattle.writer.proofs.put_length.Statement.{statement}
 use Rattle.writer.proofs.put_length.Tie as tie
-use Rattle.writer.proofs.put_length.Reads as reads
-use Rattle.writer.proofs.put_length.Lts as lts
-use Rattle.raw.proofs.put_number.Reads as put-number-reads
-use Rattle.table.proofs.word.Reads as word-reads
+
+-- The record's words, from where its kind is read.
+abbrev head-at : tie.After-word → Head
+head-at c = let a = c .before .before .before .args in headOf (a .table .now) (a .n)
+
+-- A string's length.
+string-bytes : (c : tie.At-match-keys1) → let h = head-at (c .before) in lengthBytes h ≡ bytesOf 2 (h .size)
+string-bytes c = length-string (head-at (c .before)) (sym (c .before .word .ensures) ∙ c .match .keys1)
+
+-- No string.
+other : (c : tie.At-match-rest) → head-at (c .before) .kind ≡ 8 → ⊥
+other c q = c .match .rest .1 (c .before .word .ensures ∙ q)
+
+-- An array's count.
+array-bytes : (c : tie.Else1) → let h = head-at (c .before .before) in lengthBytes h ≡ bytesOf 4 (h .count)
+array-bytes c = length-array (head-at (c .before .before)) (other (c .before)) (omega arith)
 
 put-number-requires : tie.Need-put-number-requires
-put-number-requires c κs = let a = c .before .before .before .before .before .before .args in (omega arith, omega (arith, ap length (length-string (headOf (a .table .now) (a .n)) (omega arith)), bytes-length 2 (headOf (a .table .now) (a .n) .size)))
+put-number-requires c κs =
+    let string = c .before .before in
+    (omega arith, omega (arith, ap length (string-bytes string), bytes-length 2 (head-at (string .before) .size)))
 
 returns : tie.Need-returns
 returns c =
-    let a = c .before .before .before .before .before .before .before .before .before .args in
-    rw (length-string (headOf (a .table .now) (a .n)) (omega arith)) (puts-number 2 _ _ refl (rw (c .before .before .before .word2 .ensures) at (c .before .before .put-number .ensures)))
+    let put = c .before .before in
+    let size = put .before in
+    rw (string-bytes (size .before .before)) (puts-number 2 _ _ refl (size .word2 .ensures) (put .put-number .ensures))
 
 put-number-requires-2 : tie.Need-put-number-requires-2
 put-number-requires-2 c κs =
-    let a = c .before .before .before .before .before .before .before .args in
-    (omega arith, omega (arith, ap length (length-array (headOf (a .table .now) (a .n)) (λ q. c .before .before .before .if1 .left (c .before .before .before .before .word .ensures ∙ q)) (omega arith)), bytes-length 4 (headOf (a .table .now) (a .n) .count)))
-
-returns-2 : tie.Need-returns-2
-returns-2 c =
-    let a = c .before .before .before .before .before .before .before .before .before .before .args in
-    rw (length-array (headOf (a .table .now) (a .n)) (λ q. c .before .before .before .before .before .before .if1 .left (c .before .before .before .before .before .before .before .word .ensures ∙ q)) (omega arith)) (puts-number 4 _ _ refl (rw (c .before .before .before .word3 .ensures) at (c .before .before .put-number2 .ensures)))
+    let array = c .before .before in
+    (omega arith, omega (arith, ap length (array-bytes array), bytes-length 4 (head-at (array .before .before) .count)))
 
 returns-3 : tie.Need-returns-3
 returns-3 c =
-    let a = c .before .before .before .before .before .args in
-    rw (length-fixed (headOf (a .table .now) (a .n)) (λ q. c .before .if1 .left (c .before .before .word .ensures ∙ q)) (omega arith)) (puts-none _ _)
+    let put = c .before .before in
+    let count = put .before in
+    rw (array-bytes (count .before .before)) (puts-number 4 _ _ refl (count .word3 .ensures) (put .put-number2 .ensures))
 
 pub put-length-spec : {M : Type 1} → statement M
 put-length-spec =
@@ -46,11 +59,11 @@ put-length-spec =
     (λ c κs. search needs)
     put-number-requires
     (λ c. search needs)
-    (λ c. search needs)
-    returns
     (λ c κs. search needs)
     put-number-requires-2
     (λ c. search needs)
     (λ c. search needs)
-    returns-2
+    returns
+    (λ c. rw (length-fixed (head-at (c .before .before)) (other (c .before)) (omega arith)) (puts-none _ _))
+    (λ c. search needs)
     returns-3)

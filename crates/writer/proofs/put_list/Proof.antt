@@ -1,26 +1,33 @@
--- `writer::put_list` meets its contract: id, then count.
+-- Right since the code puts the id, then the count, as the definition has them.
 -- Assumes nothing.
 use borrow.Author.Needs.{needs}
 use native.Mathlib.Omega.{arith}
 use mathlib.Core.Path.{refl}
 use Prim.Native.Nat.{_+_}
-use Rattle.writer.specs.Pieces.{headOf, listBytes}
-use Rattle.writer.proofs.Puts.{puts-number, puts-then}
 use Rattle.form.proofs.Digits.{digits-length as bytes-length}
+use Rattle.judging.specs.Pieces.{headOf, listBytes}
+use Rattle.writer.proofs.Puts.{puts-number, puts-then}
 use Rattle.writer.proofs.put_list.Statement.{statement}
 use Rattle.writer.proofs.put_list.Tie as tie
-use Rattle.writer.proofs.put_list.Reads as reads
-use Rattle.writer.proofs.put_list.Lts as lts
-use Rattle.raw.proofs.put_number.Reads as put-number-reads
-use Rattle.table.proofs.word.Reads as word-reads
+
+-- The start, from the call that puts the id.
+abbrev start-of : tie.After-put-number-arg → tie.Start
+start-of c = c .before .before .before
+
+-- That call, from the one that puts the count.
+abbrev id-of : tie.After-put-number-arg2 → tie.After-put-number
+id-of c = c .before .before .before
 
 returns : tie.Need-returns
 unfolding listBytes
 returns c =
-    let a = c .before .before .before .before .before .before .before .before .before .before .before .before .args in
+    let put = c .before .before in
+    let count = put .before in
+    let id = id-of (count .before) in
+    let a = start-of (id .before .before) .args in
     let h = headOf (a .table .now) (a .n) in
-    let one = puts-number 1 (h .list-kind) (a .at + 1) refl (rw (c .before .before .before .before .before .before .before .before .word .ensures) at (c .before .before .before .before .before .before .before .put-number .ensures)) in
-    let two = puts-number 4 (h .count) (a .at + 5) (omega arith) (rw (c .before .before .before .word2 .ensures) at (c .before .before .put-number2 .ensures)) in
+    let one = puts-number 1 (h .list-kind) (a .at + 1) refl (id .before .word .ensures) (id .put-number .ensures) in
+    let two = puts-number 4 (h .count) (a .at + 5) (omega arith) (count .word2 .ensures) (put .put-number2 .ensures) in
     puts-then one (omega (arith, bytes-length 1 (h .list-kind))) two
 
 pub put-list-spec : {M : Type 1} → statement M

@@ -1,65 +1,94 @@
--- `writer::put_name` meets its contract: id, length, name.
+-- Right since the code puts an entry's id, the length of its name and the name, one after the other, as the definition has them.
 -- Assumes nothing.
 use borrow.Author.Needs.{needs}
 use native.Mathlib.Omega.{arith}
-use mathlib.Core.Path.{refl}
+use mathlib.Core.Path.{refl, ap}
 use Prim.Native.Nat.{_+_, _≤_}
 use lib.ListN.{length}
+use Rattle.form.specs.Table.{Head}
 use Rattle.form.proofs.Digits.{digits-length as bytes-length}
-use Rattle.writer.specs.Pieces.{headOf}
-use Rattle.writer.proofs.Bytes.{name-element, name-entry, name-length}
+use Rattle.judging.specs.Pieces.{headOf}
+use Rattle.judging.proofs.Bytes.{name-element, name-entry, name-length}
 use Rattle.writer.proofs.Puts.{puts-none, puts-number, puts-span, puts-then}
 use Rattle.writer.proofs.put_name.Statement.{statement}
 use Rattle.writer.proofs.put_name.Tie as tie
-use Rattle.writer.proofs.put_name.Reads as reads
-use Rattle.writer.proofs.put_name.Lts as lts
-use Rattle.raw.proofs.put_number.Reads as put-number-reads
-use Rattle.table.proofs.word.Reads as word-reads
-use Rattle.writer.proofs.copy.Reads as copy-reads
 
--- there is room for all of it
-room : (c : tie.Else1) → let a = c .before .before .before .before .args in a .at + (3 + headOf (a .table .now) (a .n) .name-length) ≤ length (a .out .now)
+-- The start, from where `list` is asked.
+abbrev start-of : tie.After-slice-known → tie.Start
+start-of c = c .before .before .before
+
+-- Where the name's length is read, from where the id is put.
+abbrev size-of : tie.After-put-number → tie.After-word
+size-of c = c .before .before .before
+
+-- Where the id is put, from the call that puts the length.
+abbrev id-of : tie.After-put-number-arg2 → tie.After-put-number
+id-of c = c .before .before .before
+
+-- Where the length is put, from where the name's place is read.
+abbrev length-of : tie.After-word3 → tie.After-put-number2
+length-of c = c .before .before .before
+
+-- The record's words.
+abbrev head-of : tie.Start → Head
+head-of s = headOf (s .args .table .now) (s .args .n)
+
+-- There is room for all of it.
+room : (c : tie.Else1) → let s = start-of (c .before) in s .args .at + (3 + head-of s .name-length) ≤ length (s .args .out .now)
 room c =
-    let s = c .before .before .before .before in
-    let a = s .args in
-    rw (name-length (a .doc .now) (headOf (a .table .now) (a .n)) (a .list) (c .if1 .left) (s .pre .0 .name)) at (s .pre .1)
+    let s = start-of (c .before) in
+    rw (name-length (s .args .doc .now) (head-of s) (s .args .list) (c .if1 .left) (s .pre .0 .name)) at (s .pre .1)
 
 returns : tie.Need-returns
-returns c = let a = c .before .before .before .before .args in rw (name-element (a .doc .now) (headOf (a .table .now) (a .n)) (a .list) (c .if1 .taken)) (puts-none _ _)
-
-put-number-requires : tie.Need-put-number-requires
-put-number-requires c κs = (omega arith, omega (arith, room (c .before .before .before)))
-
-add-put-number : tie.Need-add-put-number
-add-put-number c = omega (arith, room (c .before .before .before .before .before .before .before))
+returns c = let s = start-of (c .before) in rw (name-element (s .args .doc .now) (head-of s) (s .args .list) (c .if1 .taken)) (puts-none _ _)
 
 put-number-requires-2 : tie.Need-put-number-requires-2
-put-number-requires-2 c κs = (omega arith, omega (arith, room (c .before .before .before .before .before .before .before), c .before .before .before .put-number .kept .0))
+put-number-requires-2 c κs = let id = id-of c in (omega arith, omega (arith, room (size-of id .before), id .put-number .kept .0))
 
 add-copy : tie.Need-add-copy
-add-copy c = omega (arith, room (c .before .before .before .before .before .before .before .before .before .before .before .before))
+add-copy c = let id = id-of (length-of (c .before) .before) in omega (arith, room (size-of id .before))
 
 copy-requires : tie.Need-copy-requires
-copy-requires c κs = let s = c .before .before .before .before .before .before .before .before .before .before .before .before .before .before .before .before in (omega (arith, s .pre .0 .name, c .before .word3 .ensures, c .before .before .before .before .before .before .before .before .before .before .before .word .ensures), omega (arith, room (c .before .before .before .before .before .before .before .before .before .before .before .before), c .before .before .before .before .before .before .before .before .before .before .before .word .ensures, c .before .before .before .before .put-number2 .kept .0, c .before .before .before .before .before .before .before .before .put-number .kept .0))
+copy-requires c κs =
+    let at-name = c .before in
+    let long = length-of at-name in
+    let id = id-of (long .before) in
+    let size = size-of id in
+    let s = start-of (size .before .before) in (
+      omega (arith, s .pre .0 .name, at-name .word3 .ensures, size .word .ensures),
+      omega (arith, room (size .before), size .word .ensures, long .put-number2 .kept .0, id .put-number .kept .0),
+    )
 
 add-result : tie.Need-add-result
-add-result c = omega (arith, room (c .before .before .before .before .before .before .before .before .before .before .before .before .before .before .before))
+add-result c =
+    let copied = c .before .before in
+    let entry = size-of (id-of (length-of (copied .before .before) .before)) .before in
+    omega (arith, room entry, start-of (entry .before) .good)
 
 add-result-2 : tie.Need-add-result-2
-add-result-2 c = omega (arith, room (c .before .before .before .before .before .before .before .before .before .before .before .before .before .before .before), c .before .before .before .before .before .before .before .before .before .before .before .before .before .before .word .ensures)
+add-result-2 c =
+    let copied = c .before .before in
+    let size = size-of (id-of (length-of (copied .before .before) .before)) in
+    omega (arith, room (size .before), size .word .ensures, start-of (size .before .before) .good)
 
 returns-2 : tie.Need-returns-2
 returns-2 c =
-    let s = c .before .before .before .before .before .before .before .before .before .before .before .before .before .before .before .before .before .before .before in
-    let a = s .args in
-    let h = headOf (a .table .now) (a .n) in
-    let w = c .before .before .before .before .before .before .before .before .before .before .before .before .before .before .word .ensures in
-    let r = room (c .before .before .before .before .before .before .before .before .before .before .before .before .before .before .before) in
-    let one = puts-number 1 (h .kind) (a .at + 1) refl (rw (c .before .before .before .before .before .before .before .before .before .before .before .before .word2 .ensures) at (c .before .before .before .before .before .before .before .before .before .before .before .put-number .ensures)) in
-    let two = puts-number 2 (h .name-length) (a .at + 3) (omega arith) (rw w at (c .before .before .before .before .before .before .before .put-number2 .ensures)) in
-    let three = puts-span (a .doc .now) (h .name) (h .name-length) (a .at + 3 + c .before .before .before .before .before .before .before .before .before .before .before .before .before .before .word .result) (s .pre .0 .name) (omega arith) (rw (c .before .before .before .before .word3 .ensures, w) at (c .before .before .copy .ensures)) in
-    rw (name-entry (a .doc .now) h (a .list) (c .before .before .before .before .before .before .before .before .before .before .before .before .before .before .before .if1 .left))
-    (puts-then one (omega (arith, bytes-length 1 (h .kind))) (puts-then two (omega (arith, bytes-length 2 (h .name-length), c .before .before .before .before .before .before .before .before .before .before .before .put-number .kept .0)) three))
+    let copied = c .before .before in
+    let at-name = copied .before .before in
+    let long = length-of at-name in
+    let id = id-of (long .before) in
+    let size = size-of id in
+    let entry = size .before in
+    let s = start-of (entry .before) in
+    let at = s .args .at in
+    let h = head-of s in
+    let w = size .word .ensures in
+    let r = room entry in
+    let one = puts-number 1 (h .kind) (at + 1) refl (id .before .word2 .ensures) (id .put-number .ensures) in
+    let two = puts-number 2 (h .name-length) (at + 3) (omega arith) w (long .put-number2 .ensures) in
+    let three = puts-span (s .args .doc .now) (h .name) (h .name-length) _ (s .pre .0 .name) (ap (λ k. at + 3 + k) w) (at-name .word3 .ensures) w (copied .copy .ensures) in
+    let rest = puts-then two (omega (arith, bytes-length 2 (h .name-length), id .put-number .kept .0)) three in
+    rw (name-entry (s .args .doc .now) h (s .args .list) (entry .if1 .left)) (puts-then one (omega (arith, bytes-length 1 (h .kind))) rest)
 
 pub put-name-spec : {M : Type 1} → statement M
 put-name-spec =
@@ -68,8 +97,8 @@ put-name-spec =
     returns
     (λ c κs. search needs)
     (λ c κs. search needs)
-    put-number-requires
-    add-put-number
+    (λ c κs. (omega arith, omega (arith, room (c .before .before .before))))
+    (λ c. omega (arith, room (size-of (id-of c) .before)))
     put-number-requires-2
     (λ c κs. search needs)
     add-copy

@@ -1,4 +1,4 @@
--- `writer::write` meets its contract: by the answer of the table's check.
+-- Right by the answer of the table's check.
 -- Assumes nothing.
 use borrow.Author.Needs.{needs}
 use mathlib.Core.Path.{ap}
@@ -6,25 +6,26 @@ use lib.ListN.{length}
 use Rattle.writer.proofs.Documents.{write-large, write-unfit, write-formed, write-fit}
 use Rattle.writer.proofs.write.Statement.{statement}
 use Rattle.writer.proofs.write.Tie as tie
-use Rattle.writer.proofs.write.Reads as reads
-use Rattle.writer.proofs.write.Lts as lts
-use Rattle.table.proofs.is_table.Reads as is-table-reads
-use Rattle.writer.proofs.written.Reads as written-reads
+
+-- Where the table is checked, from where it is known to be one.
+abbrev check-of : tie.After-enum-told3 → tie.After-is-table
+check-of c = c .before .before
+
+-- Where it is written, from where it comes back.
+abbrev written-of : tie.After-slice-known3 → tie.After-written
+written-of c = c .before .before
 
 written-requires : tie.Need-written-requires
-written-requires c κs = write-formed _ _ (c .before .before .before .before .before .before .before .before .before .args .out .now) (c .before .before .before .before .is-table .ensures .0) (c .before .before .enum-told3 .given .1)
-
-returns : tie.Need-returns
-returns c = write-large _ _ _ (c .before .before .is-table .ensures .0) (c .enum-told .given .1)
-
-returns-2 : tie.Need-returns-2
-returns-2 c = write-unfit _ _ _ (c .before .before .is-table .ensures .0) (c .enum-told2 .given .1)
-
-same-length-3 : tie.Need-same-length-3
-same-length-3 c = ap length (c .before .before .before .before .written .ensures .1)
+written-requires c κs =
+    let formed = c .before .before in
+    write-formed _ _ (check-of formed .is-table .ensures .0) (formed .enum-told3 .given .1)
 
 returns-3 : tie.Need-returns-3
-returns-3 c = write-fit _ _ _ (c .before .before .before .before .before .before .before .before .before .is-table .ensures .0) (c .before .before .before .before .before .before .before .enum-told3 .given .1) (c .before .before .before .before .written .result) (c .before .before .before .before .written .ensures .0) (c .before .before .before .before .written .ensures .1)
+returns-3 c =
+    let done = written-of (c .before .before) in
+    let formed = done .before .before .before in
+    let told = done .written in
+    write-fit _ _ (check-of formed .is-table .ensures .0) _ (formed .enum-told3 .given .1) (told .result) (told .ensures .0) (told .ensures .1)
 
 pub write-spec : {M : Type 1} → statement M
 write-spec =
@@ -36,9 +37,9 @@ write-spec =
     (λ c. search needs)
     written-requires
     (λ c. search needs)
-    returns
+    (λ c. write-large _ _ (c .before .before .is-table .ensures .0) _ (c .enum-told .given .1))
     (λ c. search needs)
-    returns-2
-    same-length-3
+    (λ c. write-unfit _ _ (c .before .before .is-table .ensures .0) _ (c .enum-told2 .given .1))
+    (λ c. ap length (written-of (c .before .before) .written .ensures .1))
     (λ c. search needs)
     returns-3)

@@ -1,66 +1,88 @@
--- `writer::written` meets its contract: the root, as records side by side, is judged, then written.
+-- Right since the root, as records side by side, is judged, then written where there is room.
 -- Assumes nothing.
 use borrow.Author.Needs.{needs}
 use native.Mathlib.Omega.{arith}
-use mathlib.Core.Path.{sym, ap, subst}
-use mathlib.Core.Bool.{false}
+use mathlib.Core.Path.{refl, ap}
 use lib.ListN.{length}
-use Rattle.writer.specs.Pieces.{laid}
-use Rattle.writer.specs.Steps.{SomeRoom, Puts}
 use Rattle.writer.proofs.Documents.{root-room, root, table-no, table-room, table-full, table-done}
 use Rattle.writer.proofs.written.Statement.{statement}
 use Rattle.writer.proofs.written.Tie as tie
-use Rattle.writer.proofs.written.Reads as reads
-use Rattle.writer.proofs.written.Lts as lts
-use Rattle.table.proofs.word.Reads as word-reads
-use Rattle.writer.proofs.judged.Reads as judged-reads
-use Rattle.writer.proofs.put_all.Reads as put-all-reads
+
+-- What is known of the document's bytes, right after the start, from where the root's end is read.
+abbrev bytes-of : tie.After-word-arg → tie.After-shared-slice-known
+bytes-of c = c .before .before .before
+
+-- Where that is read, from where the records are judged.
+abbrev word-of : tie.After-judged → tie.After-word
+word-of c = c .before .before
+
+-- What is known of the bytes, from there.
+abbrev bytes-at : tie.After-judged → tie.After-shared-slice-known
+bytes-at c = bytes-of (word-of c .before)
+
+-- Where they are judged, from where the answer is looked at.
+abbrev judged-of : tie.After-slice-known3 → tie.After-judged
+judged-of c = c .before .before
+
+-- Where they pass, from the room that there is.
+abbrev passed-of : tie.Else1 → tie.After-bytes
+passed-of c = c .before .before
+
+-- And where there is room, from where they are written.
+abbrev room-of : tie.After-put-all → tie.Else1
+room-of c = c .before .before .before
 
 word-requires : tie.Need-word-requires
-word-requires c κs = let s = c .before .before .before .before in (root-room (s .args .doc .now) _ (s .pre .small) (s .pre .table), omega arith)
+word-requires c κs =
+    let start = bytes-of c .before in
+    (root-room (start .args .doc .now) _ (start .pre .small) (start .pre .table), omega arith)
 
 judged-requires : tie.Need-judged-requires
-judged-requires c κs = let s = c .before .before .before .before .before .before in root _ _ (s .pre .small) (s .pre .table) (c .before .word .ensures)
-
-same-length : tie.Need-same-length
-same-length c = ap length (c .before .before .before .before .before .before .judged .ensures .1)
+judged-requires c κs =
+    let at-word = c .before in
+    let start = bytes-of (at-word .before) .before in
+    root _ _ (start .pre .small) (start .pre .table) refl (at-word .word .ensures)
 
 returns : tie.Need-returns
 returns c =
-    let s = c .before .before .before .before .before .before .before .before .before .before .before .before .before in
-    let j = c .before .before .before .before .before .before in (
-      λ i. table-full _ _ (s .pre .small) i (s .args .out .now) (c .before .before .before .before .before .before .before .before .word .ensures) (j .judged .result) (j .judged .ensures .0) (c .before .before .bytes .given .1) (λ k. omega (arith, c .before .before .before .before .before .before .before .before .before .before .before .before .shared-slice-known .given k)) (c .if1 .taken),
-      j .judged .ensures .1,
+    let passed = c .before .before in
+    let told = judged-of (passed .before .before) in
+    let at-bytes = bytes-at told in
+    let start = at-bytes .before in (
+      λ i. table-full _ _ (start .pre .small) i (start .args .out .now) (word-of told .word .ensures) (told .judged .result) (told .judged .ensures .0)
+          (passed .bytes .given .1) (λ k. omega (arith, at-bytes .shared-slice-known .given k)) (c .if1 .taken),
+      told .judged .ensures .1,
     )
 
 put-all-requires : tie.Need-put-all-requires
 put-all-requires c κs =
-    let s = c .before .before .before .before .before .before .before .before .before .before .before .before .before .before .before in
-    let a = s .args in
-    let j = c .before .before .before .before .before .before .before .before in
-    subst (λ x. SomeRoom (a .doc .now) x false 0 (c .before .before .before .before .before .before .before .before .before .before .word .result) (a .out .now) 0) (sym (j .judged .ensures .1))
-    (table-room _ _ (s .pre .small) (s .pre .table) (a .out .now) (c .before .before .before .before .before .before .before .before .before .before .word .ensures) (j .judged .result) (j .judged .ensures .0) (c .before .before .before .before .bytes .given .1) (c .before .before .if1 .left))
-
-same-length-2 : tie.Need-same-length-2
-same-length-2 c = ap length (c .before .before .before .before .before .judged .ensures .1)
+    let roomy = c .before .before in
+    let passed = passed-of roomy in
+    let told = judged-of (passed .before .before) in
+    let start = bytes-at told .before in
+    table-room _ _ (start .pre .small) (start .pre .table) (start .args .out .now) (word-of told .word .ensures) (told .judged .result) (told .judged .ensures .0)
+    (passed .bytes .given .1) (told .judged .ensures .1) (roomy .if1 .left)
 
 returns-2 : tie.Need-returns-2
 returns-2 c =
-    let s = c .before .before .before .before .before .before .before .before .before .before .before .before in
-    let j = c .before .before .before .before .before in
-    (λ i. table-no _ _ (s .pre .small) i (s .args .out .now) (c .before .before .before .before .before .before .before .word .ensures) (j .judged .result) (j .judged .ensures .0) (c .before .number .given .1), j .judged .ensures .1)
-
-same-length-3 : tie.Need-same-length-3
-same-length-3 c = ap length (c .before .before .before .before .before .before .before .before .before .before .before .judged .ensures .1)
+    let told = judged-of (c .before .before .before) in
+    let start = bytes-at told .before in (
+      λ i. table-no _ _ (start .pre .small) i (start .args .out .now) (word-of told .word .ensures) (told .judged .result) (told .judged .ensures .0)
+          (c .before .number .given .1),
+      told .judged .ensures .1,
+    )
 
 returns-3 : tie.Need-returns-3
 returns-3 c =
-    let s = c .before .before .before .before .before .before .before .before .before .before .before .before .before .before .before .before .before .before in
-    let a = s .args in
-    let j = c .before .before .before .before .before .before .before .before .before .before .before in (
-      λ i. table-done _ _ (s .pre .small) i (a .out .now) (c .before .before .before .before .before .before .before .before .before .before .before .before .before .word .ensures) (j .judged .result) (j .judged .ensures .0) (c .before .before .before .before .before .before .before .bytes .given .1) (λ k. omega (arith, c .before .before .before .before .before .before .before .before .before .before .before .before .before .before .before .before .before .shared-slice-known .given k)) (c .before .before .before .before .before .if1 .left)
-          (subst (λ x. (p : SomeRoom (a .doc .now) x false 0 (c .before .before .before .before .before .before .before .before .before .before .before .before .before .word .result) (a .out .now) 0) → Puts (laid (a .doc .now) false (p .some .forest)) (a .out .now) 0 (c .before .before .put-all .last .1 .1 .1 .1 .1 .0) (c .before .before .put-all .result)) (j .judged .ensures .1) (c .before .before .put-all .ensures)),
-      j .judged .ensures .1,
+    let put = c .before .before in
+    let roomy = room-of put in
+    let passed = passed-of roomy in
+    let told = judged-of (passed .before .before) in
+    let at-bytes = bytes-at told in
+    let start = at-bytes .before in (
+      λ i. table-done _ _ (start .pre .small) i (start .args .out .now) (word-of told .word .ensures) (told .judged .result) (told .judged .ensures .0)
+          (passed .bytes .given .1) (λ k. omega (arith, at-bytes .shared-slice-known .given k)) (told .judged .ensures .1) (roomy .if1 .left) (put .put-all .ensures),
+      told .judged .ensures .1,
     )
 
 pub written-spec : {M : Type 1} → statement M
@@ -71,11 +93,11 @@ written-spec =
     judged-requires
     (λ c. search needs)
     (λ c. search needs)
-    same-length
+    (λ c. ap length (returns c .1))
     returns
     put-all-requires
-    same-length-2
+    (λ c. ap length (returns-2 c .1))
     returns-2
-    same-length-3
+    (λ c. ap length (returns-3 c .1))
     (λ c. search needs)
     returns-3)

@@ -108,7 +108,7 @@ steps are parted by /:
   SceneId       the entry of a compound so named; an odd name stands in \"quotes\" or 'quotes',
                 with the escapes \\\\ \\\" \\' \\n \\r \\t \\uXXXX
   [3]           that element of a list, from 0
-  *             any one child
+  *  or  [*]     any one child
   **            zero or more levels, whatever they are
 
 The first step may be root, the root tag itself, whatever its name. Sixteen steps at the most. Array elements are not tags.

@@ -137,7 +137,8 @@ pub fn trouble(trouble: &Trouble) -> String {
                 Place::Text(at) => position(bytes, at),
                 _ => String::new(),
             };
-            format!("refused: {refusal}{position}{}", window(refusal, bytes))
+            let hint = refusal.hint(bytes).map_or(String::new(), |hint| format!("; {hint}"));
+            format!("refused: {refusal}{position}{hint}{}", window(refusal, bytes))
         }
     }
 }

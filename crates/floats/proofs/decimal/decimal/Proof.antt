@@ -7,7 +7,7 @@ use mathlib.Core.Bool.{Bool, true, false}
 use Prim.Native.Nat.{ℕ, zero, suc, _*_, _^_}
 use native.Mathlib.Nat.{mul-one}
 use lib.IntN.{ℤ, pos, negsuc}
-use lib.Ieee.{Float, binary64, round, neg}
+use lib.Ieee.{binary64, round, neg}
 use Rattle.text_form.specs.Values.{signed}
 use Rattle.text_form.specs.Values.{nearestTo}
 use Rattle.floats.proofs.Operations.{neg-round}

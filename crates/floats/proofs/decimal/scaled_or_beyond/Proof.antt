@@ -2,13 +2,12 @@
 -- Assumes nothing.
 use borrow.Author.Needs.{needs}
 use borrow.Author.Tests.{eq-eqb, ne-eqb, le-leb, lt-leb}
-use mathlib.Core.Path.{_≡_, refl, sym, ap, _∙_}
+use mathlib.Core.Path.{_≡_, refl, ap}
 use mathlib.Core.Bool.{Bool, true, false}
-use Prim.Native.Nat.{ℕ, zero, suc, _^_}
-use lib.IntN.{ℤ, pos, natAbs}
-use lib.Ieee.{Float, fin, neg, ofBits, binary64}
+use Prim.Native.Nat.{ℕ, zero, suc}
+use lib.IntN.{pos, natAbs}
+use lib.Ieee.{fin, neg, ofBits, binary64}
 use Rattle.text_form.specs.Values.{signed}
-use Rattle.text_form.specs.Values.{nearestTo, scaled}
 use Rattle.form.specs.Answer.{got}
 use Rattle.floats.proofs.decimal.scaled_or_beyond.Statement.{statement}
 use Rattle.floats.proofs.decimal.scaled_or_beyond.Tie as tie

@@ -1,7 +1,7 @@
 -- `decimal::ten` meets its contract: each entry of the table is its power of ten exactly, by one test that antt computes over the table.
 -- Assumes nothing.
 use borrow.Author.Needs.{needs}
-use mathlib.Core.Path.{_≡_, refl}
+use mathlib.Core.Path.{refl}
 use mathlib.Core.List.{List, [], _∷_, map}
 use lib.ListN.{getD}
 use mathlib.Core.Bool.{Bool, true, false}
@@ -34,7 +34,12 @@ array-read-result c = search needs
 
 -- the table's entries, as bits
 tens : List Float
-tens = map (ofBits binary64) (0x3ff0000000000000 ∷ 0x4024000000000000 ∷ 0x4059000000000000 ∷ 0x408f400000000000 ∷ 0x40c3880000000000 ∷ 0x40f86a0000000000 ∷ 0x412e848000000000 ∷ 0x416312d000000000 ∷ 0x4197d78400000000 ∷ 0x41cdcd6500000000 ∷ 0x4202a05f20000000 ∷ 0x42374876e8000000 ∷ 0x426d1a94a2000000 ∷ 0x42a2309ce5400000 ∷ 0x42d6bcc41e900000 ∷ 0x430c6bf526340000 ∷ 0x4341c37937e08000 ∷ 0x4376345785d8a000 ∷ 0x43abc16d674ec800 ∷ 0x43e158e460913d00 ∷ 0x4415af1d78b58c40 ∷ 0x444b1ae4d6e2ef50 ∷ 0x4480f0cf064dd592 ∷ [])
+tens =
+    map (ofBits binary64)
+    (0x3ff0000000000000 ∷ 0x4024000000000000 ∷ 0x4059000000000000 ∷ 0x408f400000000000 ∷ 0x40c3880000000000 ∷ 0x40f86a0000000000 ∷
+    0x412e848000000000 ∷ 0x416312d000000000 ∷ 0x4197d78400000000 ∷ 0x41cdcd6500000000 ∷ 0x4202a05f20000000 ∷ 0x42374876e8000000 ∷
+    0x426d1a94a2000000 ∷ 0x42a2309ce5400000 ∷ 0x42d6bcc41e900000 ∷ 0x430c6bf526340000 ∷ 0x4341c37937e08000 ∷ 0x4376345785d8a000 ∷
+    0x43abc16d674ec800 ∷ 0x43e158e460913d00 ∷ 0x4415af1d78b58c40 ∷ 0x444b1ae4d6e2ef50 ∷ 0x4480f0cf064dd592 ∷ [])
 
 returns : tie.Need-returns
 unfolding tens ofBits

@@ -1,10 +1,10 @@
 -- `nearest::nearest_bits` meets its contract: the sign is a bit of its own, and zero has none.
 -- Assumes nothing.
 use borrow.Author.Needs.{needs}
-use mathlib.Core.Path.{_≡_, refl, sym, ap, _∙_, subst}
+use mathlib.Core.Path.{_≡_, refl, sym, ap, _∙_}
 use mathlib.Core.Bool.{Bool, true, false}
-use Prim.Native.Nat.{ℕ, zero, suc, _+_, _^_, _<_}
-use native.Mathlib.Nat.{add-comm, lt-irrefl}
+use Prim.Native.Nat.{ℕ, zero, suc, _+_, _^_}
+use native.Mathlib.Nat.{add-comm}
 use native.Mathlib.Omega.{arith}
 use lib.Ieee.{binary64, round, toBits, ofInt}
 use Rattle.text_form.specs.Values.{signed}

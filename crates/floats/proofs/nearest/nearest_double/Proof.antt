@@ -6,7 +6,7 @@ use mathlib.Core.Bool.{Bool, not}
 use Prim.Native.Nat.{ℕ}
 use lib.Dec.{T}
 use lib.IntN.{ℤ}
-use lib.Ieee.{Float, binary64, toBits, ofBits, ofInt, isNan, nanBits}
+use lib.Ieee.{binary64, toBits, ofBits, ofInt, isNan, nanBits}
 use lib.Ieee.Fits.{ofInt-fits}
 use lib.Ieee.Bits.{ofBits-toBits, nanBits-is}
 use Rattle.text_form.specs.Values.{signed}

@@ -41,11 +41,14 @@ word-from-spec =
     (r .high, rw e (run-kept _ (scanOf (l .st)) _ (l .inv .1) (r .low)), rw e (going-run (stopsIs (a .set)) (a .text .now) (a .start) (l .i) _ (scanOf (l .st)) (c .before .if1 .taken) r (l .inv .2))))
     (λ c. omega arith)
     (λ c κs. search needs)
+    (λ c κs. search needs)
     (λ c.
-    let q = c .before .before .before .before .before in
-    let l = q .before .loop in
-    let a = q .before .before .before .args in
-    going-stop (stopsIs (a .set)) (a .text .now) (a .start) (l .i) (scanOf (l .st)) (q .loop-test .taken) (sym (c .before .ends .ensures) ∙ c .if2 .taken) (l .inv .2))
+    let at-ends = c .before .before in
+    let at-test = at-ends .before .before .before .before in
+    let l = at-test .before .loop in
+    let a = at-test .before .before .before .args in
+    c .word-of .ensures
+    ∙ going-stop (stopsIs (a .set)) (a .text .now) (a .start) (l .i) (scanOf (l .st)) (at-test .loop-test .taken) (sym (at-ends .ends .ensures) ∙ c .before .if2 .taken) (l .inv .2))
     (λ c κs. let q = c .before .before .before .before .before in (q .before .loop .inv .1, omega arith))
     (λ c. omega arith)
     (λ c. omega arith)
@@ -58,4 +61,5 @@ word-from-spec =
       rw e (after-kept (l .i) (scanOf (l .st)) (getD (a .text .now) (l .i) 0) (l .inv .1)),
       rw e (going-on (stopsIs (a .set)) (a .text .now) (a .start) (l .i) (scanOf (l .st)) (q .loop-test .taken) (sym (c .before .before .ends .ensures) ∙ c .before .if2 .left) (l .inv .2)),
     ))
-    (λ c. let l = c .before .loop in going-end _ _ _ (l .i) (scanOf (l .st)) (c .loop-test .left) (l .inv .2)))
+    (λ c κs. search needs)
+    (λ c. let l = c .before .before .loop in c .word-of2 .ensures ∙ going-end _ _ _ (l .i) (scanOf (l .st)) (c .before .loop-test .left) (l .inv .2)))

@@ -35,7 +35,8 @@ returns c place =
     let z = b .before .before .before in
     let a = z .args in
     c .decimal-of .ensures place
-    ∙ ap₂ (λ (s : Bool) (l : List ℕ). decimalOf s l place) (b .before .minus-at .ensures) (sym (unsigned-part (a .at) (a .to) (b .behind-minus .result) (a .text .now) (z .pre .0) (z .pre .1) (starts b)))
+    ∙ ap₂ (λ (s : Bool) (l : List ℕ). decimalOf s l place) (b .before .minus-at .ensures)
+    (sym (unsigned-part (a .at) (a .to) (b .behind-minus .result) (a .text .now) (z .pre .0) (z .pre .1) (starts b)))
 
 pub decimal-at-spec : {M : Type 1} → statement M
 decimal-at-spec = tie.close (tie.spec minus-at-requires behind-minus-requires decimal-of-requires returns)

@@ -1,7 +1,7 @@
 -- `decimals::decimal_of` meets its contract: the point, and the letter behind it, are the definition's.
 -- Assumes nothing.
 use borrow.Author.Needs.{needs}
-use mathlib.Core.Path.{_≡_, _∙_}
+use mathlib.Core.Path.{_∙_}
 use native.Mathlib.Omega.{arith}
 use Rattle.numbers.proofs.Grammar.{no-point, with-point}
 use Rattle.numbers.proofs.decimals.decimal_of.Statement.{statement}
@@ -31,7 +31,8 @@ returns-2 c place =
     let z = f .before .before in
     let a = z .args in
     c .value-of .ensures place
-    ∙ with-point (a .negative) (a .text .now) (a .from) (a .to) (f .first-of .result) (c .before .first-of2 .result) place (f .first-of .ensures) (c .before .first-of2 .ensures) (z .pre .1) (omega (arith, z .good .0 .1)) (c .before .before .if1 .left)
+    ∙ with-point (a .negative) (a .text .now) (a .from) (a .to) (f .first-of .result) (c .before .first-of2 .result) place (f .first-of .ensures) (c .before .first-of2 .ensures) (z .pre .1)
+    (omega (arith, z .good .0 .1)) (c .before .before .if1 .left)
 
 pub decimal-of-spec : {M : Type 1} → statement M
 decimal-of-spec =

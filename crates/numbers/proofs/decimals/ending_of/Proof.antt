@@ -1,7 +1,7 @@
 -- `decimals::ending_of` meets its contract: the definition at each letter, and by the digit's range at every other byte.
 -- Assumes nothing.
 use borrow.Author.Tests.{ne-eqb}
-use mathlib.Core.Path.{_≡_, refl, sym, ap, _∙_}
+use mathlib.Core.Path.{sym, ap}
 use mathlib.Core.Logic.{⊎-elim, inl, inr}
 use Rattle.numbers.specs.Rows.{endingOf}
 use Rattle.numbers.proofs.Rows.{is-digit, below-digits, above-digits}

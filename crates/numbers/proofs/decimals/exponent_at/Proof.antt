@@ -4,7 +4,7 @@ use borrow.Author.Needs.{needs}
 use borrow.Author.Tests.{eq-eqb, ne-eqb}
 use mathlib.Core.Path.{_≡_, refl, sym, ap, ap₂, _∙_}
 use mathlib.Core.Bool.{Bool, true, false}
-use mathlib.Core.List.{List, _∷_}
+use mathlib.Core.List.{List}
 use Prim.Native.Nat.{ℕ, _+_, _≤_, _<_}
 use lib.Dec.{eqb}
 use lib.ListN.{length, getD}
@@ -58,7 +58,9 @@ power-at-requires-2 c κs = search needs
 
 returns-3 : tie.Need-returns-3
 returns-3 c =
-    let i = c .before .before .before .before in
+    let at-shared-slice-known2 = c .before .before .before in
+    let at-else1 = at-shared-slice-known2 .before in
+    let i = at-else1 in
     let z = i .before .before in
     let a = z .args in
     c .power-at2 .ensures
@@ -69,7 +71,9 @@ power-at-requires-3 c κs = search needs
 
 returns-4 : tie.Need-returns-4
 returns-4 c =
-    let i = c .before .before .before .before in
+    let at-shared-slice-known2 = c .before .before .before in
+    let at-else1 = at-shared-slice-known2 .before in
+    let i = at-else1 in
     let z = i .before .before in
     let a = z .args in
     c .power-at3 .ensures

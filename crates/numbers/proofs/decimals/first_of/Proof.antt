@@ -1,8 +1,8 @@
 -- `decimals::first_of` meets its contract. The loop's invariant: what is looked for from i on is what was looked for at the start.
 -- Assumes nothing.
-use mathlib.Core.Path.{_≡_, refl, sym, ap, _∙_}
+use mathlib.Core.Path.{_≡_, refl, ap, _∙_}
 use mathlib.Core.Bool.{true, false}
-use mathlib.Core.List.{List, _∷_}
+use mathlib.Core.List.{List}
 use Prim.Native.Nat.{ℕ, suc, _+_, _-_, _≤_, _<_}
 use native.Mathlib.Omega.{arith}
 use lib.ListN.{length, getD}
@@ -50,17 +50,22 @@ shared-slice-read-b c = omega arith
 
 returns : tie.Need-returns Inv-loop μ-loop
 returns c =
-    let a = c .before .before .before .before in
-    let l = c .before .before .before .loop in
+    let at-loop = c .before .before .before in
+    let start = at-loop .before in
+    let a = start in
+    let l = at-loop .loop in
     found (a .args .x) (a .args .y) (a .args .text .now) (a .args .at) (a .args .to) (l .i) (l .inv .0) (l .inv .1) (l .inv .2)
     (here (a .args .x) (a .args .y) (a .args .text .now) (l .i) (a .args .to) (c .before .before .loop-test .taken) (a .pre .1) (is-x (a .args .x) (a .args .y) _ (c .if1 .taken)))
 
 returns-2 : tie.Need-returns-2 Inv-loop μ-loop
 returns-2 c =
-    let a = c .before .before .before .before .before in
-    let l = c .before .before .before .before .loop in
+    let in-loop = c .before .before .before in
+    let at-loop = in-loop .before in
+    let start = at-loop .before in
+    let a = start in
+    let l = at-loop .loop in
     found (a .args .x) (a .args .y) (a .args .text .now) (a .args .at) (a .args .to) (l .i) (l .inv .0) (l .inv .1) (l .inv .2)
-    (here (a .args .x) (a .args .y) (a .args .text .now) (l .i) (a .args .to) (c .before .before .before .loop-test .taken) (a .pre .1) (is-y (a .args .x) (a .args .y) _ (c .if2 .taken)))
+    (here (a .args .x) (a .args .y) (a .args .text .now) (l .i) (a .args .to) (in-loop .loop-test .taken) (a .pre .1) (is-y (a .args .x) (a .args .y) _ (c .if2 .taken)))
 
 add-i : tie.Need-add-i Inv-loop μ-loop
 add-i c = omega arith
@@ -70,9 +75,13 @@ loop-less c = omega arith
 
 loop-again : tie.Need-loop-again Inv-loop μ-loop
 loop-again c =
-    let a = c .before .before .before .before .before in
-    let l = c .before .before .before .before .loop in
-    let n = later (a .args .x) (a .args .y) (a .args .text .now) (l .i) (a .args .to) (c .before .before .before .loop-test .taken) (a .pre .1) (neither (a .args .x) (a .args .y) _ (c .before .if1 .left) (c .if2 .left)) in
+    let in-loop = c .before .before .before in
+    let at-loop = in-loop .before in
+    let start = at-loop .before in
+    let a = start in
+    let l = at-loop .loop in
+    let n = later (a .args .x) (a .args .y) (a .args .text .now) (l .i) (a .args .to) (in-loop .loop-test .taken) (a .pre .1)
+    (neither (a .args .x) (a .args .y) _ (c .before .if1 .left) (c .if2 .left)) in
     (omega arith, omega arith, omega (arith, n, l .inv .2))
 
 returns-3 : tie.Need-returns-3 Inv-loop μ-loop

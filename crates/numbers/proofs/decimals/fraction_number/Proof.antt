@@ -54,7 +54,8 @@ returns-2 c =
     let z = r .before .before in
     let a = z .args in
     c .short-real .ensures
-    ∙ to-end (a .text .now) (a .start) (a .end) (a .negative) (a .value) (a .point) (z .pre .1) (z .pre .2) (z .pre .0) (z .pre .3) (r .run-from .result) (r .run-from .ensures) (g .if1 .left) (omega (arith, z .good .0 .1)) (t .if2 .taken)
+    ∙ to-end (a .text .now) (a .start) (a .end) (a .negative) (a .value) (a .point) (z .pre .1) (z .pre .2) (z .pre .0) (z .pre .3) (r .run-from .result) (r .run-from .ensures)
+    (g .if1 .left) (omega (arith, z .good .0 .1)) (t .if2 .taken)
 
 add-if3 : tie.Need-add-if3
 add-if3 c = search needs
@@ -87,13 +88,21 @@ enum-told-3 : tie.Need-enum-told-3
 enum-told-3 c = search needs
 
 decimal-number-requires-3 : tie.Need-decimal-number-requires-3
-decimal-number-requires-3 c κs = token-in (c .before .before .before .before .before .before .before)
+decimal-number-requires-3 c κs =
+    let at-shared-slice-known2 = c .before .before .before in
+    let at-else1 = at-shared-slice-known2 .before .before .before in
+    let at-run-from = at-else1 .before in
+    token-in (at-run-from)
 
 enum-told-4 : tie.Need-enum-told-4
 enum-told-4 c = search needs
 
 decimal-number-requires-4 : tie.Need-decimal-number-requires-4
-decimal-number-requires-4 c κs = token-in (c .before .before .before .before .before .before .before)
+decimal-number-requires-4 c κs =
+    let at-shared-slice-known2 = c .before .before .before in
+    let at-else1 = at-shared-slice-known2 .before .before .before in
+    let at-run-from = at-else1 .before in
+    token-in (at-run-from)
 
 returns-4 : tie.Need-returns-4
 returns-4 c =
@@ -106,7 +115,8 @@ returns-4 c =
     let z = r .before .before in
     let a = z .args in
     c .short-real2 .ensures
-    ∙ to-float (a .text .now) (a .start) (a .end) (a .negative) (a .value) (a .point) (z .pre .1) (z .pre .2) (z .pre .0) (z .pre .3) (r .run-from .result) (r .run-from .ensures) (g .if1 .left) (omega (arith, z .good .0 .1)) (f .if3 .left) (e .if2 .left) (sym (t .enum-told .given .1) ∙ n .ending-of .ensures)
+    ∙ to-float (a .text .now) (a .start) (a .end) (a .negative) (a .value) (a .point) (z .pre .1) (z .pre .2) (z .pre .0) (z .pre .3) (r .run-from .result) (r .run-from .ensures)
+    (g .if1 .left) (omega (arith, z .good .0 .1)) (f .if3 .left) (e .if2 .left) (sym (t .enum-told .given .1) ∙ n .ending-of .ensures)
 
 returns-5 : tie.Need-returns-5
 returns-5 c =
@@ -119,7 +129,8 @@ returns-5 c =
     let z = r .before .before in
     let a = z .args in
     c .short-real3 .ensures
-    ∙ to-double (a .text .now) (a .start) (a .end) (a .negative) (a .value) (a .point) (z .pre .1) (z .pre .2) (z .pre .0) (z .pre .3) (r .run-from .result) (r .run-from .ensures) (g .if1 .left) (omega (arith, z .good .0 .1)) (f .if3 .left) (e .if2 .left) (sym (t .enum-told2 .given .1) ∙ n .ending-of .ensures)
+    ∙ to-double (a .text .now) (a .start) (a .end) (a .negative) (a .value) (a .point) (z .pre .1) (z .pre .2) (z .pre .0) (z .pre .3) (r .run-from .result) (r .run-from .ensures)
+    (g .if1 .left) (omega (arith, z .good .0 .1)) (f .if3 .left) (e .if2 .left) (sym (t .enum-told2 .given .1) ∙ n .ending-of .ensures)
 
 returns-6 : tie.Need-returns-6
 returns-6 c = search needs

@@ -6,7 +6,6 @@ use mathlib.Core.Bool.{Bool}
 use lib.Seq.{slice}
 use Rattle.form.specs.Answer.{pick}
 use Rattle.numbers.specs.Rows.{digitsOf, counted, powerOf}
-use Rattle.numbers.specs.declared.digits.Digits.{Digits}
 use Rattle.numbers.specs.declared.decimals.Exponent.the-variants.{Wrong}
 use Rattle.numbers.proofs.Slices.{slice-none}
 use Rattle.numbers.proofs.Tokens.{some-bytes}

@@ -1,7 +1,7 @@
 -- `decimals::real_of` meets its contract, case by case.
 -- Assumes nothing.
 use borrow.Author.Needs.{needs}
-use mathlib.Core.Path.{_≡_, refl, sym, ap}
+use mathlib.Core.Path.{sym, ap}
 use Rattle.floats.specs.Scaled.{scaledOut}
 use Rattle.floats.specs.declared.decimal.Scaled.{Scaled}
 use Rattle.numbers.proofs.decimals.real_of.Statement.{statement}

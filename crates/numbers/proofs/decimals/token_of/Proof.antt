@@ -1,7 +1,7 @@
 -- `decimals::token_of` meets its contract, case by case.
 -- Assumes nothing.
 use borrow.Author.Needs.{needs}
-use mathlib.Core.Path.{_≡_, refl, sym, ap, ap₂, _∙_}
+use mathlib.Core.Path.{sym, ap, ap₂}
 use mathlib.Core.Bool.{Bool}
 use Rattle.text_form.specs.Numbers.{realNumber}
 use Rattle.numbers.specs.Answers.{realOut}

@@ -2,14 +2,9 @@
 -- Assumes nothing.
 use borrow.Author.Needs.{needs}
 use borrow.Author.Tests.{eq-eqb, ne-eqb}
-use mathlib.Core.Path.{_≡_, sym, ap₂, _∙_}
-use mathlib.Core.List.{List}
-use mathlib.Core.Bool.{Bool, true, false}
-use Prim.Native.Nat.{ℕ, _+_, _-_}
+use mathlib.Core.Path.{ap₂, _∙_}
+use Prim.Native.Nat.{_+_, _-_}
 use native.Mathlib.Omega.{arith}
-use lib.Dec.{eqb, leb}
-use lib.Seq.{slice}
-use Rattle.form.specs.Answer.{no, pick, badNumber}
 use Rattle.numbers.specs.Rows.{combine, valueIn}
 use Rattle.numbers.specs.declared.digits.Digits.{Digits}
 use Rattle.numbers.specs.declared.decimals.Exponent.{Exponent}
@@ -39,13 +34,18 @@ exponent-from-requires : tie.Need-exponent-from-requires
 exponent-from-requires c κs = search needs
 
 combined-requires : tie.Need-combined-requires
-combined-requires c κs = let a = c .before .before .before .before in omega (arith, a .good .0 .1, a .pre)
+combined-requires c κs =
+    let at-shared-slice-known = c .before .before .before in
+    let start = at-shared-slice-known .before in
+    let a = start in omega (arith, a .good .0 .1, a .pre)
 
 returns-2 : tie.Need-returns-2
 unfolding valueIn
 returns-2 c place =
-    let a = c .before .before .before .before .before .args in
-    simp (ne-eqb _ _ (c .before .before .before .if1 .left))
+    let at-else1 = c .before .before .before in
+    let start = at-else1 .before .before in
+    let a = start .args in
+    simp (ne-eqb _ _ (at-else1 .if1 .left))
     (c .combined .ensures place
     ∙ ap₂ (λ (m : Digits) (x : Exponent). combine (a .negative) (a .ex - (a .point + 1)) m x place) (c .before .before .mantissa .ensures) (c .before .exponent-from .ensures))
 

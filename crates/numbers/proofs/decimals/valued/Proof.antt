@@ -1,7 +1,7 @@
 -- `decimals::valued` meets its contract: the exponent less the digits behind the point, by sign and size.
 -- Assumes nothing.
 use borrow.Author.Needs.{needs}
-use mathlib.Core.Path.{_≡_, sym, ap, _∙_}
+use mathlib.Core.Path.{sym, ap, _∙_}
 use mathlib.Core.Bool.{Bool}
 use lib.IntN.{ℤ, pos, _-ℤ_}
 use Rattle.text_form.specs.Values.{signed, scaled}
@@ -38,7 +38,8 @@ returns-3 : tie.Need-returns-3
 returns-3 c place =
     let a = c .before .before .before .args in
     c .scaled-or-beyond3 .ensures place
-    ∙ ap (λ (p : ℤ). scaled (a .negative) (a .w) p place) (up-rest (a .e) (a .behind) (c .before .if3 .taken) ∙ ap (λ (b : Bool). signed b (a .e) -ℤ pos (a .behind)) (sym (c .before .before .if1 .left)))
+    ∙ ap (λ (p : ℤ). scaled (a .negative) (a .w) p place)
+    (up-rest (a .e) (a .behind) (c .before .if3 .taken) ∙ ap (λ (b : Bool). signed b (a .e) -ℤ pos (a .behind)) (sym (c .before .before .if1 .left)))
 
 sub-scaled-or-beyond : tie.Need-sub-scaled-or-beyond
 sub-scaled-or-beyond c = search needs
@@ -50,7 +51,8 @@ returns-4 : tie.Need-returns-4
 returns-4 c place =
     let a = c .before .before .before .args in
     c .scaled-or-beyond4 .ensures place
-    ∙ ap (λ (p : ℤ). scaled (a .negative) (a .w) p place) (down-rest (a .e) (a .behind) (c .before .if3 .left) ∙ ap (λ (b : Bool). signed b (a .e) -ℤ pos (a .behind)) (sym (c .before .before .if1 .left)))
+    ∙ ap (λ (p : ℤ). scaled (a .negative) (a .w) p place)
+    (down-rest (a .e) (a .behind) (c .before .if3 .left) ∙ ap (λ (b : Bool). signed b (a .e) -ℤ pos (a .behind)) (sym (c .before .before .if1 .left)))
 
 pub valued-spec : {M : Type 1} → statement M
 valued-spec =

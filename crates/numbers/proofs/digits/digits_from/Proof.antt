@@ -7,7 +7,6 @@ use native.Mathlib.Omega.{arith}
 use lib.ListN.{length, getD}
 use lib.Seq.{slice}
 use Rattle.numbers.specs.Rows.{cap, digitsOf}
-use Rattle.numbers.specs.declared.digits.Digits.the-variants.{Value, Bad}
 use Rattle.numbers.proofs.Slices.{slice-none, slice-first}
 use Rattle.numbers.proofs.Rows.{is-digit, below-digits, above-digits, digits-more, digits-broken, digits-end}
 use Rattle.numbers.proofs.digits.digits_from.Statement.{statement}
@@ -31,18 +30,23 @@ shared-slice-read-b c = omega arith
 
 returns : tie.Need-returns Inv-loop μ-loop
 returns c =
-    let l = c .before .before .before .loop in
-    let a = c .before .before .before .before .before in
+    let at-loop = c .before .before .before in
+    let start = at-loop .before .before in
+    let l = at-loop .loop in
+    let a = start in
     digits-broken (l .n) _ (slice (l .i + 1) (a .args .to) (a .args .text .now)) (below-digits _ (c .if1 .taken))
     ∙ byte-first (l .n) (l .i) (a .args .to) (a .args .text .now) (c .before .before .loop-test .taken) (a .pre .2)
     ∙ l .inv .2
 
 returns-2 : tie.Need-returns-2 Inv-loop μ-loop
 returns-2 c =
-    let l = c .before .before .before .before .loop in
-    let a = c .before .before .before .before .before .before in
+    let in-loop = c .before .before .before in
+    let at-loop = in-loop .before in
+    let start = at-loop .before .before in
+    let l = at-loop .loop in
+    let a = start in
     digits-broken (l .n) _ (slice (l .i + 1) (a .args .to) (a .args .text .now)) (above-digits _ (c .if2 .taken))
-    ∙ byte-first (l .n) (l .i) (a .args .to) (a .args .text .now) (c .before .before .before .loop-test .taken) (a .pre .2)
+    ∙ byte-first (l .n) (l .i) (a .args .to) (a .args .text .now) (in-loop .loop-test .taken) (a .pre .2)
     ∙ l .inv .2
 
 next-requires : tie.Need-next-requires Inv-loop μ-loop
@@ -56,13 +60,17 @@ loop-less c = omega arith
 
 loop-again : tie.Need-loop-again Inv-loop μ-loop
 loop-again c =
-    let l = c .before .before .before .before .before .loop in
-    let a = c .before .before .before .before .before .before .before in
+    let at-shared-slice-known2 = c .before .before .before in
+    let in-loop = at-shared-slice-known2 .before in
+    let at-loop = in-loop .before in
+    let start = at-loop .before .before in
+    let l = at-loop .loop in
+    let a = start in
     let b = getD (a .args .text .now) (l .i) 0 in (
       omega arith,
       omega arith,
       digits-more (l .n) (c .next .result) b (slice (l .i + 1) (a .args .to) (a .args .text .now)) (is-digit b (c .before .before .if1 .left) (c .before .if2 .left)) (c .next .ensures)
-          ∙ byte-first (l .n) (l .i) (a .args .to) (a .args .text .now) (c .before .before .before .before .loop-test .taken) (a .pre .2)
+          ∙ byte-first (l .n) (l .i) (a .args .to) (a .args .text .now) (in-loop .loop-test .taken) (a .pre .2)
           ∙ l .inv .2,
     )
 

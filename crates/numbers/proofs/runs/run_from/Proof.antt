@@ -2,10 +2,9 @@
 -- Assumes nothing.
 use mathlib.Core.Path.{_≡_, subst}
 use mathlib.Core.Bool.{true, false}
-use mathlib.Core.List.{List}
 use Prim.Native.Nat.{ℕ, suc, _+_, _-_, _*_, _^_, _≤_, _<_}
 use native.Mathlib.Omega.{arith}
-use lib.ListN.{length, getD}
+use lib.ListN.{getD}
 use lib.Seq.{slice}
 use Rattle.text_form.specs.Numbers.{isDigit, digits, worth}
 use Rattle.numbers.specs.Rows.{RunAt}
@@ -37,7 +36,8 @@ shared-slice-read-b c = omega arith
 
 -- a byte that is no digit ends the row
 stopped : (c : tie.In-loop Inv-loop μ-loop) → isDigit (getD (c .before .before .args .text .now) (c .before .loop .i) 0) ≡ false
-    → RunAt (c .before .before .args .text .now) (c .before .before .args .first) (c .before .before .args .at) (c .before .before .args .to) (record { value = c .before .loop .n; end = c .before .loop .i })
+    → RunAt (c .before .before .args .text .now) (c .before .before .args .first) (c .before .before .args .at) (c .before .before .args .to)
+    (record { value = c .before .loop .n; end = c .before .loop .i })
 stopped c e =
     let z = c .before .before in
     let v = c .before .loop .inv in
@@ -61,15 +61,21 @@ bound : (c : tie.Else2 Inv-loop μ-loop) → let l = c .before .before .before .
     let a = c .before .before .before .before .before .args in
     l .n * 10 + (getD (a .text .now) (l .i) 0 - 48) < 10 ^ (18 - (a .to - (l .i + 1)))
 bound c =
-    let z = c .before .before .before .before .before in
-    let l = c .before .before .before .before .loop in
-    grown (l .n) (getD (z .args .text .now) (l .i) 0 - 48) (z .args .at) (z .args .to) (l .i) (l .inv .0) (c .before .before .before .loop-test .taken) (z .pre .2) (l .inv .4) (omega (arith, c .if2 .left))
+    let in-loop = c .before .before .before in
+    let at-loop = in-loop .before in
+    let start = at-loop .before in
+    let z = start in
+    let l = at-loop .loop in
+    grown (l .n) (getD (z .args .text .now) (l .i) 0 - 48) (z .args .at) (z .args .to) (l .i) (l .inv .0) (in-loop .loop-test .taken) (z .pre .2) (l .inv .4) (omega (arith, c .if2 .left))
 
 most : (c : tie.Else2 Inv-loop μ-loop) → let l = c .before .before .before .before .loop in
     l .n * 10 + (getD (c .before .before .before .before .before .args .text .now) (l .i) 0 - 48) < 10 ^ 18
 most c =
-    let z = c .before .before .before .before .before in
-    let l = c .before .before .before .before .loop in
+    let in-loop = c .before .before .before in
+    let at-loop = in-loop .before in
+    let start = at-loop .before in
+    let z = start in
+    let l = at-loop .loop in
     ten-most (l .n * 10 + (getD (z .args .text .now) (l .i) 0 - 48)) (18 - (z .args .to - (l .i + 1))) (bound c) (omega arith)
 
 mul-n : tie.Need-mul-n Inv-loop μ-loop
@@ -89,8 +95,11 @@ loop-less c = omega arith
 
 loop-again : tie.Need-loop-again Inv-loop μ-loop
 loop-again c =
-    let l = c .before .before .before .before .loop in
-    let z = c .before .before .before .before .before in
+    let in-loop = c .before .before .before in
+    let at-loop = in-loop .before in
+    let start = at-loop .before in
+    let l = at-loop .loop in
+    let z = start in
     let b = getD (z .args .text .now) (l .i) 0 in
     let w = row-more (z .args .first) (z .args .at) (l .i) (l .n) (z .args .text .now) (l .inv .0) (omega arith) (is-digit b (c .before .if1 .left) (c .if2 .left)) (l .inv .2) (l .inv .3) in
     (omega arith, omega arith, w .0, w .1, bound c)

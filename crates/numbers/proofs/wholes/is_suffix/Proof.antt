@@ -1,7 +1,7 @@
 -- `wholes::is_suffix` meets its contract: the definition at each letter, and at every other byte.
 -- Assumes nothing.
 use borrow.Author.Tests.{ne-eqb}
-use mathlib.Core.Path.{_≡_, refl, sym, ap}
+use mathlib.Core.Path.{sym, ap}
 use mathlib.Core.Logic.{⊎-elim, inl, inr}
 use Rattle.text_form.specs.Numbers.{isSuffix}
 use Rattle.numbers.proofs.wholes.is_suffix.Statement.{statement}

@@ -1,7 +1,7 @@
 -- `wholes::stem_end` meets its contract: its two arms are the definition's.
 -- Assumes nothing.
 use borrow.Author.Needs.{needs}
-use mathlib.Core.Path.{_≡_, sym, ap, _∙_}
+use mathlib.Core.Path.{sym, ap, _∙_}
 use mathlib.Core.Bool.{Bool}
 use Prim.Native.Nat.{_-_}
 use Rattle.form.specs.Answer.{pick}

@@ -4,14 +4,13 @@ use borrow.Author.Needs.{needs}
 use borrow.Author.Tests.{ne-eqb}
 use mathlib.Core.Path.{_≡_, refl, sym, ap, _∙_}
 use mathlib.Core.Logic.{⊎-elim, _⊎_, inl, inr}
-use mathlib.Core.Bool.{Bool, true}
-use Prim.Native.Nat.{ℕ, _^_}
+use Prim.Native.Nat.{ℕ}
 use lib.IntN.{ℤ}
 use lib.Ieee.{Float, binary64, ofInt}
 use mir.Syntax.{w64}
 use mir.Val.{toZ, ofZ, SFits}
 use mir.ValLaws.{toZ-ofZ}
-use Rattle.form.specs.Answer.{Out, got}
+use Rattle.form.specs.Answer.{got}
 use Rattle.text_form.specs.Values.{signed}
 use Rattle.text_form.specs.Numbers.{Number, byte, short, int, long, float, double, suffixed}
 use Rattle.numbers.proofs.wholes.suffixed_number.Statement.{statement}

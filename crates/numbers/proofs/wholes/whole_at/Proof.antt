@@ -2,17 +2,17 @@
 -- Assumes nothing.
 use borrow.Author.Needs.{needs}
 use borrow.Author.Tests.{le-leb, lt-leb}
-use mathlib.Core.Path.{_≡_, refl, sym, ap, _∙_, subst}
+use mathlib.Core.Path.{_≡_, sym, ap, _∙_}
 use mathlib.Core.Bool.{Bool, true, false}
 use mathlib.Core.List.{List}
-use Prim.Native.Nat.{ℕ, _+_, _-_, _^_, _≤_, _<_, min}
+use Prim.Native.Nat.{ℕ, _-_, _^_, _≤_, _<_, min}
 use native.Mathlib.Omega.{arith}
 use lib.Dec.{leb}
 use lib.Seq.{slice}
 use Rattle.form.specs.Answer.{pick}
-use Rattle.text_form.specs.Numbers.{empty, digits, worth}
-use Rattle.numbers.specs.Rows.{cap, digitsOf, wholeDigits}
-use Rattle.numbers.specs.declared.digits.Digits.the-variants.{Value, Bad}
+use Rattle.text_form.specs.Numbers.{digits, worth}
+use Rattle.numbers.specs.Rows.{cap, wholeDigits}
+use Rattle.numbers.specs.declared.digits.Digits.the-variants.{Value}
 use Rattle.numbers.proofs.Slices.{slice-none}
 use Rattle.numbers.proofs.Rows.{value-says, bad-says, past, uncapped, whole-none, whole-far, whole-is}
 use Rattle.numbers.proofs.Tokens.{some-bytes}
@@ -68,20 +68,26 @@ returns-3 c =
 returns-4 : tie.Need-returns-4
 unfolding bytes
 returns-4 c =
-    let d = c .before .before .before .before in
+    let at-known-told = c .before .before .before in
+    let at-d = at-known-told .before in
+    let d = at-d in
     let a = d .before .before .before .before .before in
     let e : 2 ^ 63 - 1 < worth 0 (bytes a) = omega (arith, says d .1, c .if4 .taken) in
     whole-far false (bytes a) (lt-leb (worth 0 (bytes a)) (2 ^ 63 - 1) e) ∙ ap (λ (s : Bool). wholeDigits s (bytes a)) (sym (c .before .if3 .left))
 
 returns-5 : tie.Need-returns-5
 returns-5 c =
-    let a = c .before .before .before .before .before .args in
+    let at-else1 = c .before .before .before in
+    let start = at-else1 .before .before in
+    let a = start .args in
     whole-none (a .negative) _ (bad-says 0 (slice (a .from) (a .to) (a .text .now)) (sym (c .enum-told .given .1) ∙ c .before .before .digits-from .ensures))
 
 returns-6 : tie.Need-returns-6
 unfolding bytes
 returns-6 c =
-    let d = c .before .before .before .before in
+    let at-known-told = c .before .before .before in
+    let at-d = at-known-told .before in
+    let d = at-d in
     let a = d .before .before .before .before .before in
     let e : worth 0 (bytes a) ≤ 2 ^ 63 - 1 = omega (arith, says d .1, c .if4 .left) in
     good false d (c .before .before .if2 .left) (le-leb (worth 0 (bytes a)) (2 ^ 63 - 1) e) ∙ ap (λ (s : Bool). wholeDigits s (bytes a)) (sym (c .before .if3 .left))

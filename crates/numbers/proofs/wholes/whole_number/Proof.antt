@@ -1,14 +1,14 @@
 -- `wholes::whole_number` meets its contract: each call answers one part of the definition, and `whole-number` joins them.
 -- Assumes nothing.
 use borrow.Author.Needs.{needs}
-use mathlib.Core.Path.{_≡_, refl, sym, ap, _∙_, subst}
+use mathlib.Core.Path.{_≡_, sym, ap, _∙_, subst}
 use mathlib.Core.Bool.{Bool}
 use Prim.Native.Nat.{ℕ, _+_, _-_, _≤_}
 use native.Mathlib.Omega.{arith}
 use lib.ListN.{getD}
 use lib.Seq.{slice}
-use Rattle.form.specs.Answer.{Out, pick}
-use Rattle.text_form.specs.Numbers.{Number, isSuffix, negative, wholeNumber}
+use Rattle.form.specs.Answer.{pick}
+use Rattle.text_form.specs.Numbers.{isSuffix, negative, wholeNumber}
 use Rattle.numbers.specs.declared.digits.Digits.{Digits}
 use Rattle.numbers.proofs.Rows.{whole-says}
 use Rattle.numbers.proofs.Tokens.{stem-le, unsigned-le, answered, whole-number, no-whole}
@@ -34,7 +34,10 @@ stem-fits c =
     subst (λ (n : ℕ). (a .start ≤ n) × (n ≤ a .end)) (sym (c .stem-end .ensures)) (stem-le (isSuffix (getD (a .text .now) (a .end - 1) 0)) (a .start) (a .end) (c .before .before .if1 .left))
 
 minus-at-requires : tie.Need-minus-at-requires
-minus-at-requires c κs = let w = stem-fits c in (w .0, omega (arith, w .1, c .before .before .before .before .pre))
+minus-at-requires c κs =
+    let at-shared-slice-known = c .before .before .before in
+    let start = at-shared-slice-known .before in
+    let w = stem-fits c in (w .0, omega (arith, w .1, start .pre))
 
 behind-minus-requires : tie.Need-behind-minus-requires
 behind-minus-requires c κs = search needs
@@ -62,7 +65,9 @@ suffixed-number-requires : tie.Need-suffixed-number-requires
 suffixed-number-requires c κs =
     let d = c .before in
     let m = d .before .before in
-    whole-says (m .before .before .minus-at .result) (slice (m .before .behind-minus .result) (m .before .before .before .stem-end .result) (m .before .before .before .before .before .before .before .args .text .now)) (d .d .given .0 .0) (sym (d .d .given .1) ∙ m .whole-at .ensures)
+    whole-says (m .before .before .minus-at .result)
+    (slice (m .before .behind-minus .result) (m .before .before .before .stem-end .result) (m .before .before .before .before .before .before .before .args .text .now)) (d .d .given .0 .0)
+    (sym (d .d .given .1) ∙ m .whole-at .ensures)
 
 -- what the calls give together
 together : (c : tie.After-whole-at) → let a = c .before .before .before .before .before .before .before .args in
@@ -70,7 +75,8 @@ together : (c : tie.After-whole-at) → let a = c .before .before .before .befor
 together c =
     let z = c .before .before .before .before .before .before .before in
     let a = z .args in
-    whole-number (a .start) (a .end) (c .before .before .before .stem-end .result) (c .before .behind-minus .result) (a .start) (c .before .before .minus-at .result) (c .whole-at .result) (a .text .now)
+    whole-number (a .start) (a .end) (c .before .before .before .stem-end .result) (c .before .behind-minus .result) (a .start) (c .before .before .minus-at .result) (c .whole-at .result)
+    (a .text .now)
     (c .before .before .before .before .before .if1 .left) (z .pre .1)
     (c .before .before .before .stem-end .ensures) (c .before .before .minus-at .ensures) (c .before .behind-minus .ensures) (c .whole-at .ensures)
 

@@ -19,47 +19,62 @@ Inv-loop doc table n end list out₀ at i₀ here₀ out i here =
 abbrev pub μ-loop : lts.MeasureT-loop
 μ-loop doc table n end list out₀ at i₀ here₀ out i here = end - i
 
+-- What the calls ask and give.
+abbrev pub claims : ℕ → lts.Claims
+claims t = (word.Asked, word.Learnt, put-one-below t, put-one.Post)
+
 abbrev On : ℕ → (lts.Claims → In 3 kinds.ps → Out 3 kinds.ps kinds.r → lts.InvT-loop → lts.MeasureT-loop → Type 0) → Type 0
-On t F = F (word.Asked, word.Learnt, put-one-below t, put-one.Post) (put-all-at t) put-all.Post Inv-loop μ-loop
+On t F = F (claims t) (put-all-at t) put-all.Post Inv-loop μ-loop
 
 module _ (t : ℕ) where
+  -- The start, from right before the loop.
+  abbrev start-of : On t lts.After-slice-known → On t lts.Start
+  start-of c = c .before .before .before
+
+  -- The turn of the loop, from where the record is written.
+  abbrev turn-of : On t lts.After-put-one → On t lts.In-loop
+  turn-of c = c .before .before .before
+
   pub loop-holds : On t lts.Need-loop-holds
   loop-holds c = (omega arith, λ p. way-start _ _ _ _ _ _ p)
 
-  abbrev start-of : On t lts.At-loop → On t lts.Start
-  start-of c = c .before .before .before .before
-
-  -- how far the walk has come
+  -- How far the walk has come.
   way : (c : On t lts.At-loop) →
-      let s = start-of c in
+      let s = start-of (c .before) in
       let a = s .args in
       Way (a .doc .now) (a .table .now) (a .list) (a .end) (s .pre .1 .some .forest) (a .out .now) (a .at) (c .loop .out) (c .loop .i) (c .loop .here)
-  way c = c .loop .inv .1 (start-of c .pre .1)
+  way c = c .loop .inv .1 (start-of (c .before) .pre .1)
 
   pub word-requires : On t lts.Need-word-requires
   word-requires c κs = (omega (arith, way (c .before) .rows .fits, c .loop-test .taken), omega arith)
 
   pub put-one-requires : On t lts.Need-put-one-requires
   put-one-requires c κs =
-      let l = c .before .before .before in
-      let p = start-of l .pre in
-      let e = c .before .word .ensures in
-      let i = c .before .before .loop-test .taken in
-      let o = way-on _ _ _ _ _ _ (way l) i e in
-      (omega (arith, p .0, o .0, o .1, l .loop .inv .0), way-one _ _ _ _ _ _ (way l) i (p .1 .some .small) e)
+      let at-word = c .before in
+      let turn = at-word .before in
+      let l = turn .before in
+      let p = start-of (l .before) .pre in
+      let e = at-word .word .ensures in
+      let i = turn .loop-test .taken in
+      let on = way-on _ _ _ _ _ _ (way l) i e in
+      (omega (arith, p .0, on .0, on .1, l .loop .inv .0), way-one _ _ _ _ _ _ (way l) i e (p .1 .some .small))
 
   pub loop-less : On t lts.Need-loop-less
   loop-less c =
-      let o = way-on _ _ _ _ _ _ (way (c .before .before .before .before .before .before)) (c .before .before .before .before .before .loop-test .taken) (c .before .before .before .before .word .ensures) in
-      omega (arith, o .0, o .1)
+      let one = c .before .before in
+      let turn = turn-of one in
+      let on = way-on _ _ _ _ _ _ (way (turn .before)) (turn .loop-test .taken) (one .before .before .word .ensures) in
+      omega (arith, on .0, on .1)
 
   pub loop-again : On t lts.Need-loop-again
   loop-again c =
-      let l = c .before .before .before .before .before .before in
-      let i = c .before .before .before .before .before .loop-test .taken in
-      let e = c .before .before .before .before .word .ensures in
-      let o = way-on _ _ _ _ _ _ (way l) i e in
-      (omega (arith, o .0, l .loop .inv .0), λ p. way-next _ _ _ _ _ _ (l .loop .inv .1 p) i (p .some .small) e (c .before .before .put-one .ensures))
+      let one = c .before .before in
+      let turn = turn-of one in
+      let l = turn .before in
+      let i = turn .loop-test .taken in
+      let e = one .before .before .word .ensures in
+      let on = way-on _ _ _ _ _ _ (way l) i e in
+      (omega (arith, on .0, l .loop .inv .0), λ p. way-next _ _ _ _ _ _ (l .loop .inv .1 p) i e (p .some .small) (one .put-one .ensures))
 
   pub same-length : On t lts.Need-same-length
   same-length c = way-length _ _ _ _ _ _ (way (c .before))

@@ -1,0 +1,4 @@
+pub mod Pieces
+pub mod Bytes
+pub mod Rows
+pub mod Judging

@@ -1,0 +1,48 @@
+-- Right since nothing odd among k bytes says that those k fit.
+-- Assumes nothing.
+use Prim.Native.Nat.{_+_, _-_, _≤_}
+use mathlib.Core.Path.{_≡_}
+use native.Mathlib.Omega.{arith}
+use borrow.Author.Needs.{needs}
+use Rattle.mutf8.specs.Runs.{Fitting}
+use Rattle.mutf8.proofs.Alike.{false-true, fitting-none, fitting-more}
+use Rattle.mutf8.proofs.blocks.all_fit.Statement.{statement}
+use Rattle.mutf8.proofs.blocks.all_fit.Tie as tie
+
+abbrev Inv-loop : tie.InvT-loop
+Inv-loop s at top₀ k₀ top k = (k ≤ 64) × (top ≡ 0 → Fitting s at (at + k))
+
+abbrev μ-loop : tie.MeasureT-loop
+μ-loop s at top₀ k₀ top k = 64 - k
+
+-- the first of the three bytes has been read, and the turn
+abbrev read-of : tie.After-odd Inv-loop μ-loop → tie.After-shared-slice-known2 Inv-loop μ-loop
+read-of c = c .before .before .before
+
+abbrev turn-of : tie.After-odd Inv-loop μ-loop → tie.At-loop Inv-loop μ-loop
+turn-of c = read-of c .before .before
+
+pub all-fit-spec : {M : Type 1} → statement M
+all-fit-spec =
+    tie.close
+    (tie.spec
+    Inv-loop
+    μ-loop
+    (λ c. (omega arith, λ _. fitting-none _ _ _ (omega arith)))
+    (λ c. search needs)
+    (λ c. search needs)
+    (λ c. search needs)
+    (λ c. search needs)
+    (λ c. search needs)
+    (λ c. search needs)
+    (λ c κs. search needs)
+    (λ c κs. search needs)
+    (λ c. search needs)
+    (λ c. omega arith)
+    (λ c. let turn = turn-of (c .before) in let l = turn .loop in let at = turn .before .before .args .at in (
+      omega arith,
+      λ h. let e : at + (l .k + 1) ≡ at + l .k + 1 = omega arith in
+          rw e (fitting-more _ _ _ (l .inv .1 (omega (arith, c .raise .ensures))) (c .before .odd .ensures (omega (arith, c .raise .ensures)))),
+    ))
+    (λ c. λ _. let l = c .before .before .loop in let e : l .k ≡ 64 = omega arith in rw e at (l .inv .1 (c .if1 .taken)))
+    (λ c. λ e. absurd (false-true e)))

@@ -1,0 +1,48 @@
+-- Right since each block and each end that was passed is of values that both codings read alike.
+-- Assumes nothing.
+use Prim.Native.Nat.{_-_, _≤_}
+use native.Mathlib.Omega.{arith}
+use lib.ListN.{length}
+use Rattle.mutf8.specs.Runs.{Passed}
+use Rattle.mutf8.proofs.Alike.{plain-passed, passed-none, passed-join}
+use Rattle.mutf8.proofs.blocks.pass.Statement.{statement}
+use Rattle.mutf8.proofs.blocks.pass.Tie as tie
+
+abbrev Inv-loop : tie.InvT-loop
+Inv-loop s at i₀ i = (i ≤ length s) × Passed s at i
+
+abbrev μ-loop : tie.MeasureT-loop
+μ-loop s at i₀ i = length s - i
+
+-- the turn of a block, plain or not; and the end of the turns
+abbrev turn-of : tie.After-all-plain Inv-loop μ-loop → tie.At-loop Inv-loop μ-loop
+turn-of c = c .before .before
+
+abbrev mixed-of : tie.After-mixed Inv-loop μ-loop → tie.At-loop Inv-loop μ-loop
+mixed-of c = turn-of (c .before .before)
+
+abbrev end-of : tie.After-ends-plain Inv-loop μ-loop → tie.At-loop Inv-loop μ-loop
+end-of c = c .before .before
+
+pub pass-spec : {M : Type 1} → statement M
+pass-spec =
+    tie.close
+    (tie.spec
+    Inv-loop
+    μ-loop
+    (λ c. (c .before .pre, passed-none _ _ (c .before .pre)))
+    (λ c. omega arith)
+    (λ c κs. omega arith)
+    (λ c. omega arith)
+    (λ c. omega arith)
+    (λ c. (omega arith, passed-join _ _ _ _ (turn-of (c .before) .loop .inv .1) (plain-passed _ _ _ (omega arith) (omega arith) (c .before .all-plain .ensures (c .if1 .taken)))))
+    (λ c κs. turn-of (c .before) .loop .inv .0)
+    (λ c κs. mixed-of (c .before) .loop .inv .0)
+    (λ c. passed-join _ _ _ _ (mixed-of (c .before .before) .loop .inv .1) (c .narrow .ensures))
+    (λ c. omega (arith, c .before .mixed .ensures .within))
+    (λ c. let m = c .before .mixed .ensures in (m .within, passed-join _ _ _ _ (mixed-of (c .before) .loop .inv .1) m))
+    (λ c κs. (c .before .loop .inv .0, omega arith))
+    (λ c. let v = end-of (c .before) .loop .inv in
+    passed-join _ _ _ _ (v .1) (plain-passed _ _ _ (v .0) (omega arith) (c .before .ends-plain .ensures (c .if3 .taken))))
+    (λ c κs. end-of (c .before) .loop .inv .0)
+    (λ c. passed-join _ _ _ _ (end-of (c .before .before) .loop .inv .1) (c .narrow2 .ensures)))

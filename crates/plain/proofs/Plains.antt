@@ -1,0 +1,154 @@
+-- Plain bytes by their test, and as facts: one way and back, one byte more, two runs that overlap or meet.
+-- Assumes nothing.
+use Prim.Native.Nat.{ℕ, zero, suc, _+_, _-_, _≤_, _<_}
+use mathlib.Core.Path.{_≡_, refl, sym, ap, ap₂, _∙_}
+use mathlib.Core.Bool.{Bool, true, false, not, _&&_}
+use mathlib.Core.Logic.{⊎-elim}
+use mathlib.Core.List.{List}
+use native.Mathlib.Omega.{arith}
+use borrow.Author.Tests.{ltb-true, leb-true, eqb-false, not-true, le-leb, lt-leb, eq-eqb, ne-eqb}
+use lib.Dec.{leb, ltb, eqb}
+use lib.ListN.{getD}
+use Rattle.form.specs.Answer.{pick}
+use Rattle.form.proofs.Picks.{lt-or, and-left, and-right, and-false}
+use Rattle.plain.specs.Runs.{plainByte, mark, plainIn, shortPlain, IsPlain, Plain}
+
+-- ---- tests
+
+-- two tests of which each holds where the other does
+alike : (x y : Bool) → (x ≡ true → y ≡ true) → (y ≡ true → x ≡ true) → x ≡ y
+alike true y f g = sym (f refl)
+alike false true f g = g refl
+alike false false f g = refl
+
+-- ---- a byte
+
+pub byte-is : (q b : ℕ) → plainByte q b ≡ true → IsPlain q b
+byte-is q b e =
+    let w = and-right (leb 1 b) _ e in
+    let x = and-right (leb b 127) _ w in
+    record {
+      some = leb-true 1 b (and-left (leb 1 b) _ e);
+      low = omega (arith, leb-true b 127 (and-left (leb b 127) _ w));
+      unescaped = eqb-false b 92 (not-true (eqb b 92) (and-left (not (eqb b 92)) (not (eqb b q)) x));
+      other = eqb-false b q (not-true (eqb b q) (and-right (not (eqb b 92)) (not (eqb b q)) x));
+    }
+
+pub byte-holds : (q b : ℕ) → IsPlain q b → true ≡ plainByte q b
+byte-holds q b p = simp (le-leb 1 b (p .some), le-leb b 127 (omega (arith, p .low)), ne-eqb b 92 (p .unescaped), ne-eqb b q (p .other))
+
+-- 0 for a plain byte, as the code has it
+pub zero-is : (q b r : ℕ) → r ≡ mark (plainByte q b) → r ≡ 0 → IsPlain q b
+unfolding mark
+zero-is q b r e z = byte-is q b (go (plainByte q b) (sym e ∙ z))
+  where
+    go : (x : Bool) → mark x ≡ 0 → x ≡ true
+    go true h = refl
+    go false h = absurd (omega (arith, h))
+
+-- 1 for any other
+module _ (q b : ℕ) where
+  pub far-is-none : (1 ≤ b → 127 < b) → 1 ≡ mark (plainByte q b)
+  unfolding mark
+  far-is-none h = sym (ap mark (go (leb 1 b) refl))
+    where
+      go : (x : Bool) → leb 1 b ≡ x → plainByte q b ≡ false
+      go true e = simp (e, lt-leb b 127 (h (leb-true 1 b e)))
+      go false e = simp e
+
+  pub backslash-is-none : b ≡ 92 → 1 ≡ mark (plainByte q b)
+  unfolding mark
+  backslash-is-none e = simp (eq-eqb b 92 e, and-false)
+
+  pub quote-is-none : b ≡ q → 1 ≡ mark (plainByte q b)
+  unfolding mark
+  quote-is-none e = simp (eq-eqb b q e, and-false)
+
+-- ---- a run
+
+pub plain-none : (q : ℕ) (t : List ℕ) (i j : ℕ) → j ≤ i → Plain q t i j
+plain-none q t i j h = record { each = λ k m n. absurd (omega arith) }
+
+pub plain-more : (q : ℕ) (t : List ℕ) (i j : ℕ) → Plain q t i j → IsPlain q (getD t j 0) → Plain q t i (j + 1)
+plain-more q t i j p b = record { each = λ k h m. ⊎-elim (λ l. p .each k h l) (λ l. let e : k ≡ j = omega arith in rw e b) (lt-or k j) }
+
+-- two runs that overlap or meet
+pub plain-join : (q : ℕ) (t : List ℕ) (i j m k : ℕ) → m ≤ j → Plain q t i j → Plain q t m k → Plain q t i k
+plain-join q t i j m k o a b = record { each = λ n h z. ⊎-elim (λ l. a .each n h l) (λ l. b .each n (omega arith) z) (lt-or n j) }
+
+-- the greater of what says so of n bytes and of one more says so of all
+raised : (x y : Bool) → pick (ltb (mark x) (mark y)) (mark y) (mark x) ≡ mark (x && y)
+unfolding mark
+raised true true = refl
+raised true false = refl
+raised false true = refl
+raised false false = refl
+
+-- the same of a code's marks
+pub marked : (x y : Bool) (top u r : ℕ) → top ≡ mark x → u ≡ mark y → r ≡ pick (ltb top u) u top → r ≡ mark (x && y)
+marked x y top u r p q e = e ∙ ap₂ (λ (a b : ℕ). pick (ltb a b) b a) p q ∙ raised x y
+
+-- what the mark tells
+pub told : (x : Bool) (top : ℕ) → top ≡ mark x → (top ≡ 0 → true ≡ x) × ((top ≡ 0 → ⊥) → false ≡ x)
+unfolding mark
+told true top e = (λ _. refl, λ h. absurd (h e))
+told false top e = (λ z. absurd (omega (arith, e, z)), λ _. refl)
+
+pub none-in : (q : ℕ) (t : List ℕ) (i : ℕ) → 0 ≡ mark (plainIn q t i 0)
+unfolding plainIn mark
+none-in q t i = refl
+
+pub more-in : (q : ℕ) (t : List ℕ) (i n : ℕ) → plainIn q t i (n + 1) ≡ (plainIn q t i n && plainByte q (getD t (i + n) 0))
+unfolding plainIn
+more-in q t i n = let e : n + 1 ≡ suc n = omega arith in rw e refl
+
+pub run-is : (q : ℕ) (t : List ℕ) (i n : ℕ) → plainIn q t i n ≡ true → Plain q t i (i + n)
+unfolding plainIn
+run-is q t i zero e = plain-none q t i (i + 0) (omega arith)
+run-is q t i (suc n) e =
+    let b = plainByte q (getD t (i + n) 0) in
+    let z : i + suc n ≡ i + n + 1 = omega arith in
+    rw z (plain-more q t i (i + n) (run-is q t i n (and-left (plainIn q t i n) b e)) (byte-is q (getD t (i + n) 0) (and-right (plainIn q t i n) b e)))
+
+pub run-holds : (q : ℕ) (t : List ℕ) (i n : ℕ) → Plain q t i (i + n) → plainIn q t i n ≡ true
+unfolding plainIn
+run-holds q t i zero p = refl
+run-holds q t i (suc n) p =
+    let before = run-holds q t i n (record { each = λ k h m. p .each k h (omega (arith, m)) }) in
+    ap₂ _&&_ before (sym (byte-holds q (getD t (i + n) 0) (p .each (i + n) (omega arith) (omega arith))))
+
+pub short-is : (t : List ℕ) (start e : ℕ) → shortPlain t start e ≡ true → (e - start < 64) × Plain 92 t start (start + (e - start))
+short-is t start e s =
+    let n = e - start in
+    (ltb-true n 64 (and-left (ltb n 64) (plainIn 92 t start n) s), run-is 92 t start n (and-right (ltb n 64) (plainIn 92 t start n) s))
+
+-- a span by its first n bytes and its last n
+module _ (q : ℕ) (t : List ℕ) (start e n : ℕ) (l : start + n ≤ e) (h : e ≤ start + n + n) where
+  whole : start + (e - start) ≡ e
+  whole = omega arith
+
+  behind : e - n + n ≡ e
+  behind = omega arith
+
+  first-of : plainIn q t start (e - start) ≡ true → plainIn q t start n ≡ true
+  first-of a = run-holds q t start n (record { each = λ k x y. run-is q t start (e - start) a .each k x (omega (arith, y, whole)) })
+
+  last-of : plainIn q t start (e - start) ≡ true → plainIn q t (e - n) n ≡ true
+  last-of a = run-holds q t (e - n) n (record {
+    each = λ k x y. run-is q t start (e - start) a .each k (omega (arith, x)) (omega (arith, y, whole, behind));
+  })
+
+  pub both-in : plainIn q t start n ≡ true → plainIn q t (e - n) n ≡ plainIn q t start (e - start)
+  both-in a = alike (plainIn q t (e - n) n) (plainIn q t start (e - start)) joined last-of
+    where
+      joined : plainIn q t (e - n) n ≡ true → plainIn q t start (e - start) ≡ true
+      joined b =
+          let last = rw behind at (run-is q t (e - n) n b) in
+          run-holds q t start (e - start) (rw whole (plain-join q t start (start + n) (e - n) e (omega arith) (run-is q t start n a) last))
+
+  pub first-fails : plainIn q t start n ≡ false → false ≡ plainIn q t start (e - start)
+  first-fails a = go (plainIn q t start (e - start)) refl
+    where
+      go : (x : Bool) → plainIn q t start (e - start) ≡ x → false ≡ x
+      go true b = sym a ∙ first-of b
+      go false b = refl

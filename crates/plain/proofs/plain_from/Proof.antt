@@ -1,0 +1,40 @@
+-- Right since behind the blocks each turn passes one plain byte more.
+-- Assumes nothing.
+use Prim.Native.Nat.{_-_, _≤_}
+use native.Mathlib.Omega.{arith}
+use borrow.Author.Needs.{needs}
+use Rattle.plain.specs.Runs.{Plain}
+use Rattle.plain.proofs.Plains.{plain-more, zero-is}
+use Rattle.plain.proofs.plain_from.Statement.{statement}
+use Rattle.plain.proofs.plain_from.Tie as tie
+
+abbrev Inv-loop : tie.InvT-loop
+Inv-loop q text at end i₀ i = (at ≤ i) × (i ≤ end) × Plain q text at i
+
+abbrev μ-loop : tie.MeasureT-loop
+μ-loop q text at end i₀ i = end - i
+
+abbrev loop-of : tie.After-unplain Inv-loop μ-loop → tie.In-loop Inv-loop μ-loop
+loop-of c = c .before .before
+
+loop-again : tie.Need-loop-again Inv-loop μ-loop
+loop-again c =
+    let at-byte = c .before in
+    let l = loop-of at-byte .before .loop in
+    (omega arith, omega arith, plain-more _ _ _ _ (l .inv .2) (zero-is _ _ _ (at-byte .unplain .ensures) (c .if1 .taken)))
+
+pub plain-from-spec : {M : Type 1} → statement M
+plain-from-spec =
+    tie.close
+    (tie.spec
+    Inv-loop
+    μ-loop
+    (λ c κs. search needs)  -- plain-blocks-requires
+    (λ c. c .plain-blocks .ensures)  -- loop-holds
+    (λ c. omega arith)  -- shared-slice-read-unplain
+    (λ c κs. search needs)  -- unplain-requires
+    (λ c. omega arith)  -- add-i
+    (λ c. omega arith)  -- loop-less
+    loop-again
+    (λ c. loop-of (c .before) .before .loop .inv)  -- returns
+    (λ c. c .before .loop .inv))  -- returns-2

@@ -1,0 +1,4 @@
+pub mod Elements
+pub mod Heads
+pub mod Letters
+pub mod Squares
