@@ -9,7 +9,7 @@ use borrow.Author.Tests.{eq-eqb, ne-eqb, leb-true}
 use lib.Dec.{leb, eqb}
 use lib.IntN.{ℤ}
 use lib.ListN.{length}
-use Rattle.form.specs.Answer.{Out, got, no, _>>=_, _>>_, guard, mixedList, outputFull, unmatchedBrace, trailingComma}
+use Rattle.form.specs.Answer.{Out, got, no, _>>=_, _>>_, guard, mixedList, outputFull, unmatchedBrace}
 use Rattle.form.specs.Spans.{over}
 use Rattle.form.specs.Layout.{intBytes}
 use Rattle.form.proofs.Answer.{got-no}

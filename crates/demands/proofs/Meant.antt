@@ -29,7 +29,8 @@ use Rattle.text_form.proofs.Tokens.{TokenHeld, whole-any, LexedFine, NextFine, 
 use Rattle.demands.specs.Numbers.{parseNumbers}
 use Rattle.form.proofs.Picks.{and-right}
 use Rattle.demands.proofs.Tags.{kind-range}
-use Rattle.demands.proofs.Names.{same-self, same-true}
+use Rattle.demands.proofs.Names.{same-self}
+use Rattle.form.proofs.Spans.{same-true}
 
 -- ---- tests
 

@@ -2,15 +2,15 @@
 -- Assumes nothing.
 use Prim.Native.Nat.{ℕ}
 use mathlib.Core.List.{List, [], _∷_}
-use mathlib.Core.Bool.{Bool, true, false, _&&_, _||_}
+use mathlib.Core.Bool.{Bool, true, false, _||_}
 use mathlib.Core.Path.{_≡_, refl, sym, ap, _∙_}
 use native.Mathlib.Omega.{arith}
-use lib.Dec.{eqb}
-use borrow.Author.Tests.{eqb-true, eq-eqb}
+use borrow.Author.Tests.{eq-eqb}
 use Rattle.form.specs.Spans.{part, same}
 use Rattle.form.specs.Tree.{Tag, Entries, entry, hasEntry}
 use Rattle.form.specs.Table.{Head, Forest, none, node, _⊕_}
 use Rattle.form.specs.Reading.{hasName}
+use Rattle.form.proofs.Spans.{same-true}
 
 true-false : {A : Type 0} → true ≡ false → A
 true-false e = let z : _≡_ {A = ℕ} 0 1 = cc in absurd (omega arith)
@@ -19,17 +19,6 @@ pub same-self : (xs : List ℕ) → same xs xs ≡ true
 unfolding same
 same-self [] = refl
 same-self (x ∷ xs) = rw (eq-eqb x x refl) (same-self xs)
-
-pub same-true : (xs ys : List ℕ) → same xs ys ≡ true → xs ≡ ys
-unfolding same
-same-true [] [] e = refl
-same-true [] (y ∷ ys) e = true-false (sym e)
-same-true (x ∷ xs) [] e = true-false (sym e)
-same-true (x ∷ xs) (y ∷ ys) e = go (eqb x y) refl (same-true xs ys) e
-  where
-    go : (t : Bool) → eqb x y ≡ t → (same xs ys ≡ true → xs ≡ ys) → (t && same xs ys) ≡ true → x ∷ xs ≡ y ∷ ys
-    go true p ih f = λ i. eqb-true x y p i ∷ ih f i
-    go false p ih f = true-false (sym f)
 
 module _ (doc : List ℕ) where
   -- no entry of es has the name of an earlier record

@@ -102,7 +102,7 @@ unfolding _⊕_
 after-none (got r) = refl
 after-none (no m p) = refl
 
-after-then : (f : Forest) (x : One) (o : Out Run) → after f (then x o) ≡ after (f ⊕ node (x .head) (x .inner) none) o
+pub after-then : (f : Forest) (x : One) (o : Out Run) → after f (then x o) ≡ after (f ⊕ node (x .head) (x .inner) none) o
 unfolding _⊕_
 after-then f x (got r) = ap (λ g. got (record { forest = g; next = r .next })) (lemma ∙ sym (append-append f (node (x .head) (x .inner) none) (r .forest)))
   where

@@ -1,12 +1,12 @@
 -- Laws of spans: two lists compared, and the bytes of two spans from the front.
 -- Assumes nothing.
 use Prim.Native.Nat.{ℕ, zero, suc, _+_, _-_, _≤_, _<_}
-use mathlib.Core.Bool.{Bool, true, false, _&&_}
+use mathlib.Core.Bool.{Bool, true, false, true≢false, _&&_}
 use mathlib.Core.List.{List, [], _∷_}
-use mathlib.Core.Path.{_≡_, refl, ap, _∙_}
+use mathlib.Core.Path.{_≡_, refl, sym, ap, _∙_}
 use native.Mathlib.Omega.{arith}
 use native.Mathlib.Numerals.{sub-one, add-one}
-use borrow.Author.Tests.{eq-eqb, ne-eqb}
+use borrow.Author.Tests.{eq-eqb, ne-eqb, eqb-true}
 use lib.ListN.{length, getD, length-take, length-drop}
 use lib.Seq.{drop-cons}
 use lib.Dec.{eqb}
@@ -38,13 +38,25 @@ pub same-self : (xs : List ℕ) → same xs xs ≡ true
 same-self [] = same-nil
 same-self (x ∷ xs) = same-head x xs xs ∙ same-self xs
 
+-- the same only where they are one list
+pub same-true : (xs ys : List ℕ) → same xs ys ≡ true → xs ≡ ys
+unfolding same
+same-true [] [] e = refl
+same-true [] (y ∷ ys) e = absurd (true≢false (sym e))
+same-true (x ∷ xs) [] e = absurd (true≢false (sym e))
+same-true (x ∷ xs) (y ∷ ys) e = go (eqb x y) refl (same-true xs ys) e
+  where
+    go : (t : Bool) → eqb x y ≡ t → (same xs ys ≡ true → xs ≡ ys) → (t && same xs ys) ≡ true → x ∷ xs ≡ y ∷ ys
+    go true p ih f = λ i. eqb-true x y p i ∷ ih f i
+    go false p ih f = absurd (true≢false (sym f))
+
 pub same-differ : (x y : ℕ) (xs ys : List ℕ) → (x ≡ y → ⊥) → same (x ∷ xs) (y ∷ ys) ≡ false
 unfolding same
 same-differ x y xs ys h = rw (ne-eqb x y h) refl
 
 -- ---- one span against another, from the front
 
-part-cons : (doc : List ℕ) (a n : ℕ) → 0 < n → a < length doc → part doc a n ≡ getD doc a 0 ∷ part doc (a + 1) (n - 1)
+pub part-cons : (doc : List ℕ) (a n : ℕ) → 0 < n → a < length doc → part doc a n ≡ getD doc a 0 ∷ part doc (a + 1) (n - 1)
 part-cons doc a zero h l = absurd (omega arith)
 part-cons doc a (suc n) h l = rw (sub-one (suc n), add-one a, drop-cons doc a 0 l) refl
 

@@ -10,7 +10,8 @@ use lib.ListN.{length, getD, take, drop, length-take, length-drop}
 use lib.Seq.{take-take}
 use Rattle.form.specs.Spans.{part, same}
 use Rattle.text_form.specs.Text.{known}
-use Rattle.keys.proofs.Orders.{true-false, same-self, same-true}
+use Rattle.keys.proofs.Orders.{true-false, same-self}
+use Rattle.form.proofs.Spans.{same-true}
 use Rattle.keys.specs.declared.Order.{Order}
 use Rattle.keys.specs.Keys.{sizeAt, nameAt, namesIn, OrderIs}
 

@@ -14,6 +14,7 @@ use Rattle.form.specs.Spans.{part, same}
 use Rattle.form.proofs.Drops.{drop1}
 use Rattle.keys.specs.declared.Order.{Order}
 use Rattle.keys.specs.Keys.{below, OrderIs}
+use Rattle.form.proofs.Spans.{same-true}
 
 pub true-false : {A : Type 0} → true ≡ false → A
 true-false e = let z : _≡_ {A = ℕ} 0 1 = cc in absurd (omega arith)
@@ -66,17 +67,6 @@ pub same-self : (xs : List ℕ) → same xs xs ≡ true
 unfolding same
 same-self [] = refl
 same-self (x ∷ xs) = rw (eq-eqb x x refl) (same-self xs)
-
-pub same-true : (xs ys : List ℕ) → same xs ys ≡ true → xs ≡ ys
-unfolding same
-same-true [] [] e = refl
-same-true [] (y ∷ ys) e = true-false (sym e)
-same-true (x ∷ xs) [] e = true-false (sym e)
-same-true (x ∷ xs) (y ∷ ys) e = go (eqb x y) refl (same-true xs ys) e
-  where
-    go : (t : Bool) → eqb x y ≡ t → (same xs ys ≡ true → xs ≡ ys) → (t && same xs ys) ≡ true → x ∷ xs ≡ y ∷ ys
-    go true p ih f = λ i. eqb-true x y p i ∷ ih f i
-    go false p ih f = true-false (sym f)
 
 -- what is below another is not the same, either way
 pub below-apart : (xs ys : List ℕ) → below xs ys ≡ true → same xs ys ≡ false

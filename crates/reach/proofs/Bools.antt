@@ -21,10 +21,6 @@ pub or-cases : (a b : Bool) → (a || b) ≡ true → (a ≡ true) ⊎ (b ≡ tr
 or-cases true b e = inl refl
 or-cases false b e = inr e
 
-pub or-assoc : (a b c : Bool) → ((a || b) || c) ≡ (a || (b || c))
-or-assoc true b c = refl
-or-assoc false b c = refl
-
 pub or-swap : (a b c : Bool) → ((a || b) || c) ≡ (a || (c || b))
 or-swap true b c = refl
 or-swap false true true = refl

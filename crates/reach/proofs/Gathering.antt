@@ -12,7 +12,8 @@ use Rattle.form.specs.Spans.{among}
 use Rattle.form.specs.Paths.{Hop, Step, takes}
 use Rattle.reach.specs.Reached.{isDeep, deepAt, takesAt, leftOf}
 use Rattle.reach.specs.Sets.{has, Bits, Shut, Gathers, gathered}
-use Rattle.reach.proofs.Bools.{no-way, or-left, or-right, or-cases, or-assoc, or-swap, or-false, or-implied}
+use Rattle.reach.proofs.Bools.{no-way, or-left, or-right, or-cases, or-swap, or-false, or-implied}
+use Rattle.form.proofs.Picks.{or-assoc}
 use Rattle.reach.proofs.Sets.{has-none, has-or, has-one}
 use Rattle.reach.proofs.Reached.{among-cons, among-append, from, end-end, end-hop, one-end, one-hop, deep-end, deep-hop, last-passed, none-left, deep-last, one-last, reached-own, reached-shut}
 

@@ -17,7 +17,8 @@ use Rattle.form.proofs.Spans.{same-self}
 use Rattle.reach.specs.Reached.{hopThen, deepThen, reached, lastOf, isDeep, deepAt}
 use Rattle.reach.specs.Sets.{has, goesOn}
 use Rattle.reach.specs.Plans.{planned, Reaches}
-use Rattle.reach.proofs.Bools.{no-way, or-left, or-right, or-cases, or-assoc, or-false, or-implied}
+use Rattle.reach.proofs.Bools.{no-way, or-left, or-right, or-cases, or-false, or-implied}
+use Rattle.form.proofs.Picks.{or-assoc}
 use Rattle.reach.proofs.Sets.{has-suc, some-bit, off-steps}
 
 -- ---- what is among some numbers

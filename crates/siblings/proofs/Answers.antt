@@ -16,7 +16,8 @@ use Rattle.form.proofs.Spans.{same-self}
 use Rattle.siblings.specs.Names.{nameOf, endOf, siblings, among, firstFrom, firstRepeat}
 use Rattle.siblings.specs.Links.{num, rank, link, Mem, walk, Sorted, Fit}
 use Rattle.siblings.specs.Lists.{Row, Sorts, Chained, Again, Least, Unlinked, Family, foundOf}
-use Rattle.siblings.proofs.Numbers.{num-same, same-eq}
+use Rattle.siblings.proofs.Numbers.{num-same}
+use Rattle.form.proofs.Spans.{same-true as same-eq}
 use Rattle.siblings.proofs.Walks.{mem-cases, mem-head, mem-tail, mem-none, walk-low}
 use Rattle.siblings.proofs.Tables.{agree-name, agree-rank, agree-fit, agree-more}
 use Rattle.siblings.proofs.Merges.{sorted-head, sorted-tail, sorted-cons, sorted-none, sorted-ext}

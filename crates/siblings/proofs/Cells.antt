@@ -18,7 +18,8 @@ use Rattle.siblings.specs.Names.{nameOf, endOf, siblings}
 use Rattle.siblings.specs.Links.{num, fourOf, link, linked, Mem, Agree, Fit}
 use Rattle.siblings.specs.Lists.{Again, Least, Family}
 use Rattle.siblings.specs.Cells.{stirOf, bothOf, markBy, markOf, markAt, homeOf, Blank, Wiped, Cells, Passed, Open, Met, Put, PlacedBy, FromOn, Halved, lesserOf, Joined, Ready}
-use Rattle.siblings.proofs.Numbers.{part-length, num-same}
+use Rattle.siblings.proofs.Numbers.{num-same}
+use Rattle.form.proofs.Spans.{part-length}
 use Rattle.siblings.proofs.Tables.{agree-self, agree-trans, agree-slot, agree-name, agree-fit, linked-agree, linked-same, linked-other}
 use Rattle.siblings.proofs.Answers.{siblings-below, family-low, Place, place-start, place-here, place-on, place-cases, place-next}
 

@@ -15,7 +15,8 @@ use Rattle.siblings.specs.Names.{nameOf, endOf, siblings}
 use Rattle.siblings.specs.Links.{Mem}
 use Rattle.siblings.specs.Lists.{Again, Family}
 use Rattle.siblings.specs.Cells.{classBy, classOf, classAt, Fresh}
-use Rattle.siblings.proofs.Numbers.{part-length, num-same}
+use Rattle.siblings.proofs.Numbers.{num-same}
+use Rattle.form.proofs.Spans.{part-length}
 use Rattle.siblings.proofs.Answers.{family-low, Trying, place-cases}
 use Rattle.siblings.proofs.Cells.{byte-in, byte-out}
 

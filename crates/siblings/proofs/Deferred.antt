@@ -16,7 +16,7 @@ use Rattle.form.proofs.Answer.{bind-got, guard-got}
 use Rattle.form.proofs.Fields.{string-worded}
 use lib.Dec.{leb, eqb}
 use Rattle.form.proofs.Table.{append-none, append-append, size-one, size-append, width-one, width-append, wrote-none, wrote-next, wrote-length}
-use Rattle.form.proofs.Runs.{then, after, entries-head-no, entries-end, entries-twice, entries-no, entries-next}
+use Rattle.form.proofs.Runs.{after, entries-head-no, entries-end, entries-twice, entries-no, entries-next, after-then}
 use Rattle.siblings.specs.Forests.{spare, Free, namesOnce}
 use Rattle.siblings.proofs.Kept.{free-none, free-more}
 
@@ -44,11 +44,6 @@ after-none : (o : Out Run) → o ≡ after none o
 unfolding _⊕_
 after-none (got r) = refl
 after-none (no m p) = refl
-
-after-then : (f : Forest) (x : One) (o : Out Run) → after f (then x o) ≡ after (f ⊕ node (x .head) (x .inner) none) o
-unfolding _⊕_
-after-then f x (got r) = ap (λ g. got (record { forest = g; next = r .next })) (sym (append-append f (node (x .head) (x .inner) none) (r .forest)))
-after-then f x (no m p) = refl
 
 cut : {A : Type 0} (u : Out (Unit {0})) (m p : ℕ) (r : Out A) → (_>>_ {A = Unit {0}} {B = Unit {0}} u (no m p) >> r) ≡ (u >> no m p)
 cut (got a) m p r = refl

@@ -20,6 +20,7 @@ use Rattle.siblings.specs.Lists.{Family}
 use Rattle.siblings.specs.Forests.{spare, Free, repeatIn, namesOnce, refusalOf, placeOut}
 use Rattle.siblings.proofs.Walks.{mem-cases, mem-none}
 use Rattle.siblings.proofs.Rows.{siblings-on, siblings-none}
+use Rattle.form.proofs.Picks.{or-assoc}
 
 -- the numbers of records side by side
 unfoldable numbers : ℕ → Forest → List ℕ
@@ -31,10 +32,6 @@ or-comm true true = refl
 or-comm true false = refl
 or-comm false true = refl
 or-comm false false = refl
-
-or-assoc : (a b c : Bool) → ((a || b) || c) ≡ (a || (b || c))
-or-assoc true b c = refl
-or-assoc false b c = refl
 
 or-false : (a : Bool) → (a || false) ≡ a
 or-false true = refl

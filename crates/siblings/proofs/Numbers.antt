@@ -2,27 +2,19 @@
 -- Assumes nothing.
 use Prim.Native.Nat.{ℕ, zero, suc, _+_, _-_, _*_, _^_, _≤_, _<_}
 use mathlib.Core.Bool.{Bool, true, false, _&&_}
-use mathlib.Core.List.{List, [], _∷_}
+use mathlib.Core.List.{List, _∷_}
 use mathlib.Core.Path.{_≡_, refl, sym, ap, _∙_}
 use native.Mathlib.Omega.{arith}
-use native.Mathlib.Numerals.{sub-one, add-one}
+use native.Mathlib.Numerals.{sub-one}
 use native.Mathlib.Nat.{pow-suc, pow-succ', pow-le-pow-right, mul-le-mul-right, add-mul, mul-assoc}
-use borrow.Author.Tests.{eqb-true, ltb-true, ltb-false}
-use lib.ListN.{length, getD, length-take, length-drop}
-use lib.Seq.{drop-cons}
-use lib.Dec.{eqb, ltb}
+use borrow.Author.Tests.{ltb-true, ltb-false}
+use lib.ListN.{length, getD}
+use lib.Dec.{ltb}
 use Rattle.form.specs.Spans.{same, part}
 use Rattle.form.specs.Numbers.{value}
 use Rattle.form.proofs.Numbers.{big-endian-first}
-use Rattle.form.proofs.Spans.{same-self}
+use Rattle.form.proofs.Spans.{same-self, part-length, part-cons, same-true}
 use Rattle.siblings.specs.Links.{fourOf, eightOf, num}
-
-pub part-length : (doc : List ℕ) (a n : ℕ) → a + n ≤ length doc → length (part doc a n) ≡ n
-part-length doc a n h = simp (length-take, length-drop) (omega arith)
-
-pub part-cons : (doc : List ℕ) (a n : ℕ) → 0 < n → a < length doc → part doc a n ≡ getD doc a 0 ∷ part doc (a + 1) (n - 1)
-part-cons doc a zero h l = absurd (omega arith)
-part-cons doc a (suc n) h l = rw (sub-one (suc n), add-one a, drop-cons doc a 0 l) refl
 
 -- a number's first digit
 pub value-part : (doc : List ℕ) (a n : ℕ) → 0 < n → a + n ≤ length doc
@@ -169,22 +161,11 @@ and-true : (b c : Bool) → (b && c) ≡ true → (b ≡ true) × (c ≡ true)
 and-true true c h = (refl, h)
 and-true false c h = absurd (let w : _≡_ {A = ℕ} 0 1 = cc in omega arith)
 
-pub same-eq : (xs ys : List ℕ) → same xs ys ≡ true → xs ≡ ys
-unfolding same
-same-eq [] [] h = refl
-same-eq [] (y ∷ ys) h = absurd (let w : _≡_ {A = ℕ} 0 1 = cc in omega arith)
-same-eq (x ∷ xs) [] h = absurd (let w : _≡_ {A = ℕ} 0 1 = cc in omega arith)
-same-eq (x ∷ xs) (y ∷ ys) h =
-    let r = and-true (eqb x y) (same xs ys) h in
-    let p : x ≡ y = eqb-true x y (r .0) in
-    let q : xs ≡ ys = same-eq xs ys (r .1) in
-    λ i. p i ∷ q i
-
 same-false : (xs ys : List ℕ) → (xs ≡ ys → ⊥) → same xs ys ≡ false
 same-false xs ys n = go (same xs ys) refl
   where
     go : (b : Bool) → same xs ys ≡ b → same xs ys ≡ false
-    go true e = absurd (n (same-eq xs ys e))
+    go true e = absurd (n (same-true xs ys e))
     go false e = e
 
 -- numbers that differ are of names that differ

@@ -20,7 +20,7 @@ use Rattle.snbt_due.specs.Due.{Met}
 
 -- ---- a string's span lies in its token
 
-abbrev InToken : Token → ℕ → ℕ → Type 0
+abbrev pub InToken : Token → ℕ → ℕ → Type 0
 InToken openCurly i n = Unit {0}
 InToken closedCurly i n = Unit {0}
 InToken openSquare i n = Unit {0}
@@ -77,7 +77,7 @@ module _ {t : List ℕ} {d : TokenData} {n : ℕ} (met : Met t d n) where
   pub met-within : (d .index < n) × (n ≤ length t)
   met-within = let z = token-moves (met .set) t (met .from) d n (met .is) (met .within) in (z .1, z .2)
 
-  met-in : InToken (d .token) (d .index) n
+  pub met-in : InToken (d .token) (d .index) n
   met-in = from-got InLexed _ (found d n) (in-lexed (met .set) t (met .from)) (met .is)
 
 -- ---- how long a content is
@@ -123,14 +123,14 @@ guard-le {A} P a b n p o k = go (lt-or b a)
     go (inl h) = rw (lt-leb a b h) tt
     go (inr h) = rw (le-leb a b h) (k h)
 
-guard-any : {A : Type 0} (P : A → Type 0) (b : Bool) (n p : ℕ) (o : Out A) → Holds P o → Holds P (guard b n p >> o)
+pub guard-any : {A : Type 0} (P : A → Type 0) (b : Bool) (n p : ℕ) (o : Out A) → Holds P o → Holds P (guard b n p >> o)
 guard-any P true n p o h = h
 guard-any P false n p o h = tt
 
-abbrev Short : ℕ → ℕ → List ℕ → Type 0
+abbrev pub Short : ℕ → ℕ → List ℕ → Type 0
 Short i n s = (length s ≤ 65535) × (length s ≤ 6 * (n - i))
 
-string-size : (t : List ℕ) (room : ℕ) (q : Bool) (a e p i n : ℕ) → i ≤ a → e ≤ n → Holds (Short i n) (stringOf t room q a e p)
+pub string-size : (t : List ℕ) (room : ℕ) (q : Bool) (a e p i n : ℕ) → i ≤ a → e ≤ n → Holds (Short i n) (stringOf t room q a e p)
 unfolding stringOf
 string-size t room q a e p i n h l =
     holds-bind (Short i n) (contentOf t q a e) (λ (s : List ℕ). guard (leb (length s) 65535) 12 p >> got s)

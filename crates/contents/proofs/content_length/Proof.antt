@@ -10,27 +10,27 @@ use Rattle.contents.proofs.Sofar.{Counted, Longer, Measured, counted-st
 use Rattle.contents.proofs.content_length.Statement.{statement}
 use Rattle.contents.proofs.content_length.Tie as tie
 
-abbrev Inv-loop : tie.InvT-loop
-Inv-loop text start end quoted i₀ n₀ i n = (i ≤ end) × (n + 2 * start ≤ 2 * i) × Counted text quoted start end i n
+abbrev Inv : tie.InvT-loop
+Inv text start end quoted i₀ n₀ i n = (i ≤ end) × (n + 2 * start ≤ 2 * i) × Counted text quoted start end i n
 
-abbrev μ-loop : tie.MeasureT-loop
-μ-loop text start end quoted i₀ n₀ i n = end - i
+abbrev μ : tie.MeasureT-loop
+μ text start end quoted i₀ n₀ i n = end - i
 
 -- The places: where the function begins, where a turn does, behind the turn's run of plain bytes, and where the front was asked for.
-abbrev start-of : tie.At-loop Inv-loop μ-loop → tie.Start Inv-loop μ-loop
+abbrev start-of : tie.At-loop Inv μ → tie.Start Inv μ
 start-of c = c .before .before
 
-abbrev turn-of : tie.After-plain-end Inv-loop μ-loop → tie.At-loop Inv-loop μ-loop
+abbrev turn-of : tie.After-plain-end Inv μ → tie.At-loop Inv μ
 turn-of c = c .before .before
 
-abbrev run-of : tie.After-front-at Inv-loop μ-loop → tie.After-plain-end Inv-loop μ-loop
+abbrev run-of : tie.After-front-at Inv μ → tie.After-plain-end Inv μ
 run-of c = c .before .before
 
-abbrev front-of : tie.After-known-told Inv-loop μ-loop → tie.After-front-at Inv-loop μ-loop
+abbrev front-of : tie.After-known-told Inv μ → tie.After-front-at Inv μ
 front-of c = c .before .before .before
 
 -- what a run of plain bytes leaves
-ran : (c : tie.After-plain-end Inv-loop μ-loop)
+ran : (c : tie.After-plain-end Inv μ)
     → let a = start-of (turn-of c) .args in let l = turn-of c .loop in
     Counted (a .text .now) (a .quoted) (a .start) (a .end) (c .plain-end .result) (l .n + (c .plain-end .result - l .i))
 ran c =
@@ -41,23 +41,23 @@ ran c =
     counted-plain (a .text .now) (a .quoted) (a .start) (a .end) (l .i) (c .plain-end .result) (l .n) (e .0) (e .1) (s .pre .1) (e .2) (l .inv .2)
 
 -- what the front behind it says, by the case that a `match` took of it
-told : (c : tie.After-front-at Inv-loop μ-loop) (v : Decoded) → c .front-at .result ≡ v
+told : (c : tie.After-front-at Inv μ) (v : Decoded) → c .front-at .result ≡ v
     → let r = run-of c in let a = start-of (turn-of r) .args in let l = turn-of r .loop in
     Measured (a .text .now) (a .quoted) (a .start) (a .end) (r .plain-end .result) (l .n + (r .plain-end .result - l .i)) v
 told c v d = counted-told _ _ _ _ _ _ (omega arith) (omega arith) (ran (run-of c)) v (sym (ap decodedOut d) ∙ c .front-at .ensures)
 
 -- one that stands
-longer : (c : tie.After-known-told Inv-loop μ-loop)
+longer : (c : tie.After-known-told Inv μ)
     → let r = run-of (front-of c) in let a = start-of (turn-of r) .args in let l = turn-of r .loop in let s = c .before .scalar .given .0 in
     Longer (a .text .now) (a .quoted) (a .start) (a .end) (r .plain-end .result) (l .n + (r .plain-end .result - l .i)) (s .0) (s .1 .0)
 longer c = told (front-of c) _ (c .before .scalar .given .1)
 
-add-n-2 : tie.Need-add-n-2 Inv-loop μ-loop
+add-n-2 : tie.Need-add-n-2 Inv μ
 add-n-2 c =
     let w = longer (c .before) in
     omega (arith, w .reach, w .size, c .length-of .ensures, start-of (turn-of (run-of (front-of (c .before)))) .good)
 
-loop-again-2 : tie.Need-loop-again-2 Inv-loop μ-loop
+loop-again-2 : tie.Need-loop-again-2 Inv μ
 loop-again-2 c =
     let w = longer (c .before) in
     (w .reach, omega (arith, w .size, c .length-of .ensures), w .counted _ (c .length-of .ensures))
@@ -66,8 +66,8 @@ pub content-length-spec : {M : Type 1} → statement M
 content-length-spec =
     tie.close
     (tie.spec
-    Inv-loop
-    μ-loop
+    Inv
+    μ
     (λ c. (omega arith, omega arith, counted-start _ _ _ _))  -- loop-holds
     (λ c κs. (omega arith, omega arith))  -- plain-end-requires
     (λ c. omega arith)  -- sub-n

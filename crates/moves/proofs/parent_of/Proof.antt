@@ -10,29 +10,29 @@ use Rattle.moves.proofs.Parents.{root-innermost, found, climbs-on, clim
 use Rattle.moves.proofs.parent_of.Statement.{statement}
 use Rattle.moves.proofs.parent_of.Tie as tie
 
-abbrev Inv-loop : tie.InvT-loop
-Inv-loop lines i out q₀ q = (q < i) × ((m : ℕ) → q < m → m < i → lineWord eight lines m 7 ≤ i)
+abbrev Inv : tie.InvT-loop
+Inv lines i out q₀ q = (q < i) × ((m : ℕ) → q < m → m < i → lineWord eight lines m 7 ≤ i)
 
-abbrev μ-loop : tie.MeasureT-loop
-μ-loop lines i out q₀ q = q
+abbrev μ : tie.MeasureT-loop
+μ lines i out q₀ q = q
 
 -- Where the function starts, from where i is known not to be the root, and from the loop.
-abbrev first-of : tie.Else1 Inv-loop μ-loop → tie.Start Inv-loop μ-loop
+abbrev first-of : tie.Else1 Inv μ → tie.Start Inv μ
 first-of c = c .before .before .before
 
-abbrev start-of : tie.At-loop Inv-loop μ-loop → tie.Start Inv-loop μ-loop
+abbrev start-of : tie.At-loop Inv μ → tie.Start Inv μ
 start-of c = first-of (c .before)
 
 -- The loop, from where the parent of a record that has ended is read.
-abbrev loop-of : tie.After-word2 Inv-loop μ-loop → tie.At-loop Inv-loop μ-loop
+abbrev loop-of : tie.After-word2 Inv μ → tie.At-loop Inv μ
 loop-of c = c .before .before .before
 
-loop-holds : tie.Need-loop-holds Inv-loop μ-loop
+loop-holds : tie.Need-loop-holds Inv μ
 loop-holds c = let some = c .if1 .left in (omega arith, λ m lo hi. absurd (omega arith))
 
 -- The record that the climb comes from has ended, and its parent is known.
-module _ (c : tie.After-word2 Inv-loop μ-loop) where
-  abbrev start : tie.Start Inv-loop μ-loop
+module _ (c : tie.After-word2 Inv μ) where
+  abbrev start : tie.Start Inv μ
   start = start-of (loop-of c)
 
   abbrev get : ℕ → ℕ → ℕ
@@ -47,17 +47,17 @@ module _ (c : tie.After-word2 Inv-loop μ-loop) where
   parent : Innermost get q (c .word2 .result)
   parent = subst (Innermost get q) (sym (c .word2 .ensures)) (start .pre .parents q (loop-of c .loop .inv .0))
 
-loop-less : tie.Need-loop-less Inv-loop μ-loop
+loop-less : tie.Need-loop-less Inv μ
 loop-less c =
     let l = loop-of c .loop in
     parent c .before (climbs-on _ _ (l .q) (l .inv .0) (l .inv .1) (ended c) (start-of (loop-of c) .pre .root) _ (parent c))
 
-loop-again : tie.Need-loop-again Inv-loop μ-loop
+loop-again : tie.Need-loop-again Inv μ
 loop-again c =
     let l = loop-of c .loop in
     climbed _ _ (l .q) (l .inv .0) (l .inv .1) (ended c) (start-of (loop-of c) .pre .root) _ (parent c)
 
-returns : tie.Need-returns-2 Inv-loop μ-loop
+returns : tie.Need-returns-2 Inv μ
 returns c =
     let at-word = c .before in
     let l = at-word .before .loop in
@@ -67,8 +67,8 @@ pub parent-of-spec : {M : Type 1} → statement M
 parent-of-spec =
     tie.close
     (tie.spec
-    Inv-loop
-    μ-loop
+    Inv
+    μ
     (λ c. root-innermost _ _ (c .if1 .taken))
     (λ c. omega (arith, c .if1 .left))
     loop-holds

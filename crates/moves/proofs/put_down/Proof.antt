@@ -14,33 +14,33 @@ use Rattle.moves.proofs.Planting.{oldWordsOf, line-there-down, down-nex
 use Rattle.moves.proofs.put_down.Statement.{statement}
 use Rattle.moves.proofs.put_down.Tie as tie
 
-abbrev Inv-loop : tie.InvT-loop
-Inv-loop lines n out₀ i₀ out i =
+abbrev Inv : tie.InvT-loop
+Inv lines n out₀ i₀ out i =
     (i ≤ n) × (length out ≡ length out₀) × ((p : Planted nine lines n) → out ≡ over out₀ 0 (linesOf 8 i (oldWordsOf lines n p)))
 
-abbrev μ-loop : tie.MeasureT-loop
-μ-loop lines n out₀ i₀ out i = n - i
+abbrev μ : tie.MeasureT-loop
+μ lines n out₀ i₀ out i = n - i
 
 -- Where the function starts, from its loop.
-abbrev start-of : tie.At-loop Inv-loop μ-loop → tie.Start Inv-loop μ-loop
+abbrev start-of : tie.At-loop Inv μ → tie.Start Inv μ
 start-of c = c .before .before .before
 
-loop-holds : tie.Need-loop-holds Inv-loop μ-loop
+loop-holds : tie.Need-loop-holds Inv μ
 unfolding linesOf
 loop-holds c = (omega arith, refl, λ p. sym (over-none _ _))
 
 -- The loop, from where a line is put, and from behind it.
-abbrev loop-of : tie.After-put-down-line-arg Inv-loop μ-loop → tie.At-loop Inv-loop μ-loop
+abbrev loop-of : tie.After-put-down-line-arg Inv μ → tie.At-loop Inv μ
 loop-of c = c .before .before
 
-put-down-line-requires : tie.Need-put-down-line-requires Inv-loop μ-loop
+put-down-line-requires : tie.Need-put-down-line-requires Inv μ
 put-down-line-requires c κs =
     let at-loop = loop-of c in
     let start = start-of at-loop in
     let h = c .before .loop-test .taken in
     (line-there-down _ _ (start .pre .0) (at-loop .loop .i) h, omega (arith, start .pre .1, h, at-loop .loop .inv .1))
 
-loop-again : tie.Need-loop-again Inv-loop μ-loop
+loop-again : tie.Need-loop-again Inv μ
 loop-again c =
     let at-put = c .before .before in
     let at-arg = at-put .before in
@@ -52,7 +52,7 @@ loop-again c =
       λ p. down-next _ _ p (l .i) h _ (l .out) _ (start .pre .1) (l .inv .2 p) (at-put .put-down-line .ensures),
     )
 
-returns : tie.Need-returns Inv-loop μ-loop
+returns : tie.Need-returns Inv μ
 returns c =
     let l = c .before .loop in
     let start = start-of (c .before) in
@@ -63,8 +63,8 @@ pub put-down-spec : {M : Type 1} → statement M
 put-down-spec =
     tie.close
     (tie.spec
-    Inv-loop
-    μ-loop
+    Inv
+    μ
     loop-holds
     put-down-line-requires
     (λ c. omega arith)

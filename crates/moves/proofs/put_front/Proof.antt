@@ -11,17 +11,17 @@ use Rattle.moves.proofs.Putting.{byte-behind}
 use Rattle.moves.proofs.put_front.Statement.{statement}
 use Rattle.moves.proofs.put_front.Tie as tie
 
-abbrev Inv-loop : tie.InvT-loop
-Inv-loop lines from out₀ at k₀ out k = (length out ≡ length out₀) × (out ≡ over out₀ at (part lines from k)) × (k ≤ 64)
+abbrev Inv : tie.InvT-loop
+Inv lines from out₀ at k₀ out k = (length out ≡ length out₀) × (out ≡ over out₀ at (part lines from k)) × (k ≤ 64)
 
-abbrev μ-loop : tie.MeasureT-loop
-μ-loop lines from out₀ at k₀ out k = 64 - k
+abbrev μ : tie.MeasureT-loop
+μ lines from out₀ at k₀ out k = 64 - k
 
 -- Where the function starts, from its loop.
-abbrev start-of : tie.At-loop Inv-loop μ-loop → tie.Start Inv-loop μ-loop
+abbrev start-of : tie.At-loop Inv μ → tie.Start Inv μ
 start-of c = c .before
 
-loop-again : tie.Need-loop-again Inv-loop μ-loop
+loop-again : tie.Need-loop-again Inv μ
 loop-again c =
     let at-test = c .before in
     let h = at-test .loop-test .taken in
@@ -35,7 +35,7 @@ loop-again c =
       omega (arith, h),
     )
 
-returns : tie.Need-returns Inv-loop μ-loop
+returns : tie.Need-returns Inv μ
 returns c =
     let l = c .before .loop in
     let start = start-of (c .before) in
@@ -45,8 +45,8 @@ pub put-front-spec : {M : Type 1} → statement M
 put-front-spec =
     tie.close
     (tie.spec
-    Inv-loop
-    μ-loop
+    Inv
+    μ
     (λ c. (refl, sym (over-none _ _), omega arith))
     (λ c. let start = start-of (c .before) in omega (arith, start .pre .0, start .good .0 .1, c .loop-test .taken))
     (λ c. let start = start-of (c .before .before) in omega (arith, start .pre .0, c .before .loop-test .taken))

@@ -14,36 +14,36 @@ use Rattle.moves.proofs.Planting.{newWordsOf, line-there-up, parent-few
 use Rattle.moves.proofs.put_up.Statement.{statement}
 use Rattle.moves.proofs.put_up.Tie as tie
 
-abbrev Inv-loop : tie.InvT-loop
-Inv-loop lines n out₀ i₀ out i =
+abbrev Inv : tie.InvT-loop
+Inv lines n out₀ i₀ out i =
     (i ≤ n) × (length out ≡ length out₀) × ((p : Planted eight lines n) → out ≡ over out₀ 0 (linesOf 9 i (newWordsOf lines n p)))
 
-abbrev μ-loop : tie.MeasureT-loop
-μ-loop lines n out₀ i₀ out i = n - i
+abbrev μ : tie.MeasureT-loop
+μ lines n out₀ i₀ out i = n - i
 
 -- Where the function starts, from its loop.
-abbrev start-of : tie.At-loop Inv-loop μ-loop → tie.Start Inv-loop μ-loop
+abbrev start-of : tie.At-loop Inv μ → tie.Start Inv μ
 start-of c = c .before .before .before
 
-loop-holds : tie.Need-loop-holds Inv-loop μ-loop
+loop-holds : tie.Need-loop-holds Inv μ
 unfolding linesOf
 loop-holds c = (omega arith, refl, λ p. sym (over-none _ _))
 
 -- The loop, from where the parent is asked for, and that place, from where the line is put.
-abbrev loop-of : tie.After-parent-of-arg Inv-loop μ-loop → tie.At-loop Inv-loop μ-loop
+abbrev loop-of : tie.After-parent-of-arg Inv μ → tie.At-loop Inv μ
 loop-of c = c .before .before
 
-abbrev ask-of : tie.After-put-up-line-arg Inv-loop μ-loop → tie.After-parent-of-arg Inv-loop μ-loop
+abbrev ask-of : tie.After-put-up-line-arg Inv μ → tie.After-parent-of-arg Inv μ
 ask-of c = c .before .before
 
-parent-of-requires : tie.Need-parent-of-requires Inv-loop μ-loop
+parent-of-requires : tie.Need-parent-of-requires Inv μ
 parent-of-requires c κs =
     let l = loop-of c .loop in
     let start = start-of (loop-of c) in
     let p = start .pre .0 in
     climbable _ _ p _ (l .out) (start .pre .1) (l .i) (c .before .loop-test .taken) (l .inv .2 p) (l .inv .1)
 
-put-up-line-requires : tie.Need-put-up-line-requires Inv-loop μ-loop
+put-up-line-requires : tie.Need-put-up-line-requires Inv μ
 put-up-line-requires c κs =
     let at-ask = ask-of c in
     let l = loop-of at-ask .loop in
@@ -52,7 +52,7 @@ put-up-line-requires c κs =
     let p = start .pre .0 in
     (line-there-up _ _ p (l .i) h, omega (arith, start .pre .1, h, l .inv .1), parent-few _ _ p (l .i) _ h (c .before .parent-of .ensures))
 
-loop-again : tie.Need-loop-again Inv-loop μ-loop
+loop-again : tie.Need-loop-again Inv μ
 loop-again c =
     let at-put = c .before .before in
     let at-arg = at-put .before in
@@ -65,7 +65,7 @@ loop-again c =
       λ p. up-next _ _ p _ (l .out) (start .pre .1) (l .i) h (l .inv .2 p) _ (at-arg .before .parent-of .ensures) _ (at-put .put-up-line .ensures),
     )
 
-returns : tie.Need-returns Inv-loop μ-loop
+returns : tie.Need-returns Inv μ
 returns c =
     let l = c .before .loop in
     let start = start-of (c .before) in
@@ -76,8 +76,8 @@ pub put-up-spec : {M : Type 1} → statement M
 put-up-spec =
     tie.close
     (tie.spec
-    Inv-loop
-    μ-loop
+    Inv
+    μ
     loop-holds
     parent-of-requires
     put-up-line-requires

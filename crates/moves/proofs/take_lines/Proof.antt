@@ -16,32 +16,32 @@ use Rattle.moves.proofs.Taking.{Sofar, sofar-start, sofar-over, sofar-n
 use Rattle.moves.proofs.take_lines.Statement.{statement}
 use Rattle.moves.proofs.take_lines.Tie as tie
 
-abbrev Inv-loop : tie.InvT-loop
-Inv-loop lines nine words line at₀ n₀ at n =
+abbrev Inv : tie.InvT-loop
+Inv lines nine words line at₀ n₀ at n =
     (at ≡ (8 * wordsIn (editionOf nine) + 1) * n) × Sofar (wordsIn (editionOf nine)) lines n
 
-abbrev μ-loop : tie.MeasureT-loop
-μ-loop lines nine words line at₀ n₀ at n = length lines - at
+abbrev μ : tie.MeasureT-loop
+μ lines nine words line at₀ n₀ at n = length lines - at
 
 -- Places by name: the bytes of a line are known, its words, and the function starts.
-abbrev width-of : tie.At-loop Inv-loop μ-loop → tie.After-line-in Inv-loop μ-loop
+abbrev width-of : tie.At-loop Inv μ → tie.After-line-in Inv μ
 width-of c = c .before
 
-abbrev words-of : tie.At-loop Inv-loop μ-loop → tie.After-words-in Inv-loop μ-loop
+abbrev words-of : tie.At-loop Inv μ → tie.After-words-in Inv μ
 words-of c = width-of c .before
 
-abbrev start-of : tie.At-loop Inv-loop μ-loop → tie.Start Inv-loop μ-loop
+abbrev start-of : tie.At-loop Inv μ → tie.Start Inv μ
 start-of c = words-of c .before .before
 
 -- The loop's test, from where its next line is judged, and the loop.
-abbrev test-of : tie.After-is-line Inv-loop μ-loop → tie.In-loop Inv-loop μ-loop
+abbrev test-of : tie.After-is-line Inv μ → tie.In-loop Inv μ
 test-of c = c .before .before
 
-abbrev loop-of : tie.After-is-line Inv-loop μ-loop → tie.At-loop Inv-loop μ-loop
+abbrev loop-of : tie.After-is-line Inv μ → tie.At-loop Inv μ
 loop-of c = test-of c .before
 
 -- The words of a line by the edition, and the bytes.
-module _ (c : tie.At-loop Inv-loop μ-loop) where
+module _ (c : tie.At-loop Inv μ) where
   abbrev edition : Edition
   edition = editionOf (start-of c .args .nine)
 
@@ -55,7 +55,7 @@ module _ (c : tie.At-loop Inv-loop μ-loop) where
   narrow = words-few edition
 
 -- The line that stands next, known to be good or bad.
-line-next : (c : tie.After-is-line Inv-loop μ-loop) (good : Bool) → c .is-line .result ≡ good
+line-next : (c : tie.After-is-line Inv μ) (good : Bool) → c .is-line .result ≡ good
     → FirstLine (w (loop-of c)) (drop ((8 * w (loop-of c) + 1) * loop-of c .loop .n) (start-of (loop-of c) .args .lines .now)) good
 line-next c good e =
     let at-loop = loop-of c in
@@ -63,20 +63,20 @@ line-next c good e =
     subst (λ x. FirstLine (w at-loop) (drop x s) good) (at-loop .loop .inv .0)
     (subst (λ x. FirstLine x (drop (at-loop .loop .at) s) good) (words-of at-loop .words-in .ensures) (subst (FirstLine _ _) e (c .is-line .ensures)))
 
-returns : tie.Need-returns Inv-loop μ-loop
+returns : tie.Need-returns Inv μ
 returns c =
     let at-test = c .before in
     let l = at-test .before .loop in
     let s = start-of (at-test .before) .args .lines .now in
     sofar-over _ s (l .n) (l .inv .1) (c .if1 .taken) (subst (λ x. x < length s) (l .inv .0) (at-test .loop-test .taken))
 
-is-line-requires : tie.Need-is-line-requires Inv-loop μ-loop
+is-line-requires : tie.Need-is-line-requires Inv μ
 is-line-requires c κs =
     let at-test = c .before in
     let at-loop = at-test .before in
     (at-test .loop-test .taken, subst (λ x. x ≤ 9) (sym (words-of at-loop .words-in .ensures)) (narrow at-loop))
 
-returns-2 : tie.Need-returns-2 Inv-loop μ-loop
+returns-2 : tie.Need-returns-2 Inv μ
 returns-2 c =
     let at-bad = c .before in
     let at-line = at-bad .before in
@@ -85,7 +85,7 @@ returns-2 c =
     subst (TakenIs (a .nine) (a .lines .now)) (sym (c .bad-line .ensures))
     (bad-taken (a .nine) (a .lines .now) (at-loop .loop .n) (at-loop .loop .inv .1) (line-next at-line false (not-true _ (at-bad .if2 .taken))))
 
-loop-again : tie.Need-loop-again Inv-loop μ-loop
+loop-again : tie.Need-loop-again Inv μ
 loop-again c =
     let at-line = c .before in
     let at-loop = loop-of at-line in
@@ -97,7 +97,7 @@ loop-again c =
       sofar-next _ _ (l .n) (l .inv .1) (line-next at-line true (not-false _ (c .if2 .left))) (omega (arith, l .inv .1 .few, at-line .before .if1 .left)),
     )
 
-returns-3 : tie.Need-returns-3 Inv-loop μ-loop
+returns-3 : tie.Need-returns-3 Inv μ
 returns-3 c =
     let at-loop = c .before in
     let l = at-loop .loop in
@@ -108,8 +108,8 @@ pub take-lines-spec : {M : Type 1} → statement M
 take-lines-spec =
     tie.close
     (tie.spec
-    Inv-loop
-    μ-loop
+    Inv
+    μ
     (λ c κs. search needs)
     (λ c κs. search needs)
     (λ c. (sym (mul-zero _), sofar-start _ _))

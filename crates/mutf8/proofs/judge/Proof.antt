@@ -12,29 +12,29 @@ use Rattle.mutf8.proofs.Walks.{walked-step, all-walked, halted-at}
 use Rattle.mutf8.proofs.judge.Statement.{statement}
 use Rattle.mutf8.proofs.judge.Tie as tie
 
-abbrev Inv-loop : tie.InvT-loop
-Inv-loop s coding i₀ reach₀ i reach = (i ≤ length s) × Walked (oneOf coding) s 0 i
+abbrev Inv : tie.InvT-loop
+Inv s coding i₀ reach₀ i reach = (i ≤ length s) × Walked (oneOf coding) s 0 i
 
-abbrev μ-loop : tie.MeasureT-loop
-μ-loop s coding i₀ reach₀ i reach = length s - i
+abbrev μ : tie.MeasureT-loop
+μ s coding i₀ reach₀ i reach = length s - i
 
 -- the blocks of a turn, and the turn
-abbrev pass-of : tie.After-steps Inv-loop μ-loop → tie.After-pass Inv-loop μ-loop
+abbrev pass-of : tie.After-steps Inv μ → tie.After-pass Inv μ
 pass-of c = c .before .before .before
 
-abbrev turn-of : tie.After-steps Inv-loop μ-loop → tie.At-loop Inv-loop μ-loop
+abbrev turn-of : tie.After-steps Inv μ → tie.At-loop Inv μ
 turn-of c = pass-of c .before .before
 
 -- a turn walks on over the blocks and over the values behind them
-walked : (c : tie.After-steps Inv-loop μ-loop) → let a = turn-of c .before .before .args in Walked (oneOf (a .coding)) (a .s .now) 0 (c .steps .result)
+walked : (c : tie.After-steps Inv μ) → let a = turn-of c .before .before .args in Walked (oneOf (a .coding)) (a .s .now) 0 (c .steps .result)
 walked c = walked-step (turn-of c .before .before .args .coding) (turn-of c .loop .inv .1) (pass-of c .pass .ensures) (c .steps .ensures)
 
 pub judge-spec : {M : Type 1} → statement M
 judge-spec =
     tie.close
     (tie.spec
-    Inv-loop
-    μ-loop
+    Inv
+    μ
     (λ c. (omega arith, none))
     (λ c κs. c .before .loop .inv .0)
     (λ c κs. search needs)

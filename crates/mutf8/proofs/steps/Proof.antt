@@ -12,24 +12,24 @@ use Rattle.mutf8.proofs.Alike.{walked-plain}
 use Rattle.mutf8.proofs.steps.Statement.{statement}
 use Rattle.mutf8.proofs.steps.Tie as tie
 
-abbrev Inv-loop : tie.InvT-loop
-Inv-loop s at stop coding i₀ i = (at ≤ i) × (i ≤ length s) × Walked (oneOf coding) s at i
+abbrev Inv : tie.InvT-loop
+Inv s at stop coding i₀ i = (at ≤ i) × (i ≤ length s) × Walked (oneOf coding) s at i
 
-abbrev μ-loop : tie.MeasureT-loop
-μ-loop s at stop coding i₀ i = length s - i
+abbrev μ : tie.MeasureT-loop
+μ s at stop coding i₀ i = length s - i
 
 -- the turn of a byte that was looked at, and of a value that was read
-abbrev turn-of : tie.After-shared-slice-known2 Inv-loop μ-loop → tie.At-loop Inv-loop μ-loop
+abbrev turn-of : tie.After-shared-slice-known2 Inv μ → tie.At-loop Inv μ
 turn-of c = c .before .before
 
-abbrev call-of : tie.After-n Inv-loop μ-loop → tie.After-front-at Inv-loop μ-loop
+abbrev call-of : tie.After-n Inv μ → tie.After-front-at Inv μ
 call-of c = c .before .before
 
-abbrev value-of : tie.After-n Inv-loop μ-loop → tie.At-loop Inv-loop μ-loop
+abbrev value-of : tie.After-n Inv μ → tie.At-loop Inv μ
 value-of c = turn-of (call-of c .before .before .before)
 
 -- the value takes a byte at least, and no more than there are
-reached : (c : tie.After-n Inv-loop μ-loop) → let l = value-of c in let n = c .n .given .0 .1 .0 in
+reached : (c : tie.After-n Inv μ) → let l = value-of c in let n = c .n .given .0 .1 .0 in
     (0 < n) × (l .loop .i + n ≤ length (l .before .before .args .s .now))
 reached c = let a = value-of c .before .before .args in reach (a .coding) (a .s .now) _ _ _ _ (c .n .given .1) (call-of c .front-at .ensures)
 
@@ -37,8 +37,8 @@ pub steps-spec : {M : Type 1} → statement M
 steps-spec =
     tie.close
     (tie.spec
-    Inv-loop
-    μ-loop
+    Inv
+    μ
     (λ c. (omega arith, c .before .pre .0, none))
     (λ c. omega arith)
     (λ c κs. search needs)

@@ -8,16 +8,16 @@ use Rattle.plain.proofs.Plains.{plain-more, zero-is}
 use Rattle.plain.proofs.plain_from.Statement.{statement}
 use Rattle.plain.proofs.plain_from.Tie as tie
 
-abbrev Inv-loop : tie.InvT-loop
-Inv-loop q text at end i₀ i = (at ≤ i) × (i ≤ end) × Plain q text at i
+abbrev Inv : tie.InvT-loop
+Inv q text at end i₀ i = (at ≤ i) × (i ≤ end) × Plain q text at i
 
-abbrev μ-loop : tie.MeasureT-loop
-μ-loop q text at end i₀ i = end - i
+abbrev μ : tie.MeasureT-loop
+μ q text at end i₀ i = end - i
 
-abbrev loop-of : tie.After-unplain Inv-loop μ-loop → tie.In-loop Inv-loop μ-loop
+abbrev loop-of : tie.After-unplain Inv μ → tie.In-loop Inv μ
 loop-of c = c .before .before
 
-loop-again : tie.Need-loop-again Inv-loop μ-loop
+loop-again : tie.Need-loop-again Inv μ
 loop-again c =
     let at-byte = c .before in
     let l = loop-of at-byte .before .loop in
@@ -27,8 +27,8 @@ pub plain-from-spec : {M : Type 1} → statement M
 plain-from-spec =
     tie.close
     (tie.spec
-    Inv-loop
-    μ-loop
+    Inv
+    μ
     (λ c κs. search needs)  -- plain-blocks-requires
     (λ c. c .plain-blocks .ensures)  -- loop-holds
     (λ c. omega arith)  -- shared-slice-read-unplain

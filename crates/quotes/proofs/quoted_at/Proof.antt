@@ -12,27 +12,27 @@ use Rattle.quotes.proofs.Walks.{Going, Stood, going-start, going-wide, 
 use Rattle.quotes.proofs.quoted_at.Statement.{statement}
 use Rattle.quotes.proofs.quoted_at.Tie as tie
 
-abbrev Inv-loop : tie.InvT-loop
-Inv-loop text start q i₀ width₀ i width = (i ≤ length text) × (width .0 ≤ i) × (q ≡ getD text start 0) × Going text start i (width .0)
+abbrev Inv : tie.InvT-loop
+Inv text start q i₀ width₀ i width = (i ≤ length text) × (width .0 ≤ i) × (q ≡ getD text start 0) × Going text start i (width .0)
 
-abbrev μ-loop : tie.MeasureT-loop
-μ-loop text start q i₀ width₀ i width = length text - i
+abbrev μ : tie.MeasureT-loop
+μ text start q i₀ width₀ i width = length text - i
 
 -- The places: where the function begins, where a turn does, and behind the turn's run of plain bytes.
-abbrev start-of : tie.At-loop Inv-loop μ-loop → tie.Start Inv-loop μ-loop
+abbrev start-of : tie.At-loop Inv μ → tie.Start Inv μ
 start-of c = c .before .before .before
 
-abbrev turn-of : tie.After-wider Inv-loop μ-loop → tie.At-loop Inv-loop μ-loop
+abbrev turn-of : tie.After-wider Inv μ → tie.At-loop Inv μ
 turn-of c = c .before .before .before
 
-abbrev run-of : tie.Else2 Inv-loop μ-loop → tie.After-wider Inv-loop μ-loop
+abbrev run-of : tie.Else2 Inv μ → tie.After-wider Inv μ
 run-of c = c .before .before .before
 
-abbrev escape-of : tie.After-known-told Inv-loop μ-loop → tie.After-escape-at Inv-loop μ-loop
+abbrev escape-of : tie.After-known-told Inv μ → tie.After-escape-at Inv μ
 escape-of c = c .before .before .before
 
 -- what a run of plain bytes leaves
-ran : (c : tie.After-wider Inv-loop μ-loop)
+ran : (c : tie.After-wider Inv μ)
     → let a = start-of (turn-of c) .args in Going (a .text .now) (a .start) (c .before .plain-end .result) (c .wider .result .0)
 ran c =
     let l = turn-of c .loop in
@@ -40,7 +40,7 @@ ran c =
     going-wide _ _ _ _ _ (c .wider .ensures) (going-plain _ _ (l .i) _ (l .width .0) (e .0) (e .1) (e .2) (l .inv .3))
 
 -- what the escape behind it says, by the case that a `match` took of it
-stood : (c : tie.After-escape-at Inv-loop μ-loop) (v : Escape) → c .escape-at .result ≡ v
+stood : (c : tie.After-escape-at Inv μ) (v : Escape) → c .escape-at .result ≡ v
     → let r = run-of (c .before .before) in let a = start-of (turn-of r) .args in
     Stood (a .text .now) (a .start) (r .before .plain-end .result) (r .wider .result .0) v
 stood c v d =
@@ -50,35 +50,35 @@ stood c v d =
     going-told _ _ _ _ (omega arith) (ran r) (at-backslash .before .if2 .left) (at-backslash .if3 .taken) v told
 
 -- the bytes that the escape takes
-reached : (c : tie.After-known-told Inv-loop μ-loop)
+reached : (c : tie.After-known-told Inv μ)
     → let r = run-of (escape-of c .before .before) in let n = c .before .bytes .given .0 .1 .0 in
     (2 ≤ n) × (r .before .plain-end .result + n ≤ length (start-of (turn-of r) .args .text .now))
 reached c = let s = stood (escape-of c) _ (c .before .bytes .given .1) in (s .0, s .1)
 
-returns : tie.Need-returns Inv-loop μ-loop
+returns : tie.Need-returns Inv μ
 returns c =
     let at-quote = c .before in
     going-closed _ _ _ _ (omega arith) (ran (at-quote .before .before .before)) (at-quote .if2 .taken) _ (c .wider2 .ensures)
 
-loop-again-2 : tie.Need-loop-again-2 Inv-loop μ-loop
+loop-again-2 : tie.Need-loop-again-2 Inv μ
 loop-again-2 c =
     let at-bytes = c .before in
     let s = stood (escape-of at-bytes) _ (at-bytes .before .bytes .given .1) in
     (s .1, omega (arith, s .0, s .1), refl, going-wide _ _ _ _ _ (c .wider3 .ensures) (s .2))
 
-returns-2 : tie.Need-returns-2 Inv-loop μ-loop
+returns-2 : tie.Need-returns-2 Inv μ
 returns-2 c = let at-match = c .before .before in stood (at-match .before) _ (c .before .number .given .1)
 
-returns-3 : tie.Need-returns-3 Inv-loop μ-loop
+returns-3 : tie.Need-returns-3 Inv μ
 returns-3 c = let at-match = c .before .before in c .left-open .ensures ∙ stood (at-match .before) _ (c .before .enum-told .given .1)
 
 -- a byte begins one character at most
-one : (c : tie.After-begins Inv-loop μ-loop) → c .begins .result ≤ 1
+one : (c : tie.After-begins Inv μ) → c .begins .result ≤ 1
 one c =
     let r = run-of (c .before .before) in
     omega (arith, c .begins .ensures, begins-le (getD (start-of (turn-of r) .args .text .now) (r .before .plain-end .result) 0))
 
-loop-again-3 : tie.Need-loop-again-3 Inv-loop μ-loop
+loop-again-3 : tie.Need-loop-again-3 Inv μ
 loop-again-3 c =
     let at-byte = c .before in
     let other = at-byte .before .before in
@@ -91,8 +91,8 @@ pub quoted-at-spec : {M : Type 1} → statement M
 quoted-at-spec =
     tie.close
     (tie.spec
-    Inv-loop
-    μ-loop
+    Inv
+    μ
     (λ c. omega arith)  -- shared-slice-read-q
     (λ c. omega arith)  -- add-i
     (λ c. (omega arith, omega arith, refl, going-start _ _))  -- loop-holds

@@ -12,38 +12,38 @@ use Rattle.reach.proofs.Hopping.{least-le, Hopping, hopping-start, hopp
 use Rattle.reach.proofs.next.Statement.{statement}
 use Rattle.reach.proofs.next.Tie as tie
 
-abbrev Inv-loop : tie.InvT-loop
-Inv-loop doc table q plan set parent c index deeps taken rest₀ out₀ rest out =
+abbrev Inv : tie.InvT-loop
+Inv doc table q plan set parent c index deeps taken rest₀ out₀ rest out =
     Hopping (planned q plan) (hopTo doc table parent c index) set (bitAnd set (getD plan 0 0) / 2) out rest
 
-abbrev μ-loop : tie.MeasureT-loop
-μ-loop doc table q plan set parent c index deeps taken rest₀ out₀ rest out = rest
+abbrev μ : tie.MeasureT-loop
+μ doc table q plan set parent c index deeps taken rest₀ out₀ rest out = rest
 
 -- The places: where the function begins, from the call of `takers` and from a turn of the loop.
-abbrev deeps-start : tie.After-deeps Inv-loop μ-loop → tie.Start Inv-loop μ-loop
+abbrev deeps-start : tie.After-deeps Inv μ → tie.Start Inv μ
 deeps-start c = let at-slices = c .before in at-slices .before .before .before
 
-abbrev loop-start : tie.At-loop Inv-loop μ-loop → tie.Start Inv-loop μ-loop
+abbrev loop-start : tie.At-loop Inv μ → tie.Start Inv μ
 loop-start c = deeps-start (c .before .before)
 
-mul-takers : tie.Need-mul-takers Inv-loop μ-loop
+mul-takers : tie.Need-mul-takers Inv μ
 mul-takers c =
     let fits = deeps-start c .fits .set .fits in
     omega arith
 
-takers-requires : tie.Need-takers-requires Inv-loop μ-loop
+takers-requires : tie.Need-takers-requires Inv μ
 takers-requires c κs =
     let p = deeps-start c .pre in
     let v = p .0 .2 in
     ((p .0 .0, v .plan-in, steps-of v), p .1, p .2)
 
-sub-rest : tie.Need-sub-rest Inv-loop μ-loop
+sub-rest : tie.Need-sub-rest Inv μ
 sub-rest c = within-le _ _ (passed-within (deeps-start (c .before) .pre .0 .2))
 
-loop-holds : tie.Need-loop-holds Inv-loop μ-loop
+loop-holds : tie.Need-loop-holds Inv μ
 loop-holds c = hopping-start _ _ _ _ (passed-within (deeps-start (c .before) .pre .0 .2))
 
-reach-requires : tie.Need-reach-requires Inv-loop μ-loop
+reach-requires : tie.Need-reach-requires Inv μ
 reach-requires c κs =
     let at-loop = c .before .before in
     let at-takers = at-loop .before in
@@ -53,7 +53,7 @@ reach-requires c κs =
     let le = set-within v _ (inv .within _ (c .least .ensures .is-in)) in
     (omega arith, (_, _, hopping-ready v _ (at-takers .takers .ensures) inv (c .least .ensures)))
 
-only-requires : tie.Need-only-requires Inv-loop μ-loop
+only-requires : tie.Need-only-requires Inv μ
 only-requires c κs =
     let at-least = c .before in
     let at-loop = at-least .before .before in
@@ -62,13 +62,13 @@ only-requires c κs =
     let le = set-within v _ (at-loop .loop .inv .within _ (at-least .least .ensures .is-in)) in
     omega arith
 
-sub-rest-2 : tie.Need-sub-rest-2 Inv-loop μ-loop
+sub-rest-2 : tie.Need-sub-rest-2 Inv μ
 sub-rest-2 c = least-le (c .before .before .least .ensures) (c .only .ensures) .0
 
-loop-less : tie.Need-loop-less Inv-loop μ-loop
+loop-less : tie.Need-loop-less Inv μ
 loop-less c = least-le (c .before .before .least .ensures) (c .only .ensures) .1
 
-loop-again : tie.Need-loop-again Inv-loop μ-loop
+loop-again : tie.Need-loop-again Inv μ
 loop-again c =
     let at-reach = c .before in
     let at-least = at-reach .before in
@@ -78,7 +78,7 @@ loop-again c =
     let ready = hopping-ready (loop-start at-loop .pre .0 .2) _ (at-takers .takers .ensures) inv (at-least .least .ensures) in
     hopping-next _ _ _ _ inv (at-least .least .ensures) (at-reach .reach .ensures _ _ ready) (c .only .ensures)
 
-returns : tie.Need-returns Inv-loop μ-loop
+returns : tie.Need-returns Inv μ
 returns c =
     let at-loop = c .before in
     let at-takers = at-loop .before in
@@ -88,8 +88,8 @@ pub next-spec : {M : Type 1} → statement M
 next-spec =
     tie.close
     (tie.spec
-    Inv-loop
-    μ-loop
+    Inv
+    μ
     (λ c. search needs)
     mul-takers
     takers-requires

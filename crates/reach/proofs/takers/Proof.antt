@@ -11,57 +11,57 @@ use Rattle.reach.proofs.Hopping.{Taking, taking-start, taking-next, tak
 use Rattle.reach.proofs.takers.Statement.{statement}
 use Rattle.reach.proofs.takers.Tie as tie
 
-abbrev Inv-loop : tie.InvT-loop
-Inv-loop doc table q plan set parent c index rest₀ out₀ rest out = Taking (planned q plan) (hopTo doc table parent c index) set (bitAnd set (getD plan 1 0)) out rest
+abbrev Inv : tie.InvT-loop
+Inv doc table q plan set parent c index rest₀ out₀ rest out = Taking (planned q plan) (hopTo doc table parent c index) set (bitAnd set (getD plan 1 0)) out rest
 
-abbrev μ-loop : tie.MeasureT-loop
-μ-loop doc table q plan set parent c index rest₀ out₀ rest out = rest
+abbrev μ : tie.MeasureT-loop
+μ doc table q plan set parent c index rest₀ out₀ rest out = rest
 
 -- The places: where the function begins, from a turn of the loop.
-abbrev loop-start : tie.At-loop Inv-loop μ-loop → tie.Start Inv-loop μ-loop
+abbrev loop-start : tie.At-loop Inv μ → tie.Start Inv μ
 loop-start c = let at-slices = c .before .before in at-slices .before .before .before
 
-sub-out : tie.Need-sub-out Inv-loop μ-loop
+sub-out : tie.Need-sub-out Inv μ
 sub-out c = within-le _ _ (within-both _ _)
 
-loop-holds : tie.Need-loop-holds Inv-loop μ-loop
+loop-holds : tie.Need-loop-holds Inv μ
 loop-holds c = taking-start _ _ _ _ (within-both _ _)
 
-least-requires : tie.Need-least-requires Inv-loop μ-loop
+least-requires : tie.Need-least-requires Inv μ
 least-requires c κs = c .loop-test .taken
 
-step-takes-requires : tie.Need-step-takes-requires Inv-loop μ-loop
+step-takes-requires : tie.Need-step-takes-requires Inv μ
 step-takes-requires c κs =
     let at-loop = c .before .before in
     let p = loop-start at-loop .pre in
     let inv = at-loop .loop .inv in
     (asked-step (p .0 .1) (p .0 .2) inv (c .least .ensures) .1, asked-name (p .0 .1) (p .0 .2) inv (c .least .ensures), p .1, p .2)
 
-mark-requires : tie.Need-mark-requires Inv-loop μ-loop
+mark-requires : tie.Need-mark-requires Inv μ
 mark-requires c κs =
     let at-least = c .before in
     let at-loop = at-least .before .before in
     let p = loop-start at-loop .pre in
     asked-step (p .0 .1) (p .0 .2) (at-loop .loop .inv) (at-least .least .ensures) .1
 
-only-requires : tie.Need-only-requires Inv-loop μ-loop
+only-requires : tie.Need-only-requires Inv μ
 only-requires c κs =
     let at-least = c .before .before in
     let at-loop = at-least .before .before in
     let p = loop-start at-loop .pre in
     asked-step (p .0 .1) (p .0 .2) (at-loop .loop .inv) (at-least .least .ensures) .1
 
-sub-rest : tie.Need-sub-rest Inv-loop μ-loop
+sub-rest : tie.Need-sub-rest Inv μ
 sub-rest c =
     let at-least = c .before .before .before in
     least-le (at-least .least .ensures) (c .only .ensures) .0
 
-loop-less : tie.Need-loop-less Inv-loop μ-loop
+loop-less : tie.Need-loop-less Inv μ
 loop-less c =
     let at-least = c .before .before .before in
     least-le (at-least .least .ensures) (c .only .ensures) .1
 
-loop-again : tie.Need-loop-again Inv-loop μ-loop
+loop-again : tie.Need-loop-again Inv μ
 loop-again c =
     let at-mark = c .before in
     let at-step-takes = at-mark .before in
@@ -72,7 +72,7 @@ loop-again c =
     let some = asked-step (p .0 .1) (p .0 .2) inv (at-least .least .ensures) .0 in
     taking-next _ _ _ _ inv (at-least .least .ensures) (at-step-takes .step-takes .ensures ∙ takes-at _ _ _ some) (at-mark .mark .ensures) (c .only .ensures)
 
-returns : tie.Need-returns Inv-loop μ-loop
+returns : tie.Need-returns Inv μ
 returns c =
     let at-loop = c .before in
     let p = loop-start at-loop .pre in
@@ -82,8 +82,8 @@ pub takers-spec : {M : Type 1} → statement M
 takers-spec =
     tie.close
     (tie.spec
-    Inv-loop
-    μ-loop
+    Inv
+    μ
     (λ c. search needs)
     sub-out
     loop-holds

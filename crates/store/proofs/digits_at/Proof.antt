@@ -14,17 +14,17 @@ use Rattle.store.proofs.Reading.{no-digits, larger, not-larger}
 use Rattle.store.proofs.digits_at.Statement.{statement}
 use Rattle.store.proofs.digits_at.Tie as tie
 
-abbrev Inv-loop : tie.InvT-loop
-Inv-loop lines at count largest₀ k₀ largest k = (ltb largest 16 ≡ allDigits (part lines at k)) × (k ≤ count)
+abbrev Inv : tie.InvT-loop
+Inv lines at count largest₀ k₀ largest k = (ltb largest 16 ≡ allDigits (part lines at k)) × (k ≤ count)
 
-abbrev μ-loop : tie.MeasureT-loop
-μ-loop lines at count largest₀ k₀ largest k = count - k
+abbrev μ : tie.MeasureT-loop
+μ lines at count largest₀ k₀ largest k = count - k
 
 -- Where the function starts, from its loop.
-abbrev start-of : tie.At-loop Inv-loop μ-loop → tie.Start Inv-loop μ-loop
+abbrev start-of : tie.At-loop Inv μ → tie.Start Inv μ
 start-of c = c .before .before
 
-loop-again : tie.Need-loop-again Inv-loop μ-loop
+loop-again : tie.Need-loop-again Inv μ
 loop-again c =
     let at-value = c .before in
     let at-test = at-value .before .before in
@@ -39,7 +39,7 @@ loop-again c =
       omega (arith, at-test .loop-test .taken),
     )
 
-returns : tie.Need-returns Inv-loop μ-loop
+returns : tie.Need-returns Inv μ
 returns c =
     let l = c .before .loop in
     let start = start-of (c .before) in
@@ -49,8 +49,8 @@ pub digits-at-spec : {M : Type 1} → statement M
 digits-at-spec =
     tie.close
     (tie.spec
-    Inv-loop
-    μ-loop
+    Inv
+    μ
     (λ c. (no-digits (c .before .args .lines .now) (c .before .args .at), omega arith))
     (λ c. let start = start-of (c .before) in omega (arith, start .pre, start .good .0 .1, c .loop-test .taken))
     (λ c. omega (arith, start-of (c .before .before) .pre, c .before .loop-test .taken))

@@ -13,23 +13,23 @@ use Rattle.store.proofs.Reading.{no-words, word-put, part-part}
 use Rattle.store.proofs.take_line.Statement.{statement}
 use Rattle.store.proofs.take_line.Tie as tie
 
-abbrev Inv-loop : tie.InvT-loop
-Inv-loop lines n table₀ k₀ table k =
+abbrev Inv : tie.InvT-loop
+Inv lines n table₀ k₀ table k =
     (length table ≡ length table₀) × (table ≡ over table₀ (9 * n) (wordsOf k (part lines (73 * n) 72))) × (k ≤ 9)
 
-abbrev μ-loop : tie.MeasureT-loop
-μ-loop lines n table₀ k₀ table k = 9 - k
+abbrev μ : tie.MeasureT-loop
+μ lines n table₀ k₀ table k = 9 - k
 
 -- Where the function starts, from its loop.
-abbrev start-of : tie.At-loop Inv-loop μ-loop → tie.Start Inv-loop μ-loop
+abbrev start-of : tie.At-loop Inv μ → tie.Start Inv μ
 start-of c = c .before .before .before
 
-loop-holds : tie.Need-loop-holds Inv-loop μ-loop
+loop-holds : tie.Need-loop-holds Inv μ
 loop-holds c =
     let start = c .before .before in
     (refl, no-words (start .args .table .now) (9 * start .args .n) (part (start .args .lines .now) (73 * start .args .n) 72), omega arith)
 
-word-at-requires : tie.Need-word-at-requires Inv-loop μ-loop
+word-at-requires : tie.Need-word-at-requires Inv μ
 word-at-requires c κs =
     let start = start-of (c .before) in
     let s = start .args .lines .now in
@@ -40,7 +40,7 @@ word-at-requires c κs =
       subst (λ x. allDigits x ≡ true) (part-part s at 72 (8 * k) 8 (start .pre .0) (omega (arith, h))) (span-digits (part s at 72) (start .pre .2) (8 * k) 8),
     )
 
-loop-again : tie.Need-loop-again Inv-loop μ-loop
+loop-again : tie.Need-loop-again Inv μ
 loop-again c =
     let at-test = c .before in
     let h = at-test .loop-test .taken in
@@ -59,7 +59,7 @@ loop-again c =
       omega (arith, h),
     )
 
-returns : tie.Need-returns Inv-loop μ-loop
+returns : tie.Need-returns Inv μ
 returns c =
     let l = c .before .loop in
     let start = start-of (c .before) in
@@ -70,8 +70,8 @@ pub take-line-spec : {M : Type 1} → statement M
 take-line-spec =
     tie.close
     (tie.spec
-    Inv-loop
-    μ-loop
+    Inv
+    μ
     loop-holds
     (λ c. let start = start-of (c .before) in omega (arith, start .pre .0, start .good .0 .1))
     (λ c. omega (arith, c .loop-test .taken))

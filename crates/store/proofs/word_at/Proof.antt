@@ -11,30 +11,30 @@ use Rattle.store.proofs.Reading.{no-value, weighed, sum-turn, sum-room,
 use Rattle.store.proofs.word_at.Statement.{statement}
 use Rattle.store.proofs.word_at.Tie as tie
 
-abbrev Inv-loop : tie.InvT-loop
-Inv-loop lines at n₀ i₀ n i = (n ≡ hexValue (part lines at i) * 2 ^ (32 - 4 * i)) × (n + 2 ^ (32 - 4 * i) ≤ 2 ^ 32) × (i ≤ 8)
+abbrev Inv : tie.InvT-loop
+Inv lines at n₀ i₀ n i = (n ≡ hexValue (part lines at i) * 2 ^ (32 - 4 * i)) × (n + 2 ^ (32 - 4 * i) ≤ 2 ^ 32) × (i ≤ 8)
 
-abbrev μ-loop : tie.MeasureT-loop
-μ-loop lines at n₀ i₀ n i = 8 - i
+abbrev μ : tie.MeasureT-loop
+μ lines at n₀ i₀ n i = 8 - i
 
 -- Where the function starts, from its loop.
-abbrev start-of : tie.At-loop Inv-loop μ-loop → tie.Start Inv-loop μ-loop
+abbrev start-of : tie.At-loop Inv μ → tie.Start Inv μ
 start-of c = c .before .before
 
-value-of-requires : tie.Need-value-of-requires Inv-loop μ-loop
+value-of-requires : tie.Need-value-of-requires Inv μ
 value-of-requires c κs =
     let start = start-of (c .before .before) in
     digit-at (start .args .lines .now) (start .args .at) 8 (c .before .before .loop .i) (start .pre .0) (start .pre .1) (c .before .loop-test .taken)
 
 -- What is read is a digit.
-value-digit : (c : tie.After-value-of Inv-loop μ-loop) → c .value-of .result < 16
+value-digit : (c : tie.After-value-of Inv μ) → c .value-of .result < 16
 value-digit c =
     let at-test = c .before .before in
     let start = start-of (at-test .before) in
     rw (c .value-of .ensures)
     (digit-at (start .args .lines .now) (start .args .at) 8 (at-test .before .loop .i) (start .pre .0) (start .pre .1) (at-test .loop-test .taken))
 
-add-n : tie.Need-add-n Inv-loop μ-loop
+add-n : tie.Need-add-n Inv μ
 add-n c =
     let at-test = c .before .before in
     let l = at-test .before .loop in
@@ -42,7 +42,7 @@ add-n c =
     let h = at-test .loop-test .taken in
     rw (weighed (l .i) h (l .n) v (value-digit c)) (omega (arith, sum-fits (l .i) h (l .n) v (value-digit c) (l .inv .1)))
 
-loop-again : tie.Need-loop-again Inv-loop μ-loop
+loop-again : tie.Need-loop-again Inv μ
 loop-again c =
     let at-test = c .before .before in
     let l = at-test .before .loop in
@@ -56,7 +56,7 @@ loop-again c =
       omega (arith, h),
     )
 
-returns : tie.Need-returns Inv-loop μ-loop
+returns : tie.Need-returns Inv μ
 returns c =
     let l = c .before .loop in
     let start = start-of (c .before) in
@@ -68,8 +68,8 @@ pub word-at-spec : {M : Type 1} → statement M
 word-at-spec =
     tie.close
     (tie.spec
-    Inv-loop
-    μ-loop
+    Inv
+    μ
     (λ c. (no-value (c .before .args .lines .now) (c .before .args .at), omega arith, omega arith))
     (λ c. let start = start-of (c .before) in omega (arith, start .pre .0, start .good .0 .1, c .loop-test .taken))
     (λ c. omega (arith, start-of (c .before .before) .pre .0, c .before .loop-test .taken))

@@ -9,25 +9,25 @@ use Rattle.mutf8.proofs.Alike.{false-true, fitting-none, fitting-more}
 use Rattle.mutf8.proofs.blocks.all_fit.Statement.{statement}
 use Rattle.mutf8.proofs.blocks.all_fit.Tie as tie
 
-abbrev Inv-loop : tie.InvT-loop
-Inv-loop s at top₀ k₀ top k = (k ≤ 64) × (top ≡ 0 → Fitting s at (at + k))
+abbrev Inv : tie.InvT-loop
+Inv s at top₀ k₀ top k = (k ≤ 64) × (top ≡ 0 → Fitting s at (at + k))
 
-abbrev μ-loop : tie.MeasureT-loop
-μ-loop s at top₀ k₀ top k = 64 - k
+abbrev μ : tie.MeasureT-loop
+μ s at top₀ k₀ top k = 64 - k
 
 -- the first of the three bytes has been read, and the turn
-abbrev read-of : tie.After-odd Inv-loop μ-loop → tie.After-shared-slice-known2 Inv-loop μ-loop
+abbrev read-of : tie.After-odd Inv μ → tie.After-shared-slice-known2 Inv μ
 read-of c = c .before .before .before
 
-abbrev turn-of : tie.After-odd Inv-loop μ-loop → tie.At-loop Inv-loop μ-loop
+abbrev turn-of : tie.After-odd Inv μ → tie.At-loop Inv μ
 turn-of c = read-of c .before .before
 
 pub all-fit-spec : {M : Type 1} → statement M
 all-fit-spec =
     tie.close
     (tie.spec
-    Inv-loop
-    μ-loop
+    Inv
+    μ
     (λ c. (omega arith, λ _. fitting-none _ _ _ (omega arith)))
     (λ c. search needs)
     (λ c. search needs)

@@ -8,25 +8,25 @@ use Rattle.mutf8.proofs.Alike.{passed-none, passed-join, fitting-passed
 use Rattle.mutf8.proofs.blocks.blocks.Statement.{statement}
 use Rattle.mutf8.proofs.blocks.blocks.Tie as tie
 
-abbrev Inv-loop : tie.InvT-loop
-Inv-loop s at i₀ left₀ i left = (i ≤ length s) × Edge s i × Passed s at i
+abbrev Inv : tie.InvT-loop
+Inv s at i₀ left₀ i left = (i ≤ length s) × Edge s i × Passed s at i
 
-abbrev μ-loop : tie.MeasureT-loop
-μ-loop s at i₀ left₀ i left = left
+abbrev μ : tie.MeasureT-loop
+μ s at i₀ left₀ i left = left
 
-abbrev turn-of : tie.After-whole Inv-loop μ-loop → tie.At-loop Inv-loop μ-loop
+abbrev turn-of : tie.After-whole Inv μ → tie.At-loop Inv μ
 turn-of c = c .before .before .before
 
 -- the next place is an edge
-abbrev edge-of : tie.After-all-fit Inv-loop μ-loop → tie.After-is-edge Inv-loop μ-loop
+abbrev edge-of : tie.After-all-fit Inv μ → tie.After-is-edge Inv μ
 edge-of c = c .before .before
 
 pub blocks-spec : {M : Type 1} → statement M
 blocks-spec =
     tie.close
     (tie.spec
-    Inv-loop
-    μ-loop
+    Inv
+    μ
     (λ c. let p = c .before .pre in (p .1, p .0, passed-none _ _ (p .1)))
     (λ c. omega arith)
     (λ c. c .before .before .loop .inv .2)

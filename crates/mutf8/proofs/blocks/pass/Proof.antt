@@ -8,28 +8,28 @@ use Rattle.mutf8.proofs.Alike.{plain-passed, passed-none, passed-join}
 use Rattle.mutf8.proofs.blocks.pass.Statement.{statement}
 use Rattle.mutf8.proofs.blocks.pass.Tie as tie
 
-abbrev Inv-loop : tie.InvT-loop
-Inv-loop s at i₀ i = (i ≤ length s) × Passed s at i
+abbrev Inv : tie.InvT-loop
+Inv s at i₀ i = (i ≤ length s) × Passed s at i
 
-abbrev μ-loop : tie.MeasureT-loop
-μ-loop s at i₀ i = length s - i
+abbrev μ : tie.MeasureT-loop
+μ s at i₀ i = length s - i
 
 -- the turn of a block, plain or not; and the end of the turns
-abbrev turn-of : tie.After-all-plain Inv-loop μ-loop → tie.At-loop Inv-loop μ-loop
+abbrev turn-of : tie.After-all-plain Inv μ → tie.At-loop Inv μ
 turn-of c = c .before .before
 
-abbrev mixed-of : tie.After-mixed Inv-loop μ-loop → tie.At-loop Inv-loop μ-loop
+abbrev mixed-of : tie.After-mixed Inv μ → tie.At-loop Inv μ
 mixed-of c = turn-of (c .before .before)
 
-abbrev end-of : tie.After-ends-plain Inv-loop μ-loop → tie.At-loop Inv-loop μ-loop
+abbrev end-of : tie.After-ends-plain Inv μ → tie.At-loop Inv μ
 end-of c = c .before .before
 
 pub pass-spec : {M : Type 1} → statement M
 pass-spec =
     tie.close
     (tie.spec
-    Inv-loop
-    μ-loop
+    Inv
+    μ
     (λ c. (c .before .pre, passed-none _ _ (c .before .pre)))
     (λ c. omega arith)
     (λ c κs. omega arith)

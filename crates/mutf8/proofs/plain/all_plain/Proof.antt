@@ -9,21 +9,21 @@ use Rattle.mutf8.proofs.Alike.{false-true, plain-none, plain-more}
 use Rattle.mutf8.proofs.plain.all_plain.Statement.{statement}
 use Rattle.mutf8.proofs.plain.all_plain.Tie as tie
 
-abbrev Inv-loop : tie.InvT-loop
-Inv-loop s at n top₀ k₀ top k = (k ≤ n) × (top ≡ 0 → Plain s at (at + k))
+abbrev Inv : tie.InvT-loop
+Inv s at n top₀ k₀ top k = (k ≤ n) × (top ≡ 0 → Plain s at (at + k))
 
-abbrev μ-loop : tie.MeasureT-loop
-μ-loop s at n top₀ k₀ top k = n - k
+abbrev μ : tie.MeasureT-loop
+μ s at n top₀ k₀ top k = n - k
 
-abbrev turn-of : tie.After-unplain Inv-loop μ-loop → tie.At-loop Inv-loop μ-loop
+abbrev turn-of : tie.After-unplain Inv μ → tie.At-loop Inv μ
 turn-of c = c .before .before .before
 
 pub all-plain-spec : {M : Type 1} → statement M
 all-plain-spec =
     tie.close
     (tie.spec
-    Inv-loop
-    μ-loop
+    Inv
+    μ
     (λ c. (omega arith, λ _. plain-none _ _ _ (omega arith)))
     (λ c. search needs)
     (λ c. search needs)

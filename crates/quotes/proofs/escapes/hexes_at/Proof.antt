@@ -10,27 +10,27 @@ use Rattle.quotes.proofs.Backslashes.{room, room-next, room-le, hexes-c
 use Rattle.quotes.proofs.escapes.hexes_at.Statement.{statement}
 use Rattle.quotes.proofs.escapes.hexes_at.Tie as tie
 
-abbrev Inv-loop : tie.InvT-loop
-Inv-loop text at end v₀ i₀ left₀ v i left =
+abbrev Inv : tie.InvT-loop
+Inv text at end v₀ i₀ left₀ v i left =
     (i ≤ end) × (left ≤ 4) × (v < room left) × (hexes left v (part text i (end - i)) i ≡ hexes 4 0 (part text at (end - at)) at)
 
-abbrev μ-loop : tie.MeasureT-loop
-μ-loop text at end v₀ i₀ left₀ v i left = left
+abbrev μ : tie.MeasureT-loop
+μ text at end v₀ i₀ left₀ v i left = left
 
 -- The places: where the function begins, and where a turn does.
-abbrev start-of : tie.In-loop Inv-loop μ-loop → tie.Start Inv-loop μ-loop
+abbrev start-of : tie.In-loop Inv μ → tie.Start Inv μ
 start-of c = c .before .before .before
 
-abbrev turn-of : tie.After-hex Inv-loop μ-loop → tie.In-loop Inv-loop μ-loop
+abbrev turn-of : tie.After-hex Inv μ → tie.In-loop Inv μ
 turn-of c = c .before .before .before
 
-returns : tie.Need-returns Inv-loop μ-loop
+returns : tie.Need-returns Inv μ
 returns c =
     let l = c .before .before .loop in
     let a = start-of (c .before) .args in
     sym (hexes-cut (a .text .now) (l .i) (a .end) (l .left) (l .v) (omega arith) (omega arith)) ∙ l .inv .3
 
-returns-2 : tie.Need-returns-2 Inv-loop μ-loop
+returns-2 : tie.Need-returns-2 Inv μ
 returns-2 c =
     let turn = turn-of (c .before) in
     let l = turn .before .loop in
@@ -38,10 +38,10 @@ returns-2 c =
     sym (hexes-stuck (a .text .now) (l .i) (a .end) (l .left) (l .v) (omega arith) (omega arith) (omega arith) (omega (arith, c .before .hex .ensures))) ∙ l .inv .3
 
 -- the number so far leaves room for a digit
-fits : (c : tie.After-hex Inv-loop μ-loop) → turn-of c .before .loop .v < 65536
+fits : (c : tie.After-hex Inv μ) → turn-of c .before .loop .v < 65536
 fits c = let l = turn-of c .before .loop in omega (arith, room-le (l .left), l .inv .2)
 
-loop-again : tie.Need-loop-again Inv-loop μ-loop
+loop-again : tie.Need-loop-again Inv μ
 loop-again c =
     let turn = turn-of (c .before) in
     let l = turn .before .loop in
@@ -53,8 +53,8 @@ pub hexes-at-spec : {M : Type 1} → statement M
 hexes-at-spec =
     tie.close
     (tie.spec
-    Inv-loop
-    μ-loop
+    Inv
+    μ
     (λ c. (omega arith, omega arith, omega arith, refl))  -- loop-holds
     returns
     (λ c. omega arith)  -- shared-slice-read-hex
