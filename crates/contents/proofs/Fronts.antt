@@ -2,9 +2,9 @@
 -- Assumes nothing.
 use Prim.Native.Nat.{ℕ, _+_, _-_, _≤_, _<_}
 use mathlib.Core.Path.{_≡_, refl, sym, ap, _∙_}
-use mathlib.Core.Bool.{Bool, true, false}
+use mathlib.Core.Bool.{Bool, true, false, _&&_}
 use mathlib.Core.List.{List}
-use borrow.Author.Tests.{eq-eqb, ne-eqb}
+use lib.Dec.{eqb}
 use lib.ListN.{length, getD, drop, take}
 use Rattle.form.specs.Spans.{part}
 use Rattle.form.specs.Decoding.{utf8Of}
@@ -24,14 +24,12 @@ pub written-told : (t : List ℕ) (i e : ℕ) (r v : Utf8Front) → sequenceOf r
 written-told t i e r v p d = ap written (sym (ap sequenceOf d) ∙ p ∙ ap utf8Of (part-front t i e))
 
 module _ (t : List ℕ) (i e : ℕ) (h : i < e) (k : e ≤ length t) where
-  pub front-bare : (q : Bool) → q ≡ false → written (utf8Of (part t i (e - i))) ≡ frontOf q (part t i (e - i)) i
+  -- a backslash within quotes
+  pub front-escape : (q : Bool) → (q && eqb (getD t i 0) 92) ≡ true → escaped (escapeOf (part t (i + 1) (e - (i + 1))) i) i ≡ frontOf q (part t i (e - i)) i
   unfolding frontOf
-  front-bare q z = rw (z, part-first t i e h k) refl
+  front-escape q z = rw (part-first t i e h k, z) refl
 
-  pub front-escape : (q : Bool) → q ≡ true → getD t i 0 ≡ 92 → escaped (escapeOf (part t (i + 1) (e - (i + 1))) i) i ≡ frontOf q (part t i (e - i)) i
+  -- anything else
+  pub front-other : (q : Bool) → (q && eqb (getD t i 0) 92) ≡ false → written (utf8Of (part t i (e - i))) ≡ frontOf q (part t i (e - i)) i
   unfolding frontOf
-  front-escape q z b = rw (z, part-first t i e h k, eq-eqb (getD t i 0) 92 b) refl
-
-  pub front-other : (q : Bool) → q ≡ true → (getD t i 0 ≡ 92 → ⊥) → written (utf8Of (part t i (e - i))) ≡ frontOf q (part t i (e - i)) i
-  unfolding frontOf
-  front-other q z b = rw (z, part-first t i e h k, ne-eqb (getD t i 0) 92 b) refl
+  front-other q z = rw (part-first t i e h k, z) refl

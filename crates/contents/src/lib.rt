@@ -4,7 +4,9 @@ use quotes::escapes::Escape;
 use quotes::escapes::escape_at;
 use texts::Text;
 ghost use mathlib.Core.Path.{_≡_};
+ghost use mathlib.Core.Bool.{_&&_};
 ghost use Prim.Native.Nat.{_+_, _-_, _≤_, _<_};
+ghost use lib.Dec.{eqb};
 ghost use lib.ListN.{length};
 ghost use Rattle.form.specs.Spans.{part, over};
 ghost use Rattle.form.specs.Strings.{scalarBytes};
@@ -55,15 +57,22 @@ fn written_at(text: &[u8], at: usize, end: usize) -> Decoded
     }
 }
 
-// What a content begins with at a place: within quotes a backslash begins an escape (rule 12).
+// Whether a byte begins an escape: a backslash within quotes (rule 12).
+fn opens_escape(quoted: bool, b: u8) -> bool
+    ensures { λ r. ⌜ r ≡ (quoted && eqb b 92) ⌝ }
+{
+    if quoted {
+        return b == 92;
+    }
+    false
+}
+
+// What a content begins with at a place: an escape or a character (rule 12).
 fn front_at(text: &[u8], at: usize, end: usize, quoted: bool) -> Decoded
     requires { ⌜ (at < end) × (end ≤ length (now text)) ⌝ }
     ensures { λ r. ⌜ decodedOut r ≡ frontOf quoted (part (now (text .entry)) at (end - at)) at ⌝ }
 {
-    if !quoted {
-        return written_at(text, at, end);
-    }
-    if text[at] == 92 {
+    if opens_escape(quoted, text[at]) {
         return escaped_at(text, at, end);
     }
     written_at(text, at, end)
