@@ -21,7 +21,7 @@ use Rattle.keys.specs.Keys.{sizeAt, nameAt, namesIn, below, Rising, Free
 -- ---- what stands in front
 
 -- a span that ends at or before `at`
-part-take : (l : List ℕ) (at a n : ℕ) → a + n ≤ at → part (take at l) a n ≡ part l a n
+pub part-take : (l : List ℕ) (at a n : ℕ) → a + n ≤ at → part (take at l) a n ≡ part l a n
 part-take l at zero n h = take-take n at l (omega arith)
 part-take l zero (suc a) n h = absurd (omega arith)
 part-take [] (suc at) (suc a) n h = refl

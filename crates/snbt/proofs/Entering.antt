@@ -23,6 +23,7 @@ use Rattle.snbt.specs.Turns.{inner, before, nameBefore, enteredBytes, Tu
 use Rattle.snbt.specs.Steps.{Grown, Closed, ParsedEntry, ParsedEntries, ParsedCompound}
 use Rattle.snbt.proofs.Reading.{joined, afterTurn, entries-turn, entries-known, compound-in, inner-is}
 use Rattle.snbt.proofs.Bytes.{_and_, laid, and-before, laid-before, laid-ended, compound-kind, compound-bytes}
+use Rattle.keys.proofs.Names.{names-none}
 
 -- the entries so far, then the rest
 abbrev afterEntries : Entries → Out Block → Out Block
@@ -41,10 +42,6 @@ after-entered a e (no n p) = refl
 nothing-laid : laid ended ≡ []
 unfolding laid
 nothing-laid = refl
-
-no-names : (o k : List ℕ) (base : ℕ) → namesIn o k base (base - base) ≡ []
-unfolding namesIn
-no-names o k base = let z : base - base ≡ 0 = omega arith in rw z refl
 
 -- Entries were read up to `place`, and the definition says of the rest what it says of the whole.
 pub record Entering (t o₀ k₀ : List ℕ) (b : Open) (start at left : ℕ) (o k : List ℕ) (place used top : ℕ) (last : Last) : Type 0 where
@@ -71,7 +68,7 @@ entering-start t o₀ k₀ b start at left h f l g z =
       turns = suc (length t);
       done = ended;
       enough = omega arith;
-      rest = after-ended (whole (namesIn o₀ k₀ (b .base) (b .base - b .base))) ∙ ap whole (no-names o₀ k₀ (b .base));
+      rest = after-ended (whole (namesIn o₀ k₀ (b .base) (b .base - b .base))) ∙ ap whole (names-none o₀ k₀ (b .base));
       used-is = omega (arith, ap length nothing-laid);
       wrote = sym (ap (over o₀ at) nothing-laid ∙ over-none o₀ at);
       kept = kept-none o₀ k₀ (b .base) at h f;

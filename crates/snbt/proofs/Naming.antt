@@ -1,12 +1,11 @@
 -- An entry of a compound: what `parse_entry` answers, from what its calls answered.
 -- Assumes nothing.
-use Prim.Native.Nat.{ℕ, zero, suc, _+_, _-_, _*_, _≤_, _<_}
+use Prim.Native.Nat.{ℕ, _+_, _-_, _*_, _≤_, _<_}
 use mathlib.Core.Path.{_≡_, refl, sym, ap, _∙_}
 use mathlib.Core.Bool.{_||_}
 use mathlib.Core.List.{List, [], _∷_, _++_}
 use native.Mathlib.Omega.{arith}
 use lib.ListN.{length, take, length-take}
-use lib.Seq.{take-take}
 use Rattle.form.specs.Answer.{Out, got, no, _>>=_, unmatchedBrace}
 use Rattle.form.specs.Spans.{over, part, same}
 use Rattle.form.proofs.Places.{part-over}
@@ -16,7 +15,7 @@ use Rattle.form.proofs.Table.{over-none, over-length, over-over}
 use Rattle.text_form.specs.Lexing.{value}
 use Rattle.text_form.specs.Text.{Then, goesOn, closes, Last, following, valueAt, known}
 use Rattle.keys.specs.Keys.{Kept, nameAt, namesIn, Named, Comes, Added}
-use Rattle.keys.proofs.Keys.{named-put, named-name}
+use Rattle.keys.proofs.Keys.{named-put, named-name, part-take}
 use Rattle.keys.proofs.Shifts.{take-less}
 use Rattle.keys.proofs.Runs.{kept-same, names-kept, free-same}
 use Rattle.placing.specs.Done.{Did}
@@ -30,13 +29,6 @@ use Rattle.snbt.specs.Steps.{Grown, ParsedEntry}
 use Rattle.snbt.proofs.Bytes.{name-size, entry-size, entry-over, take-over}
 
 -- ---- a name in the output
-
--- what stands in front of two lists alike
-part-take : (l : List ℕ) (at a n : ℕ) → a + n ≤ at → part (take at l) a n ≡ part l a n
-part-take l at zero n h = take-take n at l (omega arith)
-part-take l zero (suc a) n h = absurd (omega arith)
-part-take [] (suc at) (suc a) n h = refl
-part-take (x ∷ l) (suc at) (suc a) n h = part-take l at a n (omega arith)
 
 -- a name behind a byte and before other bytes stands there with its length
 module _ (o : List ℕ) (at kind : ℕ) (s ps : List ℕ) (h : length s < 65536) (f : at + 3 + length s + length ps ≤ length o) where
