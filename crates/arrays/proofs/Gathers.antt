@@ -16,7 +16,7 @@ use Rattle.form.specs.Tree.{kindOf}
 use Rattle.form.specs.Layout.{payload, intBytes, intsBytes, arrayBytes}
 use Rattle.form.proofs.Digits.{digits-length}
 use Rattle.form.proofs.Table.{over-none, over-length, over-over, over-before}
-use Rattle.text_form.specs.Text.{Ints, Last, atStart, afterComma, arrayTag, intsBy, arrayAt}
+use Rattle.text_form.specs.Text.{Ints, Last, otherwise, afterComma, arrayTag, intsBy, arrayAt}
 use Rattle.arrays.specs.declared.elements.ElementTurn.the-variants.{Comma, Element, End}
 use Rattle.placing.specs.Done.{Did}
 use Rattle.placing.specs.Done.{Wide, bytes, ints, longs}
@@ -65,7 +65,7 @@ module _ (t o : List ℕ) (w brace start at : ℕ) where
   array-full h f = let g : leb (at + 4) (length o) ≡ false = sym h ∙ f in rw g refl
 
   -- Before the first turn.
-  pub gather-start : start ≤ length t → at + 4 ≤ length o → Gathering t o w brace start at atStart start (at + 4) 0 o
+  pub gather-start : start ≤ length t → at + 4 ≤ length o → Gathering t o w brace start at otherwise start (at + 4) 0 o
   gather-start h l =
       let z : length (intsBytes w []) ≡ 0 = ap length (ints-none w) in
       record {
@@ -74,7 +74,7 @@ module _ (t o : List ℕ) (w brace start at : ℕ) where
         enough = omega arith;
         from = omega arith;
         within = h;
-        rest = behind-none (intsBy t (length o) (suc (length t)) w brace atStart start (at + 4));
+        rest = behind-none (intsBy t (length o) (suc (length t)) w brace otherwise start (at + 4));
         counted = refl;
         few = omega arith;
         used-is = omega (arith, z);
@@ -93,7 +93,7 @@ module _ {t o : List ℕ} {w brace start at : ℕ} {last : Last} {place used cou
 
   -- What one turn makes of the rest.
   turned : {n : ℕ} (after : ℕ → ℕ → Out Ints) → OneTurn t place n (λ f. intsBy t (length o′) f w brace last place used) (after (length o′))
-      → (_>>=_ {B = Ints} (after (length o) (g .turns - 1)) (behindAll (g .done))) ≡ intsBy t (length o) (suc (length t)) w brace atStart start (at + 4)
+      → (_>>=_ {B = Ints} (after (length o) (g .turns - 1)) (behindAll (g .done))) ≡ intsBy t (length o) (suc (length t)) w brace otherwise start (at + 4)
   turned {n} after x =
       let f = g .turns - 1 in
       let s : intsBy t (length o) (suc f) w brace last place used ≡ after (length o) f =
@@ -120,17 +120,17 @@ module _ {t o : List ℕ} {w brace start at : ℕ} {last : Last} {place used cou
       }
 
   -- An element.
-  pub gather-element : Wide w → {n : ℕ} {o″ : List ℕ} → TurnIs t w brace last place used o′ (Element n) o″ → Gathering t o w brace start at atStart n (used + w) (count + 1) o″
+  pub gather-element : Wide w → {n : ℕ} {o″ : List ℕ} → TurnIs t w brace last place used o′ (Element n) o″ → Gathering t o w brace start at otherwise n (used + w) (count + 1) o″
   gather-element k {n} (z, x, h, y) =
       let on = x .on in
-      let more = intsBy t (length o) (g .turns - 1) w brace atStart n (used + w) in
+      let more = intsBy t (length o) (g .turns - 1) w brace otherwise n (used + w) in
       record {
         turns = g .turns - 1;
         done = g .done ++ (z ∷ []);
         enough = omega (arith, g .enough, g .within, on);
         from = omega (arith, g .from, on);
         within = x .within;
-        rest = behind-more more (g .done) z ∙ turned (λ m f. intsBy t m f w brace atStart n (used + w) >>= behindAll (z ∷ [])) x;
+        rest = behind-more more (g .done) z ∙ turned (λ m f. intsBy t m f w brace otherwise n (used + w) >>= behindAll (z ∷ [])) x;
         counted = omega (arith, g .counted, length-append (g .done) (z ∷ []));
         few = omega (arith, g .few, wide-range k .0);
         used-is = omega (arith, g .used-is, ints-longer w (g .done) z);
@@ -142,7 +142,7 @@ module _ {t o : List ℕ} {w brace start at : ℕ} {last : Last} {place used cou
       }
 
   -- What the whole array is, where the definition ends it or refuses here.
-  ended-is : {x : Out Ints} → intsBy t (length o) (suc (length t)) w brace atStart start (at + 4) ≡ x
+  ended-is : {x : Out Ints} → intsBy t (length o) (suc (length t)) w brace otherwise start (at + 4) ≡ x
       → arrayAt t (length o) w brace start at ≡ (x >>= (λ (r : Ints). got (record { tag = arrayTag w (r .values); next = r .next; used = r .used })))
   unfolding arrayAt
   ended-is e = rw (le-leb (at + 4) (length o) (omega (arith, g .used-is, g .fits)), e) refl
@@ -161,7 +161,7 @@ module _ {t o : List ℕ} {w brace start at : ℕ} {last : Last} {place used cou
   gather-end k {n} {kind} {o₁} {o₂} x κ y =
       let done = g .done in
       let v : Out Ints = got (record { values = done; next = n; used = used }) in
-      let whole : intsBy t (length o) (suc (length t)) w brace atStart start (at + 4) ≡ v =
+      let whole : intsBy t (length o) (suc (length t)) w brace otherwise start (at + 4) ≡ v =
       sym (turned (λ m f. got (record { values = []; next = n; used = used })) (x .0))
       ∙ ap (λ (l : List ℤ). got (record { values = l; next = n; used = used })) (append-nil done) in
       let p : payload (arrayTag w done) ≡ bytesOf 4 count ++ intsBytes w done = array-payload k done ∙ ap (λ (m : ℕ). bytesOf 4 m ++ intsBytes w done) (sym (g .counted)) in

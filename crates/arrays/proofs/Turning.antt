@@ -16,7 +16,7 @@ use Rattle.form.proofs.Answer.{got-no}
 use Rattle.text_form.specs.Numbers.{Number, short, float, double}
 use Rattle.text_form.specs.Lexing.{Token, numeral, TokenData, found, ended, later, tokenAt}
 use Rattle.text_form.proofs.Moves.{token-moves}
-use Rattle.text_form.specs.Text.{Ints, Last, atStart, afterComma, noComma, signOf, inRange, arrayWidth, wholeIn, elementInt, due, intsBy}
+use Rattle.text_form.specs.Text.{Ints, Last, otherwise, afterComma, noComma, signOf, inRange, arrayWidth, wholeIn, elementInt, due, intsBy}
 use Rattle.tokens.specs.declared.Index.{Index}
 use Rattle.tokens.specs.declared.Token as code
 use Rattle.tokens.specs.declared.Token.the-variants.{OpenCurly, ClosedCurly, OpenSquare, ClosedSquare, Comma as CommaSign, Colon, Semicolon, Str, Byte, Short, Int, Long, Float, Double}
@@ -121,7 +121,7 @@ module _ (t : List ℕ) (room w brace : ℕ) (last : Last) (p u : ℕ) where
     step true b f = intsBy t room f w brace (afterComma (d .index)) n u
     step false true f = noComma last >> got (record { values = []; next = n; used = u })
     step false false f = elementInt w (d .token) (d .index)
-        >>= (λ (z : ℤ). guard (leb (u + w) room) outputFull (d .index) >> (intsBy t room f w brace atStart n (u + w) >>= (λ (r : Ints). got (record { values = z ∷ r .values; next = r .next; used = r .used }))))
+        >>= (λ (z : ℤ). guard (leb (u + w) room) outputFull (d .index) >> (intsBy t room f w brace otherwise n (u + w) >>= (λ (r : Ints). got (record { values = z ∷ r .values; next = r .next; used = r .used }))))
 
     stepped : (f : ℕ) → intsBy t room (suc f) w brace last p u ≡ step (eqb (signOf (d .token)) 44) (eqb (signOf (d .token)) 93) f
     unfolding intsBy due
@@ -132,7 +132,7 @@ module _ (t : List ℕ) (room w brace : ℕ) (last : Last) (p u : ℕ) where
           | false ↦ elim y as (λ (b : Bool). Out Ints) [
             | true ↦ noComma last >> got (record { values = []; next = n; used = u })
             | false ↦ elementInt w (d .token) (d .index)
-                >>= (λ (z : ℤ). guard (leb (u + w) room) outputFull (d .index) >> (intsBy t room f w brace atStart n (u + w) >>= (λ (r : Ints). got (record { values = z ∷ r .values; next = r .next; used = r .used }))))
+                >>= (λ (z : ℤ). guard (leb (u + w) room) outputFull (d .index) >> (intsBy t room f w brace otherwise n (u + w) >>= (λ (r : Ints). got (record { values = z ∷ r .values; next = r .next; used = r .used }))))
           ]
         ] ≡ step x y f
         go true y = refl
@@ -156,19 +156,19 @@ module _ (t : List ℕ) (room w brace : ℕ) (last : Last) (p u : ℕ) where
       at-element : (f : ℕ) → intsBy t room (suc f) w brace last p u ≡ step false false f
       at-element f = stepped f ∙ rw (ne-eqb (signOf (d .token)) 44 c, ne-eqb (signOf (d .token)) 93 b) refl
 
-      element-next : (z : ℤ) → elementFits room w d u ≡ got z → (f : ℕ) → intsBy t room (suc f) w brace last p u ≡ (intsBy t room f w brace atStart n (u + w) >>= behindAll (z ∷ []))
+      element-next : (z : ℤ) → elementFits room w d u ≡ got z → (f : ℕ) → intsBy t room (suc f) w brace last p u ≡ (intsBy t room f w brace otherwise n (u + w) >>= behindAll (z ∷ []))
       element-next z g f = at-element f ∙ chained (elementInt w (d .token) (d .index)) (leb (u + w) room) g
         where
           chained : (x : Out ℤ) (r : Bool) → (x >>= (λ z. guard r outputFull (d .index) >> got z)) ≡ got z
-              → (x >>= (λ (z : ℤ). guard r outputFull (d .index) >> (intsBy t room f w brace atStart n (u + w) >>= (λ (k : Ints). got (record { values = z ∷ k .values; next = k .next; used = k .used })))))
-              ≡ (intsBy t room f w brace atStart n (u + w) >>= behindAll (z ∷ []))
-          chained (got y) true h = ap (λ (v : ℤ). intsBy t room f w brace atStart n (u + w) >>= behindAll (v ∷ [])) (got-same h)
+              → (x >>= (λ (z : ℤ). guard r outputFull (d .index) >> (intsBy t room f w brace otherwise n (u + w) >>= (λ (k : Ints). got (record { values = z ∷ k .values; next = k .next; used = k .used })))))
+              ≡ (intsBy t room f w brace otherwise n (u + w) >>= behindAll (z ∷ []))
+          chained (got y) true h = ap (λ (v : ℤ). intsBy t room f w brace otherwise n (u + w) >>= behindAll (v ∷ [])) (got-same h)
           chained (got y) false h = absurd (got-no (sym h))
           chained (no a k) r h = absurd (got-no (sym h))
 
       -- A refusal of it.
       pub turn-barred : (a k : ℕ) → elementFits room w d u ≡ no a k → (f : ℕ) → intsBy t room (suc f) w brace last p u ≡ no a k
-      turn-barred a k g f = at-element f ∙ chained (elementInt w (d .token) (d .index)) (leb (u + w) room) (λ (z : ℤ). intsBy t room f w brace atStart n (u + w) >>= behindAll (z ∷ [])) g
+      turn-barred a k g f = at-element f ∙ chained (elementInt w (d .token) (d .index)) (leb (u + w) room) (λ (z : ℤ). intsBy t room f w brace otherwise n (u + w) >>= behindAll (z ∷ [])) g
         where
           chained : (x : Out ℤ) (r : Bool) (rest : ℤ → Out Ints) → (x >>= (λ z. guard r outputFull (d .index) >> got z)) ≡ no a k
               → (x >>= (λ (z : ℤ). guard r outputFull (d .index) >> rest z)) ≡ no a k

@@ -12,7 +12,7 @@ use Rattle.form.specs.Numbers.{FitsIn}
 use Rattle.form.specs.Spans.{over}
 use Rattle.form.specs.Layout.{intBytes, intsBytes}
 use Rattle.text_form.specs.Lexing.{Token, TokenData}
-use Rattle.text_form.specs.Text.{Ints, Last, atStart, afterComma, noComma, elementInt, inRange, intsBy}
+use Rattle.text_form.specs.Text.{Ints, Last, otherwise, afterComma, noComma, elementInt, inRange, intsBy}
 use Rattle.arrays.specs.declared.elements.Whole.{Whole}
 use Rattle.arrays.specs.declared.elements.Whole.the-variants.{Is, Not}
 use Rattle.arrays.specs.declared.elements.ElementTurn.{ElementTurn}
@@ -64,7 +64,7 @@ abbrev pub TurnIs : List ℕ → ℕ → ℕ → Last → ℕ → ℕ → List �
 TurnIs t w brace last p u o (Comma i n) o′ =
     OneTurn t p n (λ f. intsBy t (length o) f w brace last p u) (λ f. intsBy t (length o) f w brace (afterComma (i .0)) n u) × (o′ ≡ o)
 TurnIs t w brace last p u o (Element n) o′ =
-    (z : ℤ) × OneTurn t p n (λ f. intsBy t (length o) f w brace last p u) (λ f. intsBy t (length o) f w brace atStart n (u + w) >>= behindAll (z ∷ []))
+    (z : ℤ) × OneTurn t p n (λ f. intsBy t (length o) f w brace last p u) (λ f. intsBy t (length o) f w brace otherwise n (u + w) >>= behindAll (z ∷ []))
     × (u + w ≤ length o) × (o′ ≡ over o u (intBytes w z))
 TurnIs t w brace last p u o (End n) o′ =
     OneTurn t p n (λ f. intsBy t (length o) f w brace last p u) (λ f. got (record { values = []; next = n; used = u })) × (o′ ≡ o)
@@ -78,7 +78,7 @@ pub record Gathering (t o : List ℕ) (w brace start at : ℕ) (last : Last) (pl
   pub enough : length t < place + turns
   pub from : start ≤ place
   pub within : place ≤ length t
-  pub rest : (intsBy t (length o) turns w brace last place used >>= behindAll done) ≡ intsBy t (length o) (suc (length t)) w brace atStart start (at + 4)
+  pub rest : (intsBy t (length o) turns w brace last place used >>= behindAll done) ≡ intsBy t (length o) (suc (length t)) w brace otherwise start (at + 4)
   pub counted : count ≡ length done
   pub few : count ≤ used
   pub used-is : used ≡ at + 4 + length (intsBytes w done)

@@ -89,7 +89,7 @@ fn closed(last: Last, index: Index) -> ElementTurn
     ensures { λ r. ⌜ ClosedIs (lastIs last) (index .0 + 1) r ⌝ }
 {
     match last {
-        Last::Start => ElementTurn::End { next: index.0 + 1 },
+        Last::Other => ElementTurn::End { next: index.0 + 1 },
         Last::Comma(comma) => ElementTurn::No {
             number: form::TRAILING_COMMA,
             place: comma.0,

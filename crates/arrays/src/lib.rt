@@ -36,7 +36,7 @@ fn put_array(text: &[u8], width: u8, brace: Index, start: usize, out: &mut [u8],
     let wide = width as usize;
     let mut place = start;
     let mut used = at + 4;
-    let mut last = Last::Start;
+    let mut last = Last::Other;
     let mut count: usize = 0;
     loop {
         match elements::element(text, wide, brace, last, place, out, used) {
@@ -45,7 +45,7 @@ fn put_array(text: &[u8], width: u8, brace: Index, start: usize, out: &mut [u8],
                 place = next;
             }
             ElementTurn::Element { next } => {
-                last = Last::Start;
+                last = Last::Other;
                 place = next;
                 used += wide;
                 count += 1;

@@ -21,7 +21,7 @@ use Rattle.form.proofs.Answer.{guard-got}
 use Rattle.form.proofs.Digits.{digits-length}
 use Rattle.text_form.specs.Numbers.{Number, byte, short, int, long, float, double}
 use Rattle.text_form.specs.Lexing.{among, Stops, default, key, value, first, later, Token, openCurly, closedCurly, openSquare, closedSquare, comma, colon, semicolon, string, numeral, TokenData, Lexed, found, ended, tokenAt, contentOf, judgedText}
-use Rattle.text_form.specs.Text.{Value, Row, Ints, Block, Next, Then, goesOn, closes, Last, atStart, afterComma, noComma, Reads, signOf, orElse, inRange, ranged, numberTag, arrayWidth, wholeIn, elementInt, arrayTag, known, fits, due, following, stringOf, scalarTag, scalarValue, intsBy, arrayAt, elementsBy, listFrom, listAt, letterWidth, Opened, anArray, aList, withSemicolon, openedBy, squareAt, keyOf, colonAt, closeAt, behind, entryAt, entriesBy, compoundAt, valueBy, valueAt, parsed}
+use Rattle.text_form.specs.Text.{Value, Row, Ints, Block, Next, Then, goesOn, closes, Last, otherwise, afterComma, noComma, Reads, signOf, orElse, inRange, ranged, numberTag, arrayWidth, wholeIn, elementInt, arrayTag, known, fits, due, following, stringOf, scalarTag, scalarValue, intsBy, arrayAt, elementsBy, listFrom, listAt, letterWidth, Opened, anArray, aList, withSemicolon, openedBy, squareAt, keyOf, colonAt, closeAt, behind, entryAt, entriesBy, compoundAt, valueBy, valueAt, parsed}
 use Rattle.text_form.proofs.Gives.{Gives, gives-got, gives-no, gives-bind, gives-guard, gives-then, gives-pick, gives-elim, gives-also, gives-all}
 use Rattle.text_form.proofs.Contents.{content-formed}
 use Rattle.text_form.proofs.Carried.{double-bits, single-bits}
@@ -237,7 +237,7 @@ module _ (t : List ℕ) (room : ℕ) where
   -- no comma stands last
   gives-none : {A : Type 0} {P : A → Type 0} (last : Last) {x : Out A} → (Unit {0} → Gives parseNumbers P x) → Gives parseNumbers P (noComma last >> x)
   unfolding among
-  gives-none atStart f = f tt
+  gives-none otherwise f = f tt
   gives-none (afterComma p) f = gives-no refl
 
   -- ---- arrays
@@ -254,7 +254,7 @@ module _ (t : List ℕ) (room : ℕ) where
       (λ _. gives-none last (λ _. gives-got (record { ahead = (omega (arith, h .1), h .2); fit = tt; few = omega arith; used = omega arith; fits = r })))
       (λ _. gives-bind (elementInt w (x .td .token) (x .td .index)) _ (element-fits w (x .td .token) (x .td .index))
       (λ z k. gives-guard (leb (u + w) room) _ _ _ refl
-      (λ e. gives-bind (intsBy t room f w brace atStart (x .next) (u + w)) _ (ints-fine f w brace atStart (x .next) (u + w) (h .2) (omega (arith, h .1)) (leb-true (u + w) room e))
+      (λ e. gives-bind (intsBy t room f w brace otherwise (x .next) (u + w)) _ (ints-fine f w brace otherwise (x .next) (u + w) (h .2) (omega (arith, h .1)) (leb-true (u + w) room e))
       (λ i j. gives-got (record {
         ahead = (omega (arith, h .1, j .ahead .0), j .ahead .1);
         fit = (k, j .fit);
@@ -268,7 +268,7 @@ module _ (t : List ℕ) (room : ℕ) where
     unfolding arrayAt among
     array-fine left w brace p u h l =
         gives-guard (leb (u + 4) room) _ _ _ refl
-        (λ e. gives-bind (intsBy t room (suc (length t)) w brace atStart p (u + 4)) _ (ints-fine (suc (length t)) w brace atStart p (u + 4) l (omega arith) (leb-true (u + 4) room e))
+        (λ e. gives-bind (intsBy t room (suc (length t)) w brace otherwise p (u + 4)) _ (ints-fine (suc (length t)) w brace otherwise p (u + 4) l (omega arith) (leb-true (u + 4) room e))
         (λ r j. let a = array-leaf w h (r .values) (j .fit, omega (arith, j .few)) in
         gives-got (record {
           ahead = j .ahead;
@@ -486,7 +486,7 @@ module _ (t : List ℕ) (room : ℕ) where
       compound-fine brace p u l =
           gives-guard (ltb 0 left) _ _ _ refl
           (λ o. gives-guard (leb u room) _ _ _ refl
-          (λ _. gives-also (entriesBy t room (suc (length t)) val brace [] atStart p u) (entries-fine (suc (length t)) brace [] atStart p u l (omega arith)) (λ b _ k. (ltb-true 0 left o, k))))
+          (λ _. gives-also (entriesBy t room (suc (length t)) val brace [] otherwise p u) (entries-fine (suc (length t)) brace [] otherwise p u l (omega arith)) (λ b _ k. (ltb-true 0 left o, k))))
 
       -- ---- values
 

@@ -11,7 +11,7 @@ use Rattle.form.specs.Tree as tree
 use Rattle.form.specs.Tree.{Entries, ended}
 use Rattle.form.specs.Layout.{payload}
 use Rattle.form.proofs.Table.{over-none, over-length, over-over}
-use Rattle.text_form.specs.Text.{Block, Then, goesOn, closes, Last, atStart, afterComma, Reads, behind, closeAt, entriesBy, valueAt}
+use Rattle.text_form.specs.Text.{Block, Then, goesOn, closes, Last, otherwise, afterComma, Reads, behind, closeAt, entriesBy, valueAt}
 use Rattle.keys.specs.Keys.{Kept, namesIn}
 use Rattle.keys.proofs.Runs.{kept-none}
 use Rattle.placing.specs.declared.Done.{Done}
@@ -49,7 +49,7 @@ pub record Entering (t o₀ k₀ : List ℕ) (b : Open) (start at left : ℕ) (o
   pub done : Entries
   pub enough : length t < place + turns
   pub rest : afterEntries done (entriesBy t (length o₀) turns (valueAt t (length o₀) left) (b .brace .0) (namesIn o k (b .base) (top - b .base)) last place used)
-      ≡ entriesBy t (length o₀) (suc (length t)) (valueAt t (length o₀) left) (b .brace .0) [] atStart start at
+      ≡ entriesBy t (length o₀) (suc (length t)) (valueAt t (length o₀) left) (b .brace .0) [] otherwise start at
   pub used-is : used ≡ at + length (laid done)
   pub wrote : o ≡ over o₀ at (laid done)
   pub kept : Kept o k (b .base) top used
@@ -61,9 +61,9 @@ pub record Entering (t o₀ k₀ : List ℕ) (b : Open) (start at left : ℕ) (o
   pub tops : 3 * top ≤ place
 
 pub entering-start : (t o₀ k₀ : List ℕ) (b : Open) (start at left : ℕ) → at ≤ length o₀ → b .base ≤ length k₀ → start ≤ length t → at ≤ 16 * start → 3 * b .base ≤ start
-    → Entering t o₀ k₀ b start at left o₀ k₀ start at (b .base) atStart
+    → Entering t o₀ k₀ b start at left o₀ k₀ start at (b .base) otherwise
 entering-start t o₀ k₀ b start at left h f l g z =
-    let whole : List (List ℕ) → Out Block = λ ns. entriesBy t (length o₀) (suc (length t)) (valueAt t (length o₀) left) (b .brace .0) ns atStart start at in
+    let whole : List (List ℕ) → Out Block = λ ns. entriesBy t (length o₀) (suc (length t)) (valueAt t (length o₀) left) (b .brace .0) ns otherwise start at in
     record {
       turns = suc (length t);
       done = ended;
@@ -85,7 +85,7 @@ module _ {t o₀ k₀ : List ℕ} {b : Open} {start at left : ℕ} {o k : List �
   val = valueAt t (length o₀) left
 
   abbrev wholeBlock : Out Block
-  wholeBlock = entriesBy t (length o₀) (suc (length t)) val (b .brace .0) [] atStart start at
+  wholeBlock = entriesBy t (length o₀) (suc (length t)) val (b .brace .0) [] otherwise start at
 
   abbrev names : List (List ℕ)
   names = namesIn o k (b .base) (top - b .base)

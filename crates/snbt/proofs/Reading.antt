@@ -11,7 +11,7 @@ use lib.ListN.{length}
 use Rattle.form.specs.Answer.{Out, got, no, _>>=_, _>>_, tooDeep, outputFull, unmatchedBrace}
 use Rattle.form.specs.Tree as tree
 use Rattle.text_form.specs.Lexing.{key, TokenData}
-use Rattle.text_form.specs.Text.{Value, Block, Next, Then, goesOn, closes, Last, atStart, afterComma, noComma, Reads}
+use Rattle.text_form.specs.Text.{Value, Block, Next, Then, goesOn, closes, Last, otherwise, afterComma, noComma, Reads}
 use Rattle.text_form.specs.Text.{signOf, due, following, alike, known, keyOf, closeAt, behind, entryAt, entriesBy, squareAt, compoundAt, valueBy, valueAt, scalarValue}
 use Rattle.snbt_due.proofs.Reading.{bind-cong}
 use Rattle.snbt_entries.specs.Entries.{Entered, stops, enters, turnBy, entryTurn}
@@ -52,7 +52,7 @@ module _ (t : List ℕ) (room f : ℕ) (val : Reads) (brace : ℕ) (earlier : Li
     where
       ended-at : (x : Next) (s : Last) → (noComma s >> closeAt t room (x .td .index) (x .next) u)
           ≡ ((noComma s >> got (stops (x .td .index) (x .next))) >>= afterTurn t room f val brace earlier u)
-      ended-at x atStart = same-block (closeAt t room (x .td .index) (x .next) u)
+      ended-at x otherwise = same-block (closeAt t room (x .td .index) (x .next) u)
       ended-at x (afterComma i) = refl
 
       followed : (s : List ℕ) (v : Value) (o : Out Then) → (o >>= goesBehind s v) ≡ ((o >>= (λ th. got (enters s v th))) >>= afterTurn t room f val brace earlier u)
@@ -139,7 +139,7 @@ module _ (t : List ℕ) (room left : ℕ) (val : Reads) (brace p u : ℕ) where
   unfolding compoundAt
   compound-full h k = rw (lt-ltb 0 left (omega arith), lt-leb u room k) refl
 
-  pub compound-in : (left ≡ 0 → ⊥) → u ≤ room → compoundAt t room left val brace p u ≡ entriesBy t room (suc (length t)) val brace [] atStart p u
+  pub compound-in : (left ≡ 0 → ⊥) → u ≤ room → compoundAt t room left val brace p u ≡ entriesBy t room (suc (length t)) val brace [] otherwise p u
   unfolding compoundAt
   compound-in h k = rw (lt-ltb 0 left (omega arith), le-leb u room k) refl
 

@@ -18,7 +18,7 @@ use Rattle.form.proofs.Digits.{digits-length}
 use Rattle.text_form.specs.Values.{toSingle}
 use Rattle.text_form.specs.Numbers.{Number, byte, short, int, long, float, double}
 use Rattle.text_form.specs.Lexing.{later, Token, openCurly, closedCurly, openSquare, closedSquare, comma, colon, semicolon, string, numeral, TokenData, Lexed, found, ended, tokenAt}
-use Rattle.text_form.specs.Text.{Value, Ints, Next, Last, atStart, afterComma, noComma, signOf, orElse, inRange, numberTag, elementInt, arrayTag}
+use Rattle.text_form.specs.Text.{Value, Ints, Next, Last, otherwise, afterComma, noComma, signOf, orElse, inRange, numberTag, elementInt, arrayTag}
 use Rattle.text_form.specs.Text.{fits, due, stringOf, scalarTag, alike, scalarValue, intsBy, arrayAt}
 use Rattle.text_form.proofs.Moves.{Holds, holds-bind, from-got, token-moves}
 use Rattle.snbt_due.specs.Due.{Met}
@@ -94,7 +94,7 @@ spent-later p q u (got r) h z = (omega (arith, z .0), omega (arith, z .1))
 spent-later p q u (no a b) h z = tt
 
 comma-any : {A : Type 0} (P : A → Type 0) (s : Last) (o : Out A) → Holds P o → Holds P (noComma s >> o)
-comma-any P atStart o h = h
+comma-any P otherwise o h = h
 comma-any P (afterComma i) o h = tt
 
 module _ (t : List ℕ) (room w brace : ℕ) (wide : w ≤ 8) where
@@ -119,13 +119,13 @@ module _ (t : List ℕ) (room w brace : ℕ) (wide : w ≤ 8) where
     theEnd = noComma last >> got (record { values = []; next = x .next; used = u })
 
     abbrev theInt : ℤ → Out Ints
-    theInt z = fits t room (u + w) (x .td .index) >> (intsBy t room f w brace atStart (x .next) (u + w) >>= more z)
+    theInt z = fits t room (u + w) (x .td .index) >> (intsBy t room f w brace otherwise (x .next) (u + w) >>= more z)
 
     by-int : (z : ℤ) → Holds (Spent p u) (theInt z)
     by-int z =
-        guard-any (Spent p u) (leb (u + w) room) outputFull (x .td .index) (intsBy t room f w brace atStart (x .next) (u + w) >>= more z)
-        (holds-bind (Spent p u) (intsBy t room f w brace atStart (x .next) (u + w)) (more z)
-        (λ r g. let y = from-got (Spent (x .next) (u + w)) _ r (rec atStart (u + w)) g in (omega (arith, y .0), omega (arith, y .1))))
+        guard-any (Spent p u) (leb (u + w) room) outputFull (x .td .index) (intsBy t room f w brace otherwise (x .next) (u + w) >>= more z)
+        (holds-bind (Spent p u) (intsBy t room f w brace otherwise (x .next) (u + w)) (more z)
+        (λ r g. let y = from-got (Spent (x .next) (u + w)) _ r (rec otherwise (u + w)) g in (omega (arith, y .0), omega (arith, y .1))))
 
     by-end : (b : Bool) → Holds (Spent p u) (elim b [
       | true ↦ theEnd
@@ -162,9 +162,9 @@ module _ (t : List ℕ) (room w brace : ℕ) (wide : w ≤ 8) where
   array-holds : (p u : ℕ) → p ≤ length t → Holds (ArrayWent p u) (arrayAt t room w brace p u)
   unfolding arrayAt
   array-holds p u h =
-      guard-any (ArrayWent p u) (leb (u + 4) room) outputFull brace (intsBy t room (suc (length t)) w brace atStart p (u + 4) >>= whole)
-      (holds-bind (ArrayWent p u) (intsBy t room (suc (length t)) w brace atStart p (u + 4)) whole
-      (λ r g. let y = from-got (Spent p (u + 4)) _ r (ints-holds (suc (length t)) atStart p (u + 4) h) g in omega (arith, y .1)))
+      guard-any (ArrayWent p u) (leb (u + 4) room) outputFull brace (intsBy t room (suc (length t)) w brace otherwise p (u + 4) >>= whole)
+      (holds-bind (ArrayWent p u) (intsBy t room (suc (length t)) w brace otherwise p (u + 4)) whole
+      (λ r g. let y = from-got (Spent p (u + 4)) _ r (ints-holds (suc (length t)) otherwise p (u + 4) h) g in omega (arith, y .1)))
 
   -- An array's bytes stay small.
   pub array-went : (p u : ℕ) → p ≤ length t → (v : Value) → arrayAt t room w brace p u ≡ got v → v .used + 8 * p ≤ u + 4 + 8 * v .next

@@ -8,7 +8,7 @@ use lib.Dec.{eqb}
 use lib.ListN.{length, take}
 use Rattle.form.specs.Answer.{Out, no, mixedList}
 use Rattle.text_form.specs.Lexing.{Stops}
-use Rattle.text_form.specs.Text.{Value, Row, Block, goesOn, closes, Last, atStart, elementsBy, squareAt, known, entriesBy, compoundAt, valueAt}
+use Rattle.text_form.specs.Text.{Value, Row, Block, goesOn, closes, Last, otherwise, elementsBy, squareAt, known, entriesBy, compoundAt, valueAt}
 use Rattle.placing.specs.declared.Done.{Done}
 use Rattle.placing.specs.declared.Done.the-variants.{To, No}
 use Rattle.snbt_due.specs.Due.{valueFrom}
@@ -80,7 +80,7 @@ ParsedCompound t o k brace p at top left r o′ k′ =
 -- The entries of an open compound.
 abbrev pub ParsedEntries : (t o k : List ℕ) (b : Open) (p at left : ℕ) → Done → (o′ k′ : List ℕ) → Type 0
 ParsedEntries t o k b p at left r o′ k′ =
-    ValueIs (blockValue (entriesBy t (length o) (suc (length t)) (valueAt t (length o) left) (b .brace .0) [] atStart p at)) t o k (b .base) at p r o′ k′
+    ValueIs (blockValue (entriesBy t (length o) (suc (length t)) (valueAt t (length o) left) (b .brace .0) [] otherwise p at)) t o k (b .base) at p r o′ k′
 
 -- One entry of it, or its end.
 abbrev pub ParsedEntry : (t o k : List ℕ) (b : Open) (last : Last) (p at top left : ℕ) → EntryTurn → (o′ k′ : List ℕ) → Type 0

@@ -224,7 +224,7 @@ fn parse_entries(
     let mut place = next;
     let mut used = at;
     let mut top = block.base;
-    let mut last = Last::Start;
+    let mut last = Last::Other;
     loop {
         match parse_entry(text, place, last, block, out, used, keys, top, buffer, left) {
             EntryTurn::No { number, place } => return Done::No { number, place },

@@ -136,7 +136,7 @@ fn ended(last: Last, index: Index, next: usize) -> Key
     ensures { λ r. ⌜ EndedIs (lastIs last) (index .0) next r ⌝ }
 {
     match last {
-        Last::Start => Key::End { index, next },
+        Last::Other => Key::End { index, next },
         Last::Comma(comma) => Key::No {
             number: form::TRAILING_COMMA,
             place: comma.0,

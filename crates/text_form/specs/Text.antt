@@ -58,12 +58,12 @@ pub data Then : Type 0 where
 
 -- What stands last in an array or a compound that is being read: a comma at a place; or else, nothing or an element.
 pub data Last : Type 0 where
-  atStart : Last
+  otherwise : Last
   afterComma : ℕ → Last
 
 -- 21 at the comma, where one stands last (rules 14 and 15).
 abbrev pub noComma : Last → Out (Unit {0})
-noComma atStart = got tt
+noComma otherwise = got tt
 noComma (afterComma p) = no trailingComma p
 
 -- How a value is read: by the kind that it must have (0 for any), its first token, the next place and the bytes used.
@@ -221,7 +221,7 @@ module _ (t : List ℕ) (room : ℕ) where
         | false ↦ do
           z ← elementInt w (x .td .token) (x .td .index)
           fits (u + w) (x .td .index)
-          r ← intsBy f w brace atStart (x .next) (u + w)
+          r ← intsBy f w brace otherwise (x .next) (u + w)
           got (record { values = z ∷ r .values; next = r .next; used = r .used })
       ]
     ]
@@ -230,7 +230,7 @@ module _ (t : List ℕ) (room : ℕ) where
   unfoldable pub arrayAt : ℕ → ℕ → ℕ → ℕ → Out Value
   arrayAt w brace p u = do
     fits (u + 4) brace
-    r ← intsBy (suc (length t)) w brace atStart p (u + 4)
+    r ← intsBy (suc (length t)) w brace otherwise p (u + 4)
     got (record { tag = arrayTag w (r .values); next = r .next; used = r .used })
 
   -- ---- lists (rules 14 and 15)
@@ -375,7 +375,7 @@ module _ (t : List ℕ) (room : ℕ) where
   compoundAt left val brace p u = do
     guard (ltb 0 left) tooDeep brace
     fits u brace
-    entriesBy (suc (length t)) val brace [] atStart p u
+    entriesBy (suc (length t)) val brace [] otherwise p u
 
   -- ---- values
 

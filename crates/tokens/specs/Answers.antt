@@ -10,7 +10,7 @@ use Rattle.tokens.specs.declared.TokenData.{TokenData}
 use Rattle.tokens.specs.declared.Lexed.{Lexed}
 use Rattle.tokens.specs.declared.Lexed.the-variants.{Found, Ended, Refused}
 use Rattle.tokens.specs.declared.Last.{Last}
-use Rattle.tokens.specs.declared.Last.the-variants.{Start, Comma as Behind}
+use Rattle.tokens.specs.declared.Last.the-variants.{Other, Comma as Behind}
 use Rattle.tokens.specs.declared.Stops.{Stops}
 use Rattle.tokens.specs.declared.Stops.the-variants.{Default, Key, Value, First, Later}
 
@@ -51,5 +51,5 @@ stopsIs Later = rule.later
 
 -- What stands last in an array or a compound.
 abbrev pub lastIs : Last → text.Last
-lastIs Start = text.atStart
+lastIs Other = text.otherwise
 lastIs (Behind i) = text.afterComma (i .0)

@@ -54,7 +54,7 @@ pub enum Stops {
 
 // What stands last in an array or a compound that is being read: a comma, by its index; or else, nothing or an element (rules 14 and 15).
 pub enum Last {
-    Start,
+    Other,
     Comma(Index),
 }
 
