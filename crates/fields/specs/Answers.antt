@@ -1,11 +1,11 @@
 -- What the answers of this crate mean: each of its enums as the answer of the definitions of rules 3 to 5.
 -- Assumes nothing.
-use Prim.Native.Nat.{ℕ, _+_, _-_, _≤_, _<_}
+use Prim.Native.Nat.{ℕ, _+_, _<_}
 use mathlib.Core.Path.{_≡_}
 use mathlib.Core.List.{List}
 use lib.ListN.{length, getD}
 use Rattle.form.specs.Answer.{Out, got, no, dataEnds}
-use Rattle.form.specs.Reading.{Span, Entry as EntryOf, end, named, ListHead as ListHeadOf, numberAt, stringAt, listHeadAt}
+use Rattle.form.specs.Reading.{Span, Entry as EntryOf, end, named, ListHead as ListHeadOf, numberAt, listHeadAt}
 use Rattle.fields.specs.declared.Num.{Num}
 use Rattle.fields.specs.declared.Part.{Part}
 use Rattle.fields.specs.declared.ListHead.{ListHead}
@@ -35,7 +35,3 @@ abbrev pub entryOut : Entry → Out EntryOf
 entryOut Entry.End = got end
 entryOut (Entry.Named k s l x) = got (named k (record { start = s; size = l; count = 0; next = x }))
 entryOut (Entry.No n p) = no n p
-
--- A place that is not 0 is that behind the string at `at`.
-abbrev pub Ends : List ℕ → ℕ → ℕ → Type 0
-Ends doc at r = (r ≡ 0 → ⊥) → (stringAt doc at ≡ got (record { start = at + 2; size = r - (at + 2); count = 0; next = r })) × (at + 2 ≤ r)

@@ -5,7 +5,7 @@ ghost use Prim.Native.Nat.{ℕ, _+_, _≤_, _<_, _^_};
 ghost use lib.ListN.{length, getD};
 ghost use Rattle.form.specs.Table.{widthOf};
 ghost use Rattle.form.specs.Reading.{numberAt, bytesAt, stringAt, arrayAt, leafAt, listHeadAt, entryAt};
-ghost use Rattle.fields.specs.Answers.{numOut, partOut, listHeadOut, entryOut, HeadIs, Ends};
+ghost use Rattle.fields.specs.Answers.{numOut, partOut, listHeadOut, entryOut, HeadIs};
 use form::kinds;
 
 // A number that was read, or the place where the data ends before it.
@@ -121,26 +121,6 @@ pub fn string_at(doc: &[u8], at: usize) -> Part
     }
 }
 
-// The place behind a string that is accepted, as nearly all are; else 0, and `string_at` says why not.
-fn string_end(doc: &[u8], at: usize) -> usize
-    requires { ⌜ at ≤ length (now doc) ⌝ }
-    ensures { λ r. ⌜ Ends (now (doc .entry)) at r ⌝ }
-{
-    if doc.len() - at < 2 {
-        return 0;
-    }
-    let start = at + 2;
-    let n = raw::number_at(doc, at, 2) as usize;
-    if doc.len() - start < n {
-        return 0;
-    }
-    let end = start + n;
-    if mutf8::is_well_formed(&doc[start..end]) {
-        return end;
-    }
-    0
-}
-
 // An array: its count (1, 5), then its elements as one field (1).
 fn array_at(doc: &[u8], w: usize, at: usize) -> Part
     requires { ⌜ (w ≤ 8) × (at ≤ length (now doc)) ⌝ }
@@ -240,7 +220,7 @@ fn judge_head(kind: u8, count: usize, at: usize) -> ListHead
     ListHead::Is { kind, count }
 }
 
-// An entry of some kind, whose name is judged step by step.
+// An entry of some kind: its name (1, 4), then its id (2).
 fn named(doc: &[u8], kind: u8, at: usize) -> Entry
     requires { ⌜ (at < length (now doc)) × (kind ≡ getD (now doc) at 0) × (kind ≡ 0 → ⊥) ⌝ }
     ensures { λ r. ⌜ entryOut r ≡ entryAt (now (doc .entry)) at ⌝ }
@@ -284,20 +264,5 @@ pub fn entry_at(doc: &[u8], at: usize) -> Entry
     if kind == kinds::END {
         return Entry::End;
     }
-    let next = string_end(doc, at + 1);
-    if next == 0 {
-        return named(doc, kind, at);
-    }
-    if kinds::LONG_ARRAY < kind {
-        return Entry::No {
-            number: form::TAG_ID,
-            place: at,
-        };
-    }
-    Entry::Named {
-        kind,
-        start: at + 3,
-        len: next - (at + 3),
-        next,
-    }
+    named(doc, kind, at)
 }

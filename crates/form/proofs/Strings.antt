@@ -1,11 +1,12 @@
 -- The string rules (rule 2; refusals 4 and 15): what Decoding.antt computes is what Strings.antt says, both ways.
 -- Assumes nothing.
-use Prim.Native.Nat.{ℕ}
+use Prim.Native.Nat.{ℕ, _+_, _-_}
 use mathlib.Core.Path.{_≡_, refl, sym, _∙_}
 use mathlib.Core.Logic.{_↔_}
-use mathlib.Core.Bool.{true, false}
+use mathlib.Core.Bool.{Bool, true, false}
 use mathlib.Core.List.{List}
 use native.Mathlib.Omega.{arith}
+use Rattle.form.specs.Spans.{part}
 use Rattle.form.specs.Strings.{scalarBytes, utf8Bytes, WellFormed}
 use Rattle.form.specs.Decoding.{Verdict, good, bad, scalarOf, utf8Of, verdict, utf8Verdict, isGood, wellFormed, Judged}
 use Rattle.form.proofs.Scalars.{mutf8}
@@ -32,3 +33,7 @@ wellFormed-iff l = let j = string-judged l in let g = isGood-iff (verdict l) in
 -- Where it fails, the bytes encode no list of scalar values.
 pub wellFormed-not : (l : List ℕ) → wellFormed l ≡ false → WellFormed l → ⊥
 wellFormed-not l e w = let z : true ≡ false = sym ((wellFormed-iff l) .1 w) ∙ e in let y : _≡_ {A = ℕ} 0 1 = cc in omega arith
+
+-- A span is judged by its length where the code has its end.
+pub judged-part : (doc : List ℕ) (a n : ℕ) {b : Bool} → wellFormed (part doc a (a + n - a)) ≡ b → wellFormed (part doc a n) ≡ b
+judged-part doc a n e = let k : n ≡ a + n - a = omega arith in rw k e

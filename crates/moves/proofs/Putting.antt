@@ -1,13 +1,12 @@
 -- Laws for the code that puts lines: digits one behind the other, lines one behind the other.
 -- Assumes nothing.
 use Prim.Native.Nat.{ℕ, zero, suc, _+_, _*_, _≤_, _<_}
-use mathlib.Core.Path.{_≡_, refl, sym, ap, subst, _∙_}
+use mathlib.Core.Path.{_≡_, refl, sym, ap, _∙_}
 use mathlib.Core.List.{List, [], _∷_, _++_, append-assoc}
 use mathlib.Core.Bool.{true}
 use native.Mathlib.Omega.{arith}
-use native.Mathlib.Numerals.{add-one}
-use lib.ListN.{length, getD, set, take, drop, length-drop, length-append}
-use lib.Seq.{take-suc, take-add, getD-drop, drop-drop, ext-getD}
+use lib.ListN.{length, getD, set, take, drop, length-append}
+use lib.Seq.{take-add, drop-drop, ext-getD}
 use Rattle.form.specs.Spans.{part, over}
 use Rattle.form.specs.Stored.{hexDigits, wordDigits, allDigits, hexValue, wordsOf}
 use Rattle.form.proofs.Spans.{part-length}
@@ -16,17 +15,6 @@ use Rattle.form.proofs.Table.{over-next, over-length}
 use Rattle.form.proofs.Stored.{digits-length, digits-append, digits-back, words-length}
 use Rattle.store.proofs.Reading.{part-part}
 use Rattle.store.proofs.Writing.{put-behind}
-
--- One byte more of a span.
-pub byte-behind : (o s : List ℕ) (at from k : ℕ) → from + k < length s → at + k < length o
-    → set (over o at (part s from k)) (at + k) (getD s (from + k) 0) ≡ over o at (part s from (k + 1))
-byte-behind o s at from k there room =
-    let long : length (part s from k) ≡ k = part-length s from k (omega arith) in
-    let next : part s from (k + 1) ≡ part s from k ++ (getD s (from + k) 0 ∷ []) =
-    rw (add-one k, take-suc (drop from s) k 0 (simp length-drop (omega arith)), getD-drop from s k 0) refl in
-    rw next
-    (subst (λ j. set (over o at (part s from k)) (at + j) (getD s (from + k) 0) ≡ over o at (part s from k ++ (getD s (from + k) 0 ∷ []))) long
-    (over-next o at (part s from k) (getD s (from + k) 0) (rw long room)))
 
 -- ---- a line
 

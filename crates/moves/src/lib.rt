@@ -34,7 +34,7 @@ fn bad_line(lines: &[u8], number: usize) -> Answer
 }
 
 // Line by line whether each is good, of the width that is moved (29 at its number, from 1), within the limit (9); how many there are.
-fn take_lines(lines: &[u8], nine: bool) -> Answer
+fn good_lines(lines: &[u8], nine: bool) -> Answer
     ensures { λ r. ⌜ TakenIs nine (now (lines .entry)) (answerOut r) ⌝ }
 {
     let words = stored_table::words_in(nine);
@@ -67,7 +67,7 @@ fn judge(doc_len: usize, lines: &[u8], nine: bool, room: usize) -> Answer
             place: 0,
         };
     }
-    match take_lines(lines, nine) {
+    match good_lines(lines, nine) {
         Answer::Refused { number, place } => Answer::Refused { number, place },
         Answer::Done { count: n } => {
             if !stored_table::is_table(doc_len, lines, nine, n) {
@@ -88,18 +88,6 @@ fn judge(doc_len: usize, lines: &[u8], nine: bool, room: usize) -> Answer
 }
 
 // ---- lines put
-
-// The digits that stay, of the line that begins at `from`, put at `at`.
-fn put_front(lines: &[u8], from: usize, out: &mut [u8], at: usize)
-    requires { ⌜ (from + 64 ≤ length (now lines)) × (at + 64 ≤ length (now out)) ⌝ }
-    ensures { λ _. ⌜ now (out .exit) ≡ over (now (out .entry)) at (part (now (lines .entry)) from 64) ⌝ }
-{
-    let mut k: usize = 0;
-    while k < FRONT {
-        out[at + k] = lines[from + k];
-        k += 1;
-    }
-}
 
 // The parent of record i: the last record before it that has not ended there. The search begins at the record before, and climbs by the parents
 // that are put already. A record is climbed past once, where it ends, so that all searches together are linear.
@@ -123,7 +111,7 @@ fn put_up_line(lines: &[u8], i: usize, parent: usize, out: &mut [u8])
     ensures { λ _. ⌜ now (out .exit) ≡ over (now (out .entry)) (73 * i) (part (now (lines .entry)) (65 * i) 64 ++ (hexDigits 8 parent ++ (10 ∷ []))) ⌝ }
 {
     let at = store::LINE * i;
-    put_front(lines, stored_table::OLD_LINE * i, out, at);
+    slices::copy(lines, stored_table::OLD_LINE * i, FRONT, out, at);
     store::put_word(out, at + FRONT, parent as u32);
     out[at + FRONT + store::WORD_DIGITS] = b'\n';
 }
@@ -147,7 +135,7 @@ fn put_down_line(lines: &[u8], i: usize, out: &mut [u8])
     ensures { λ _. ⌜ now (out .exit) ≡ over (now (out .entry)) (65 * i) (part (now (lines .entry)) (73 * i) 64 ++ (10 ∷ [])) ⌝ }
 {
     let at = stored_table::OLD_LINE * i;
-    put_front(lines, store::LINE * i, out, at);
+    slices::copy(lines, store::LINE * i, FRONT, out, at);
     out[at + FRONT] = b'\n';
 }
 

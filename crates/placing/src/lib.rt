@@ -4,7 +4,6 @@ ghost use mathlib.Core.Path.{_≡_};
 ghost use mathlib.Core.Bool.{_||_};
 ghost use Prim.Native.Nat.{_+_, _≤_, _<_};
 ghost use lib.Dec.{leb, eqb};
-ghost use lib.Signed.{mag};
 ghost use Rattle.text_form.specs.Text.{inRange};
 ghost use Rattle.placing.specs.Done.{AdmittedIs};
 
@@ -20,23 +19,13 @@ pub enum Admitted {
     No { number: u8 },
 }
 
-// How far an integer lies from 0, and a negative one from -1.
-fn magnitude(v: i64) -> u64
-    ensures { λ r. ⌜ r ≡ mag v ⌝ }
-{
-    if 0 <= v {
-        return v as u64;
-    }
-    (-1 - v) as u64
-}
-
 // An integer is in the range of `width` bytes (rule 15).
 pub fn in_range(v: i64, width: usize) -> bool
     requires { ⌜ (0 < width) × (width ≤ 8) ⌝ }
     ensures { λ r. ⌜ r ≡ inRange width v ⌝ }
 {
     let half = 1u64 << (8 * width - 1);
-    magnitude(v) < half
+    raw::magnitude(v) < half
 }
 
 // There is room for `size` bytes from `at` on, which may lie past the output's end (refusal 13).

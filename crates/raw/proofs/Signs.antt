@@ -54,6 +54,11 @@ pub mag-fits : (v : ℤ) → mag v < 2 ^ 63 → Fits w64 (natAbs v)
 mag-fits (pos n) h = omega arith
 mag-fits (negsuc n) h = omega arith
 
+-- From 0 on the absolute value is the magnitude.
+pub own : (v : ℤ) → leZ (pos 0) v ≡ true → natAbs v ≡ mag v
+own (pos n) t = refl
+own (negsuc n) t = absurd (true≢false (sym t))
+
 -- An integer from 0 on is its own bits.
 pub bits-low : (v : ℤ) → leZ (pos 0) v ≡ true → T (nonNeg v) × (natAbs v ≡ bitsOf 8 v)
 bits-low (pos n) t = (tt, refl)

@@ -3,6 +3,7 @@
 ghost use mathlib.Core.Path.{_≡_};
 ghost use Prim.Native.Nat.{_+_, _^_, _≤_, _<_};
 ghost use lib.ListN.{length};
+ghost use lib.Signed.{mag};
 ghost use Rattle.form.specs.Numbers.{bigEndian, bytesOf, bitsOf, FitsIn};
 ghost use Rattle.form.specs.Spans.{part, over};
 ghost use Rattle.raw.specs.Numbers.{placeOf, Number};
@@ -45,16 +46,25 @@ pub fn u32_at(s: &[u8], at: usize) -> u32
     number_at(s, at, 4) as u32
 }
 
-// The 64 bits of an integer (rule 1: two's complement): a negative one's magnitude taken from zero, which wraps.
-pub fn bits_of(v: i64) -> u64
-    ensures { λ r. ⌜ r ≡ bitsOf 8 v ⌝ }
+// How far an integer lies from 0, and a negative one from -1, so that the lowest has one too.
+pub fn magnitude(v: i64) -> u64
+    ensures { λ r. ⌜ r ≡ mag v ⌝ }
 {
     if 0 <= v {
         return v as u64;
     }
-    // the magnitude, 2^63 of the lowest integer too
-    let magnitude = (-1 - v) as u64 + 1;
-    std::num::wrapping_sub_u64(0, magnitude)
+    (-1 - v) as u64
+}
+
+// The 64 bits of an integer (rule 1: two's complement): of a negative one, what its distance from zero wraps back to zero with.
+pub fn bits_of(v: i64) -> u64
+    ensures { λ r. ⌜ r ≡ bitsOf 8 v ⌝ }
+{
+    let m = magnitude(v);
+    if 0 <= v {
+        return m;
+    }
+    std::num::wrapping_sub_u64(0, m + 1)
 }
 
 // The lowest `width` bytes of v put at `at` (rule 1), from the last digit to the first.

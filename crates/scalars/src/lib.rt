@@ -80,7 +80,7 @@ fn put_plain(text: &[u8], start: usize, end: usize, target: Target, out: &mut [u
     match placing::admits(target.want, kinds::STRING, out.len(), at, 2 + size) {
         Admitted::Yes => {
             raw::put_number(out, at, 2, size as u64);
-            slices::short::copy_short(text, start, size, out, at + 2);
+            slices::copy(text, start, size, out, at + 2);
             Done::To {
                 next: target.next,
                 used: at + 2 + size,

@@ -9,7 +9,6 @@ pub mod Scans
 pub mod Answers
 pub mod Holding
 pub mod Forests
-pub mod Deferred
 pub mod Kept
 pub mod Orders
 pub mod Cells

@@ -1,6 +1,4 @@
 // Bytes copied and cleared, for every layer that writes to lent memory.
-pub mod short;
-
 ghost use mathlib.Core.Path.{_≡_};
 ghost use Prim.Native.Nat.{_+_, _≤_};
 ghost use lib.ListN.{length, replicate};

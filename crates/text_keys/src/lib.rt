@@ -57,7 +57,7 @@ fn put_key(
 {
     if plain::is_plain(text, start, end) {
         let size = end - start;
-        slices::short::copy_short(text, start, size, buffer, 0);
+        slices::copy(text, start, size, buffer, 0);
         return KeyText::Is { bytes: size };
     }
     key_measured(text, quoted, start, end, index, buffer)

@@ -2,12 +2,21 @@
 -- Assumes nothing.
 use borrow.Author.Needs.{needs}
 use native.Mathlib.Omega.{arith}
-use mathlib.Core.Path.{sym, ap, _∙_}
+use Prim.Native.Nat.{ℕ}
+use mathlib.Core.List.{List}
+use mathlib.Core.Path.{_≡_, sym, ap, _∙_}
+use Rattle.form.specs.Answer.{got}
+use Rattle.form.specs.Reading.{named, entryAt}
 use Rattle.form.proofs.Fields.{entry-no, entry-kind, entry-got}
-use Rattle.fields.specs.Answers.{partOut}
-use Rattle.fields.proofs.Names.{named-as}
+use Rattle.fields.specs.declared.Entry.{Entry}
+use Rattle.fields.specs.Answers.{partOut, entryOut}
 use Rattle.fields.proofs.named.Statement.{statement}
 use Rattle.fields.proofs.named.Tie as tie
+
+-- an entry of a kind that was read before: over variables, since `rw` at the terms of a place is slow or refused
+named-as : (doc : List ℕ) (at k j s l x : ℕ) → k ≡ j
+    → entryAt doc at ≡ got (named j (record { start = s; size = l; count = 0; next = x })) → entryOut (Entry.Named k s l x) ≡ entryAt doc at
+named-as doc at k j s l x e f = ap (λ y. got (named y (record { start = s; size = l; count = 0; next = x }))) e ∙ sym f
 
 returns : tie.Need-returns
 returns c =

@@ -8,9 +8,9 @@ use lib.ListN.{length}
 use mathlib.Core.Path.{_≡_, sym, ap, _∙_}
 use Rattle.form.specs.Answer.{got}
 use Rattle.form.specs.Reading.{numberAt}
+use Rattle.form.proofs.Strings.{judged-part}
 use Rattle.form.proofs.Fields.{number-within, string-no, string-cut, string-bad, string-got}
 use Rattle.fields.specs.Answers.{numOut}
-use Rattle.fields.proofs.Names.{judged-part}
 use Rattle.fields.proofs.string_at.Statement.{statement}
 use Rattle.fields.proofs.string_at.Tie as tie
 

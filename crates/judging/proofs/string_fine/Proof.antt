@@ -3,26 +3,20 @@
 use borrow.Author.Needs.{needs}
 use native.Mathlib.Omega.{arith}
 use mathlib.Core.Path.{_≡_, sym, _∙_}
-use Prim.Native.Nat.{ℕ, _+_, _-_}
-use mathlib.Core.Bool.{Bool}
-use mathlib.Core.List.{List}
 use Rattle.form.specs.Spans.{part}
 use Rattle.form.specs.Decoding.{wellFormed}
+use Rattle.form.proofs.Strings.{judged-part}
 use Rattle.form.proofs.Writing.{string-long, string-bad, string-good}
 use Rattle.judging.proofs.string_fine.Statement.{statement}
 use Rattle.judging.proofs.string_fine.Tie as tie
-
--- The part that is judged is the span.
-whole : (doc : List ℕ) (a n : ℕ) {b : Bool} → wellFormed (part doc a (a + n - a)) ≡ b → wellFormed (part doc a n) ≡ b
-whole doc a n e = let k : n ≡ a + n - a = omega arith in rw k e
 
 -- From where the span is short enough.
 abbrev start-of : tie.Else1 → tie.Start
 start-of c = c .before .before
 
--- So what is told of it is told of the span.
+-- What is told of the part that is judged is told of the span.
 told : (c : tie.After-is-well-formed) → let a = start-of (c .before .before) .args in wellFormed (part (a .doc .now) (a .start) (a .size)) ≡ c .is-well-formed .result
-told c = let a = start-of (c .before .before) .args in whole (a .doc .now) (a .start) (a .size) (sym (c .is-well-formed .ensures))
+told c = let a = start-of (c .before .before) .args in judged-part (a .doc .now) (a .start) (a .size) (sym (c .is-well-formed .ensures))
 
 pub string-fine-spec : {M : Type 1} → statement M
 string-fine-spec =

@@ -14,18 +14,18 @@ use Rattle.moves.proofs.judge.Statement.{statement}
 use Rattle.moves.proofs.judge.Tie as tie
 
 -- Places by name: the lines are taken, the length is within the limit, and the function starts.
-abbrev limit-of : tie.After-take-lines → tie.Else1
+abbrev limit-of : tie.After-good-lines → tie.Else1
 limit-of c = c .before
 
-abbrev start-of : tie.After-take-lines → tie.Start
+abbrev start-of : tie.After-good-lines → tie.Start
 start-of c = limit-of c .before .before
 
 -- The lines are good, from where their number is known.
-abbrev take-of : tie.After-known-told2 → tie.After-take-lines
+abbrev take-of : tie.After-known-told2 → tie.After-good-lines
 take-of c = let at-match = c .before .before in at-match .before
 
 taken : (c : tie.After-known-told2) → Taken (editionOf (start-of (take-of c) .args .nine)) (start-of (take-of c) .args .lines .now) (c .before .n .given .0 .0)
-taken c = told-taken (start-of (take-of c) .args .nine) _ (c .before .n .given .1) (take-of c .take-lines .ensures)
+taken c = told-taken (start-of (take-of c) .args .nine) _ (c .before .n .given .1) (take-of c .good-lines .ensures)
 
 returns : tie.Need-returns
 returns c = let start = c .before .before in judged-large (start .args .nine) _ _ _ (c .if1 .taken)
@@ -63,7 +63,7 @@ returns-4 c =
     let at-number = c .before in
     let at-take = at-number .before .before in
     let a = start-of at-take .args in
-    judged-bad (a .nine) _ _ _ (limit-of at-take .if1 .left) _ _ (told-taken (a .nine) _ (at-number .number .given .1) (at-take .take-lines .ensures))
+    judged-bad (a .nine) _ _ _ (limit-of at-take .if1 .left) _ _ (told-taken (a .nine) _ (at-number .number .given .1) (at-take .good-lines .ensures))
 
 returns-5 : tie.Need-returns-5
 returns-5 c =

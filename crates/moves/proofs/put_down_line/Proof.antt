@@ -15,7 +15,7 @@ returns c =
     let s = start .args .lines .now in
     let o = start .args .out .now in
     let i = start .args .i in
-    down-line o s (65 * i) (73 * i) (start .pre .0) _ (at-front .put-front .ensures) (omega (arith, start .pre .1))
+    down-line o s (65 * i) (73 * i) (start .pre .0) _ (at-front .copy .ensures) (omega (arith, start .pre .1))
 
 pub put-down-line-spec : {M : Type 1} → statement M
 put-down-line-spec =

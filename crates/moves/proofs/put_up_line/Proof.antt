@@ -12,10 +12,10 @@ use Rattle.moves.proofs.put_up_line.Tie as tie
 abbrev word-of : tie.After-slice-known3 → tie.After-put-word
 word-of c = c .before .before
 
-abbrev front-of : tie.After-put-word → tie.After-put-front
+abbrev front-of : tie.After-put-word → tie.After-copy
 front-of c = let at-arg = c .before in at-arg .before .before .before
 
-abbrev start-of : tie.After-put-front → tie.Start
+abbrev start-of : tie.After-copy → tie.Start
 start-of c = let at-arg = c .before in at-arg .before .before .before
 
 same-length : tie.Need-same-length
@@ -27,7 +27,7 @@ same-length c =
     let o = start .args .out .now in
     let i = start .args .i in
     simp length-set
-    (word-length o s (73 * i) (65 * i) (start .pre .0) _ (at-front .put-front .ensures) _ _ (at-word .put-word .ensures) (omega (arith, start .pre .1)))
+    (word-length o s (73 * i) (65 * i) (start .pre .0) _ (at-front .copy .ensures) _ _ (at-word .put-word .ensures) (omega (arith, start .pre .1)))
 
 returns : tie.Need-returns
 returns c =
@@ -37,7 +37,7 @@ returns c =
     let s = start .args .lines .now in
     let o = start .args .out .now in
     let i = start .args .i in
-    up-line o s (73 * i) (65 * i) (start .pre .0) _ (at-front .put-front .ensures) _ _ (at-word .put-word .ensures) (omega (arith, start .pre .1))
+    up-line o s (73 * i) (65 * i) (start .pre .0) _ (at-front .copy .ensures) _ _ (at-word .put-word .ensures) (omega (arith, start .pre .1))
 
 pub put-up-line-spec : {M : Type 1} → statement M
 put-up-line-spec =

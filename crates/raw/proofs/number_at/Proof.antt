@@ -19,6 +19,16 @@ Inv-loop s at width n₀ i₀ n i = (i ≤ width) × (n ≡ value (take i (order
 abbrev μ-loop : tie.MeasureT-loop
 μ-loop s at width n₀ i₀ n i = width - i
 
+-- ---- places
+
+abbrev start-of : tie.At-loop Inv-loop μ-loop → tie.Start Inv-loop μ-loop
+start-of c = c .before .before
+
+abbrev turn-of : tie.After-shared-slice-known2 Inv-loop μ-loop → tie.At-loop Inv-loop μ-loop
+turn-of c = c .before .before .before
+
+-- ---- the proof
+
 loop-holds : tie.Need-loop-holds Inv-loop μ-loop
 loop-holds c =
     let a = c .before .args in
@@ -28,23 +38,24 @@ loop-holds c =
 room : (c : tie.In-loop Inv-loop μ-loop) → c .before .loop .n * 256 + 255 < 2 ^ 64
 room c =
     let l = c .before .loop in
-    let a = c .before .before .before in
+    let a = start-of (c .before) in
     read-room (l .n) (l .i) (a .args .width) (l .inv .2) (c .loop-test .taken) (a .pre .0)
 
 -- A digit is a byte.
-byte : (c : tie.After-shared-slice-known2 Inv-loop μ-loop) → getD (c .before .before .before .before .before .args .s .now) (c .before .place-of .result) 0 < 256
+byte : (c : tie.After-shared-slice-known2 Inv-loop μ-loop) →
+    getD (start-of (turn-of c) .args .s .now) (c .before .place-of .result) 0 < 256
 byte c = omega (arith, c .shared-slice-known2 .given (c .before .place-of .result))
 
 mul-n : tie.Need-mul-n Inv-loop μ-loop
 mul-n c = omega (arith, room c)
 
 place-of-requires : tie.Need-place-of-requires Inv-loop μ-loop
-place-of-requires c κs = let a = c .before .before .before in (c .loop-test .taken, omega (arith, a .pre .1, a .good .0 .1))
+place-of-requires c κs = let a = start-of (c .before) in (c .loop-test .taken, omega (arith, a .pre .1, a .good .0 .1))
 
 shared-slice-read-n : tie.Need-shared-slice-read-n Inv-loop μ-loop
 shared-slice-read-n c =
-    let a = c .before .before .before .before .before in
-    let l = c .before .before .before .loop in
+    let a = start-of (turn-of c) in
+    let l = turn-of c .loop in
     subst (λ k. k < length (a .args .s .now)) (sym (c .before .place-of .ensures))
     (place-inside (a .args .at) (a .args .width) (l .i) (length (a .args .s .now)) (c .before .before .loop-test .taken) (a .pre .1))
 
@@ -62,8 +73,8 @@ loop-less c = omega arith
 
 loop-again : tie.Need-loop-again Inv-loop μ-loop
 loop-again c =
-    let a = c .before .before .before .before .before in
-    let l = c .before .before .before .loop in (
+    let a = start-of (turn-of c) in
+    let l = turn-of c .loop in (
       omega arith,
       ap (λ k. l .n * 256 + getD (a .args .s .now) k 0) (c .before .place-of .ensures)
           ∙ read-turn (a .args .s .now) (a .args .at) (a .args .width) (l .i) (l .n) (c .before .before .loop-test .taken) (a .pre .1) (l .inv .1),
@@ -72,7 +83,7 @@ loop-again c =
 
 returns : tie.Need-returns Inv-loop μ-loop
 returns c =
-    let a = c .before .before .before in
+    let a = start-of (c .before) in
     let l = c .before .loop in
     let e : l .i ≡ a .args .width = le-antisymm (l .inv .0) (c .loop-test .left) in
     record {

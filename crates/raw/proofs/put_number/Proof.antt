@@ -18,6 +18,16 @@ Inv-loop d₀ at width v rest₀ left₀ d rest left =
 abbrev μ-loop : tie.MeasureT-loop
 μ-loop d₀ at width v rest₀ left₀ d rest left = left
 
+-- ---- places
+
+abbrev start-of : tie.At-loop Inv-loop μ-loop → tie.Start Inv-loop μ-loop
+start-of c = c .before .before
+
+abbrev turn-of : tie.After-place-of Inv-loop μ-loop → tie.At-loop Inv-loop μ-loop
+turn-of c = c .before .before
+
+-- ---- the proof
+
 loop-holds : tie.Need-loop-holds Inv-loop μ-loop
 loop-holds c =
     let a = c .before in
@@ -31,17 +41,18 @@ cast-d c = omega arith
 
 place-of-requires : tie.Need-place-of-requires Inv-loop μ-loop
 place-of-requires c κs =
-    let a = c .before .before .before in
+    let a = start-of (c .before) in
     (omega (arith, c .loop-test .taken, c .before .loop .inv .0), omega (arith, a .pre .1, a .good .0 .1))
 
 -- The number's bytes lie in the slice at each turn.
-room : (c : tie.After-place-of Inv-loop μ-loop) → c .before .before .before .before .args .at + c .before .before .before .before .args .width ≤ length (c .before .before .loop .d)
-room c = omega (arith, c .before .before .before .before .pre .1, c .before .before .loop .inv .1)
+room : (c : tie.After-place-of Inv-loop μ-loop) →
+    let a = start-of (turn-of c) .args in a .at + a .width ≤ length (turn-of c .loop .d)
+room c = omega (arith, start-of (turn-of c) .pre .1, turn-of c .loop .inv .1)
 
 slice-write-d : tie.Need-slice-write-d Inv-loop μ-loop
 slice-write-d c =
-    let a = c .before .before .before .before in
-    let l = c .before .before .loop in
+    let a = start-of (turn-of c) in
+    let l = turn-of c .loop in
     subst (λ k. k < length (l .d)) (sym (c .place-of .ensures))
     (place-inside (a .args .at) (a .args .width) (l .left - 1) (length (l .d)) (omega (arith, c .before .loop-test .taken, l .inv .0)) (room c))
 
@@ -50,8 +61,8 @@ loop-less c = omega arith
 
 loop-again : tie.Need-loop-again Inv-loop μ-loop
 loop-again c =
-    let a = c .before .before .before .before in
-    let l = c .before .before .loop in (
+    let a = start-of (turn-of c) in
+    let l = turn-of c .loop in (
       omega arith,
       simp length-set (l .inv .1),
       ap (λ k. finished (set (l .d) k (l .rest % 256)) (a .args .at) (a .args .width) (l .left - 1) (l .rest / 256)) (c .place-of .ensures)
@@ -64,7 +75,7 @@ same-length c = c .before .loop .inv .1
 
 returns : tie.Need-returns Inv-loop μ-loop
 returns c =
-    let a = c .before .before .before in
+    let a = start-of (c .before) in
     let l = c .before .loop in
     sym (put-end (l .d) (a .args .at) (a .args .width) (l .left) (l .rest) (omega (arith, c .loop-test .left)) (omega (arith, a .pre .1, l .inv .1))) ∙ l .inv .2
 

@@ -20,12 +20,13 @@ same-length c = search needs
 
 returns : tie.Need-returns
 returns c =
-    let p = c .before .before in
-    let a = p .before .before .before .before in
+    let at-put = c .before .before in
+    let at-bits = at-put .before in
+    let a = at-bits .before .before .before in
     let w = a .args .width in
-    p .put-number .ensures
+    at-put .put-number .ensures
     ∙ ap (λ ds. over (a .args .d .now) (a .args .at) (ordered ds)) (
-    ap (digits w) (p .before .bits-of .ensures)
+    ap (digits w) (at-bits .bits-of .ensures)
     ∙ ap (λ z. digits w (bitsOf 8 z)) (held (a .args .v) (a .good .1 .1 .1 .0))
     ∙ digits-narrow w 8 (a .args .v) (a .pre .0) (a .pre .2)
     )

@@ -19,13 +19,13 @@ start-of c = index-of c .before .before .before
 abbrev asked-of : tie.After-enum-told → tie.After-admits
 asked-of c = c .before .before
 
-abbrev length-of : tie.After-copy-short-arg → tie.After-put-number
+abbrev length-of : tie.After-copy-arg → tie.After-put-number
 length-of c = c .before .before .before
 
-abbrev told-of : tie.After-copy-short-arg → tie.After-enum-told
+abbrev told-of : tie.After-copy-arg → tie.After-enum-told
 told-of c = length-of c .before .before
 
-abbrev span-of : tie.After-slice-known3 → tie.After-copy-short
+abbrev span-of : tie.After-slice-known3 → tie.After-copy
 span-of c = c .before .before
 
 -- There is room for the length and the span.
@@ -34,8 +34,8 @@ room c =
     let a = start-of (asked-of c) .args in
     admitted-room (a .target .want) 8 (length (a .out .now)) (a .target .at) (2 + (a .end - a .start)) (c .enum-told .given .1) (asked-of c .admits .ensures)
 
-copy-short-requires : tie.Need-copy-short-requires
-copy-short-requires c κs =
+copy-requires : tie.Need-copy-requires
+copy-requires c κs =
     let p = start-of (asked-of (told-of c)) .pre in
     (omega (arith, p .0, p .1), omega (arith, room (told-of c), length-of c .put-number .kept .0))
 
@@ -50,8 +50,8 @@ returns c quoted =
     let own = own-long (a .text .now) (a .start) (a .end) (s .pre .0) (s .pre .1) (s .pre .2) quoted in
     let put = length-of (span .before) .put-number in
     string-did (a .text .now) quoted (a .start) (a .end) (t .want) (t .index .0) (t .next) (t .at) (a .out .now) own (omega (arith, s .pre .2 .short))
-    (told .enum-told .given .1) (asked .admits .ensures) (put .last .0) (span .copy-short .last .1 .1 .1 .0) _ (put .ensures)
-    (omega (arith, own .size), span .copy-short .ensures)
+    (told .enum-told .given .1) (asked .admits .ensures) (put .last .0) (span .copy .last .1 .1 .1 .0) _ (put .ensures)
+    (omega (arith, own .size), span .copy .ensures)
 
 returns-2 : tie.Need-returns-2
 returns-2 c quoted =
@@ -75,7 +75,7 @@ put-plain-spec =
     (λ c. search needs)
     (λ c κs. (omega arith, omega (arith, room (c .before))))
     (λ c. omega (arith, room (told-of c)))
-    copy-short-requires
+    copy-requires
     (λ c. omega (arith, room (told-of (span-of c .before))))
     (λ c. omega (arith, room (told-of (span-of c .before))))
     (λ c. search needs)

@@ -35,7 +35,7 @@ returns c room₀ =
     let s = start-of (own .before) in
     let l = own-long _ _ _ (s .pre .0) (s .pre .1) (plain own) (s .args .quoted) in
     key-in _ _ _ _ _ room₀ l (omega (arith, plain own .short)) (s .args .buffer .now) _ _ (room own)
-    (own-put _ _ _ (s .pre .0) (s .pre .1) (plain own) (s .args .quoted) _ _ (copied .copy-short .ensures))
+    (own-put _ _ _ (s .pre .0) (s .pre .1) (plain own) (s .args .quoted) _ _ (copied .copy .ensures))
 
 pub put-key-spec : {M : Type 1} → statement M
 put-key-spec =

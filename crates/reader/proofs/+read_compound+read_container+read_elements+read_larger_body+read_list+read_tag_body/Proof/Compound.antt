@@ -16,7 +16,7 @@ use Rattle.siblings.proofs.Holding.{among-is}
 use Rattle.form.proofs.Payloads.{payload-name}
 use Rattle.siblings.proofs.Kept.{wrote-kept, kept-from, kept-wrote, payload-free}
 use Rattle.siblings.proofs.Forests.{family-of, once-of}
-use Rattle.siblings.proofs.Deferred.{Going, going-start, going-length, going-next, deferred-head-no, deferred-end, deferred-no, deferred-next, entry-start}
+use Rattle.reader.proofs.Deferred.{Going, going-start, going-length, going-next, deferred-head-no, deferred-end, deferred-no, deferred-next, entry-start}
 use Rattle.fields.specs.Answers.{entryOut}
 use Rattle.reader.specs.Steps.{Known, Kept}
 use Rattle.reader.proofs.Steps.{stepped-no, stepped-next, settled-went, entry-settled-went, finished-went}

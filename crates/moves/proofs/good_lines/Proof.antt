@@ -1,4 +1,4 @@
--- `moves::take_lines` meets its contract: after n good lines the answer is what the others add to their words.
+-- `moves::good_lines` meets its contract: after n good lines the answer is what the others add to their words.
 -- Assumes nothing.
 use borrow.Author.Needs.{needs}
 use borrow.Author.Tests.{not-true, not-false}
@@ -13,8 +13,8 @@ use Rattle.store.specs.Steps.{FirstLine}
 use Rattle.stored_table.specs.Words.{editionOf}
 use Rattle.moves.specs.Steps.{TakenIs}
 use Rattle.moves.proofs.Taking.{Sofar, sofar-start, sofar-over, sofar-next, line-width, words-few, all-taken, bad-taken}
-use Rattle.moves.proofs.take_lines.Statement.{statement}
-use Rattle.moves.proofs.take_lines.Tie as tie
+use Rattle.moves.proofs.good_lines.Statement.{statement}
+use Rattle.moves.proofs.good_lines.Tie as tie
 
 abbrev Inv : tie.InvT-loop
 Inv lines nine words line at₀ n₀ at n =
@@ -104,8 +104,8 @@ returns-3 c =
     let s = start-of at-loop .args .lines .now in
     all-taken (edition at-loop) s (l .n) (l .inv .1) (subst (λ x. length s ≤ x) (l .inv .0) (c .loop-test .left))
 
-pub take-lines-spec : {M : Type 1} → statement M
-take-lines-spec =
+pub good-lines-spec : {M : Type 1} → statement M
+good-lines-spec =
     tie.close
     (tie.spec
     Inv

@@ -1,16 +1,16 @@
--- `magnitude` meets its contract: an integer from 0 on is its own magnitude, and -1 less a negative one is its.
+-- `raw::magnitude` meets its contract: an integer from 0 on is its own magnitude, and -1 less a negative one is its.
 -- Assumes nothing.
-use mathlib.Core.Bool.{true, false, true≢false}
-use mathlib.Core.Path.{_≡_, refl, sym, ap, _∙_, subst}
+use mathlib.Core.Bool.{true, false}
+use mathlib.Core.Path.{_≡_, sym, ap, _∙_, subst}
 use native.Mathlib.Omega.{arith}
-use lib.IntN.{ℤ, pos, negsuc, _-ℤ_, natAbs}
+use lib.IntN.{pos, negsuc, _-ℤ_, natAbs}
 use lib.Dec.{T}
 use lib.Signed.{mag, leZ, nonNeg}
 use mir.Syntax.{w64}
 use mir.Val.{toZ, ofZ, Fits, SFits}
-use Rattle.raw.proofs.Signs.{held, mag-fits, bits-low, minus-below}
-use Rattle.placing.proofs.magnitude.Statement.{statement}
-use Rattle.placing.proofs.magnitude.Tie as tie
+use Rattle.raw.proofs.Signs.{held, own, mag-fits, bits-low, minus-below}
+use Rattle.raw.proofs.magnitude.Statement.{statement}
+use Rattle.raw.proofs.magnitude.Tie as tie
 
 -- The argument is what the machine's bits of it stand for.
 same : (c : tie.Start) → toZ w64 (ofZ w64 (c .args .v)) ≡ c .args .v
@@ -31,11 +31,6 @@ minus c = ap (λ z. negsuc 0 -ℤ z) (same (c .before)) ∙ minus-below (c .befo
 -- An i64 holds it.
 kept : (c : tie.Else1) → toZ w64 (ofZ w64 (negsuc 0 -ℤ toZ w64 (ofZ w64 (c .before .args .v)))) ≡ pos (mag (c .before .args .v))
 kept c = ap (λ z. toZ w64 (ofZ w64 z)) (minus c) ∙ held (pos (mag (c .before .args .v))) (c .before .good .0)
-
--- From 0 on it is the absolute value.
-own : (v : ℤ) → leZ (pos 0) v ≡ true → natAbs v ≡ mag v
-own (pos n) t = refl
-own (negsuc n) t = absurd (true≢false (sym t))
 
 cast-result : tie.Need-cast-result
 cast-result c =

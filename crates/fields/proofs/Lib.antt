@@ -1,2 +1,0 @@
--- Lemmas on plain values, for the proofs of this crate.
-mod Names
