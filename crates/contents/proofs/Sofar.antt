@@ -103,9 +103,9 @@ utf8-plain : (b : ℕ) (l : List ℕ) → 0 < b → b < 128 → utf8Of (b ∷ l)
 unfolding utf8Of unitOf
 utf8-plain b l z h = simp (ne-eqb b 0 (omega arith), lt-leb 240 b (omega arith), lt-ltb b 128 h, lt-ltb b 55296 (omega arith))
 
-front-plain : (quoted : Bool) (b : ℕ) (l : List ℕ) (p : ℕ) → IsPlain 92 b → frontOf quoted (b ∷ l) p ≡ got (record { scalar = b; bytes = 1 })
+front-plain : (quoted : Bool) (b : ℕ) (l : List ℕ) (p : ℕ) → IsPlain 92 92 b → frontOf quoted (b ∷ l) p ≡ got (record { scalar = b; bytes = 1 })
 unfolding frontOf
-front-plain quoted b l p k = rw (ne-eqb b 92 (k .unescaped), and-false quoted, utf8-plain b l (k .some) (k .low)) refl
+front-plain quoted b l p k = rw (ne-eqb b 92 (k .first), and-false quoted, utf8-plain b l (k .some) (k .low)) refl
 
 plain-bytes : (b : ℕ) → 0 < b → b < 128 → scalarBytes b ≡ b ∷ []
 plain-bytes b z h = sb-low b (omega arith) ∙ ub-one b z h
@@ -189,7 +189,7 @@ module _ (t : List ℕ) (quoted : Bool) (start e : ℕ) where
             ap (after done) (encoded-more c rest) ∙ after-after done (scalarBytes c) (encoded rest)
 
   -- a run of n plain bytes is their own content
-  pub sofar-run : (n i : ℕ) (done : List ℕ) → i + n ≤ e → e ≤ length t → Plain 92 t i (i + n) → Sofar done i → Sofar (done ++ part t i n) (i + n)
+  pub sofar-run : (n i : ℕ) (done : List ℕ) → i + n ≤ e → e ≤ length t → Plain 92 92 t i (i + n) → Sofar done i → Sofar (done ++ part t i n) (i + n)
   sofar-run zero i done h k p s = let z : i + 0 ≡ i = omega arith in rw (z, append-nil done) s
   sofar-run (suc n) i done h k p s =
       let b = p .each i (omega arith) (omega arith) in
@@ -199,7 +199,7 @@ module _ (t : List ℕ) (quoted : Bool) (start e : ℕ) where
       let r = sofar-run n (i + 1) (done ++ (getD t i 0 ∷ [])) (omega arith) k (record { each = λ j a c. p .each j (omega arith) (omega arith) }) s′ in
       rw (z, part-cons t i n (omega arith), ← append-assoc done (getD t i 0 ∷ []) (part t (i + 1) n)) r
 
-  pub sofar-plain : (i j : ℕ) (done : List ℕ) → i ≤ j → j ≤ e → e ≤ length t → Plain 92 t i j → Sofar done i → Sofar (done ++ part t i (j - i)) j
+  pub sofar-plain : (i j : ℕ) (done : List ℕ) → i ≤ j → j ≤ e → e ≤ length t → Plain 92 92 t i j → Sofar done i → Sofar (done ++ part t i (j - i)) j
   sofar-plain i j done h l k p s =
       let z : i + (j - i) ≡ j = omega arith in
       rw z at (sofar-run (j - i) i done (omega arith) k (rw z p) s)
@@ -213,15 +213,13 @@ module _ (t : List ℕ) (quoted : Bool) (start e : ℕ) where
       go (no n p) q = let z : _≡_ {A = ℕ} 0 1 = cc in absurd (omega arith)
 
 -- a short span that is plain is its own content
-pub verbatim : (t : List ℕ) (start e : ℕ) → start ≤ e → e ≤ length t → shortPlain t start e ≡ true → Verbatim t start e
+pub verbatim : (t : List ℕ) (start e : ℕ) → start ≤ e → e ≤ length t → shortPlain 92 t start e ≡ true → Verbatim t start e
 verbatim t start e h k s =
-    let w = short-is t start e s in
-    let z : start + (e - start) ≡ e = omega arith in
-    let p : Plain 92 t start e = rw z at (w .1) in
+    let w = short-is 92 t start e h s in
     record {
       short = omega (arith, w .0);
       is = λ quoted.
-          let so = sofar-plain t quoted start e start e [] h (omega arith) k p (sofar-start t quoted start e) in
+          let so = sofar-plain t quoted start e start e [] h (omega arith) k (w .1) (sofar-start t quoted start e) in
           sofar-end t quoted start e (part t start (e - start)) e (omega arith) so;
     }
 
@@ -237,7 +235,7 @@ module _ (t : List ℕ) (quoted : Bool) (start e : ℕ) where
   pub counted-start : Counted start 0
   counted-start = record { done = []; so = sofar-start t quoted start e; count = refl }
 
-  pub counted-plain : (i j n : ℕ) → i ≤ j → j ≤ e → e ≤ length t → Plain 92 t i j → Counted i n → Counted j (n + (j - i))
+  pub counted-plain : (i j n : ℕ) → i ≤ j → j ≤ e → e ≤ length t → Plain 92 92 t i j → Counted i n → Counted j (n + (j - i))
   counted-plain i j n h l k p c = record {
     done = c .done ++ part t i (j - i);
     so = sofar-plain t quoted start e i j (c .done) h l k p (c .so);
@@ -304,7 +302,7 @@ module _ (t : List ℕ) (quoted : Bool) (start e : ℕ) (o₀ : List ℕ) (at : 
   behind o o′ ws to i g w =
       w ∙ (λ j. over (g .wrote j) (g .place j) ws) ∙ over-over o₀ at (g .done) (roomy (g .done) i (g .so)) ws
 
-  module _ (o : List ℕ) (to i j : ℕ) (h : i ≤ j) (l : j ≤ e) (p : Plain 92 t i j) (g : Putting t quoted start e o₀ at o to i) where
+  module _ (o : List ℕ) (to i j : ℕ) (h : i ≤ j) (l : j ≤ e) (p : Plain 92 92 t i j) (g : Putting t quoted start e o₀ at o to i) where
     next : Sofar t quoted start e (g .done ++ part t i (j - i)) j
     next = sofar-plain t quoted start e i j (g .done) h l (ready .within .1) p (g .so)
 

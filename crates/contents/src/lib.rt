@@ -86,7 +86,7 @@ pub fn content_length(text: &[u8], start: usize, end: usize, quoted: bool) -> Co
     let mut i = start;
     let mut n: usize = 0;
     while i < end {
-        let j = plain::plain_end(92, text, i, end);
+        let j = plain::plain_end(92, 92, text, i, end);
         n = n + (j - i);
         i = j;
         if i == end {
@@ -131,7 +131,7 @@ pub fn put_content(
     let mut i = start;
     let mut to = at;
     while i < end {
-        let j = plain::plain_end(92, text, i, end);
+        let j = plain::plain_end(92, 92, text, i, end);
         slices::copy(text, i, j - i, out, to);
         to = to + (j - i);
         i = j;

@@ -10,7 +10,8 @@ use borrow.Author.Tests.{ltb-false}
 use lib.ListN.{length, length-append}
 use Rattle.form.specs.Spans.{part}
 use Rattle.form.specs.Numbers.{bytesOf}
-use Rattle.form.specs.Tree.{Tag, Tags, Entries, byte, short, int, long, float, double, byteArray, string, list, compound, intArray, longArray, nil, more, ended, entry, kindOf, many, tagCount, tagsCount, entriesCount, depth, tagsDepth, entriesDepth, OneKind, Alike, Valid, ValidTags, ValidEntries}
+use Rattle.form.specs.Tree.{Tag, Tags, Entries, byte, short, int, long, float, double, byteArray, string, list, compound, intArray, longArray, nil, more, ended, entry}
+use Rattle.form.specs.Tree.{kindOf, many, tagCount, tagsCount, entriesCount, depth, tagsDepth, entriesDepth, OneKind, Alike, Valid, ValidTags, ValidEntries}
 use Rattle.form.specs.Layout.{stringBytes, listId, Payload, Elements, EntryBytes}
 use Rattle.form.specs.Table.{Forest, none, node, size, _⊕_, holds, valueBy, tagsOf, entriesOf}
 use Rattle.form.specs.Reading.{One, Run, Inside, heldOne, hasName, leafAt, leafOne, elements, entries, listAt, compoundAt, containerAt, payloadBy, insideAt}

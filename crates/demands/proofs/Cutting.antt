@@ -17,11 +17,12 @@ use Rattle.form.specs.Table.{Forest, none, node, size, width, _⊕_, holds, val
 use Rattle.form.specs.Reading.{One, Run, Inside, Span, ListHead, Entry, end, named, heldOne, stringAt, entryAt, listHeadAt, elements, entries, insideAt, documentAt}
 use Rattle.form.specs.Cut.{Kept, nothing, whole, openHead, opened, keptEntries, begunAt, keptOf, documentOf}
 use Rattle.form.proofs.Answer.{got-no}
+use Rattle.form.proofs.Picks.{differ}
 use Rattle.form.proofs.Fields.{string-within}
 use Rattle.form.proofs.Payloads.{payload-name}
 use Rattle.form.proofs.Values.{many-is}
 use Rattle.form.proofs.Accepted.{elements-parts, elements-width, Entries as EntriesParts, EntriesBy, entries-parts, payload-parts, list-parts, compound-parts, root-parts}
-use Rattle.form.proofs.Cut.{not-both, begun-element, no-element, no-entry, begun-entry, no-list, begun-compound, RootCut, KeptIs, kept-is}
+use Rattle.form.proofs.Cut.{not-both, begun-compound, RootCut, KeptIs, kept-is}
 use Rattle.demands.specs.Reading.{Bytes}
 use Rattle.demands.specs.Rescue.{counts, cutTag, cutTags, cutEntries, cutDocument, manyEntries, tagLines, elementLines, entryLines, documentLines}
 use Rattle.demands.proofs.Tests.{and-both, and-left-false, and-right-false}
@@ -320,7 +321,7 @@ module _ (doc rest : List ℕ) (wf : StringLaw) (bytes : Bytes (doc ++ rest)) (r
       lost (rw (z .1, k .0, k .1) (lt-leb (length (payload (tagOf all y))) (length doc - at) (omega (arith, z .0)))) refl
     where
       or-false : (a b : Bool) → (a || b) ≡ false → (a ≡ false) × (b ≡ false)
-      or-false true b e = absurd (let z : _≡_ {A = ℕ} 0 1 = cc in omega arith)
+      or-false true b e = differ e
       or-false false b e = (refl, e)
 
   open-compound-is : (d name len at n : ℕ) (k : Kept) → Entered d at (n + 1) none k → Begun (suc d) 10 name len at n (opened 10 name len n 0 k)

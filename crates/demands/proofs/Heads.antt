@@ -14,6 +14,7 @@ use Rattle.form.specs.Numbers.{bytesOf}
 use Rattle.form.specs.Tree.{Tags, nil, more, many, Text}
 use Rattle.form.specs.Layout.{stringBytes, ListId, listId}
 use Rattle.form.specs.Reading.{Span, ListHead, Entry, end, named, byteAt, numberAt, stringAt, entryAt, listHeadAt}
+use Rattle.form.proofs.Picks.{differ, and-left, and-right}
 use Rattle.form.proofs.Fields.{entry-got, list-head-empty, list-head-got}
 use Rattle.text_form.specs.Lexing.{among}
 use Rattle.demands.specs.Reading.{Bytes}
@@ -51,20 +52,12 @@ module _ (doc : List ℕ) where
             (some (eqb n 0) k z, omega (arith, w));
       })))))
     where
-      and-left : (a b : Bool) → (a && b) ≡ true → a ≡ true
-      and-left true b e = refl
-      and-left false b e = e
-
-      and-right : (a b : Bool) → (a && b) ≡ true → b ≡ true
-      and-right true b e = e
-      and-right false b e = let z : _≡_ {A = ℕ} 0 1 = cc in absurd (omega arith)
-
       or-left : (a b : Bool) → b ≡ false → (a || b) ≡ true → a ≡ true
       or-left true b p e = refl
       or-left false b p e = sym p ∙ e
 
       some : (t : Bool) (k : ℕ) → t ≡ false → _≡_ {A = ℕ} (elim t [ true ↦ 0 | false ↦ k ]) k
-      some true k e = let z : _≡_ {A = ℕ} 0 1 = cc in absurd (omega arith)
+      some true k e = differ e
       some false k e = refl
 
   -- an entry's kind and name that were read
@@ -111,7 +104,8 @@ module _ (doc : List ℕ) where
       let c = 1 + many ts in
       let b = sits-head id (bytesOf 4 c) s in
       let k = kind-range t in
-      list-head-got doc at (b .0) (number-read doc 4 c (omega arith) (sits-rest (id ∷ []) (bytesOf 4 c) s)) (omega (arith, b .1, l)) (λ z. absurd (omega (arith, b .1, l, k))) (λ z. absurd (omega arith)) h
+      let r = number-read doc 4 c (omega arith) (sits-rest (id ∷ []) (bytesOf 4 c) s) in
+      list-head-got doc at (b .0) r (omega (arith, b .1, l)) (λ z. absurd (omega (arith, b .1, l, k))) (λ z. absurd (omega arith)) h
       ∙ ap (λ q. got (record { kind = q; count = c })) (b .1 ∙ l)
 
   -- an entry's head: its kind, and its name behind the length

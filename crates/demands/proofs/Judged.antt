@@ -12,7 +12,8 @@ use lib.ListN.{length}
 use Rattle.form.specs.Answer.{Out, got, no, guard, _>>_, documentLimit, recordLimit, depthLimit, stringLimit}
 use Rattle.form.specs.Spans.{part}
 use Rattle.form.specs.Decoding.{verdictBy, walk}
-use Rattle.form.specs.Tree.{Tag, Tags, Entries, list, compound, kindOf, tagCount, tagsCount, entriesCount, depth, tagsDepth, entriesDepth, Text, hasEntry, OneKind, Alike, Valid, ValidTags, ValidEntries, Lawful}
+use Rattle.form.specs.Tree.{Tag, Tags, Entries, list, compound, kindOf, tagCount, tagsCount, entriesCount, depth, tagsDepth}
+use Rattle.form.specs.Tree.{entriesDepth, Text, hasEntry, OneKind, Alike, Valid, ValidTags, ValidEntries, Lawful}
 use Rattle.form.specs.Table.{Head, Forest, none, node, size, _⊕_, widthOf, holds, valueBy, tagsOf, entriesOf, valueOf}
 use Rattle.form.specs.Tables.{Fair, LeafIs, ContainerIs, NameIs, firstKind, leafFits}
 use Rattle.form.specs.Reading.{hasName}
@@ -20,6 +21,7 @@ use Rattle.form.specs.Writing.{stringFine, payloadFine, judged}
 use Rattle.form.proofs.Answer.{got-no, guard-got}
 use Rattle.form.proofs.Places.{value-bytes}
 use Rattle.form.proofs.Spans.{part-length}
+use Rattle.form.proofs.Picks.{differ}
 use Rattle.form.proofs.Table.{width-le-size}
 use Rattle.form.proofs.EachKind.{by-kind}
 use Rattle.form.proofs.Leaves.{LeafSort, number, string, array, leaf-sort, array-kind, held-kind, fits-held}
@@ -40,9 +42,6 @@ then-got (no n p) r e = absurd (got-no (sym e))
 guard-true : (t : Bool) (n p : ℕ) → guard t n p ≡ got tt → t ≡ true
 guard-true true n p e = refl
 guard-true false n p e = absurd (got-no (sym e))
-
-differ : {A : Type 0} → true ≡ false → A
-differ e = let z : _≡_ {A = ℕ} 0 1 = cc in absurd (omega arith)
 
 module _ (doc : List ℕ) where
   -- ---- strings
@@ -73,7 +72,8 @@ module _ (doc : List ℕ) where
         (h .kind) lo hi refl n
 
     -- and is valid, where a string is well formed
-    leaf-valid : Bytes doc → length doc ≤ documentLimit → h .start + h .size ≤ length doc → leafFits (h .kind) (h .size) (h .count) ≡ true → (h .kind ≡ 8 → Text (part doc (h .start) (h .size))) → Valid value
+    leaf-valid : Bytes doc → length doc ≤ documentLimit → h .start + h .size ≤ length doc → leafFits (h .kind) (h .size) (h .count) ≡ true
+        → (h .kind ≡ 8 → Text (part doc (h .start) (h .size))) → Valid value
     unfolding valueBy Valid widthOf
     leaf-valid bytes few w f t = go (leaf-sort (h .kind) (h .size) (h .count) f)
       where

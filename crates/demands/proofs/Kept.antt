@@ -14,9 +14,8 @@ use Rattle.form.specs.Table.{Head, Forest, none, node, size, width, _⊕_, valu
 use Rattle.form.specs.Tables.{LeafIs, ContainerIs, Fair}
 use Rattle.form.specs.Reading.{One, Span, hasName}
 use Rattle.form.specs.Cut.{Kept, nothing, openHead}
-use Rattle.form.proofs.Tables.{fair-node, fair-none}
+use Rattle.form.proofs.Tables.{fair-node, fair-none, name-within}
 use Rattle.form.proofs.Values.{kind-is, fair-kind, many-is}
-use Rattle.form.proofs.Cut.{begun-element, no-element, no-entry, begun-entry, no-list}
 use Rattle.demands.proofs.Answers.{of-got}
 use Rattle.demands.proofs.Names.{Apart, apart-back}
 use Rattle.demands.proofs.Induction.{HeadOf, TagWhole, Rules}
@@ -97,8 +96,7 @@ module _ (doc : List ℕ) (room : ℕ) where
       let word : part doc (h .name) (h .name-length) ≡ part doc name len = rw (g .name-is, g .len-is) refl in
       let b = apart-back doc earlier h inner (part doc name len) word (tagAt h inner) (entriesOf doc later) (i .new) (r .apart) in
       record {
-        fair = fair-node (length doc) false h inner later
-            (record { within = omega (arith, g .name-is, g .len-is, i .within); nameless = λ f. absurd (let z : _≡_ {A = ℕ} 0 1 = cc in omega arith) }) (g .sort) (g .fair) (r .fair);
+        fair = fair-node (length doc) false h inner later (name-within _ h (omega (arith, g .name-is, g .len-is, i .within))) (g .sort) (g .fair) (r .fair);
         valid = rw word (i .text, b .1, g .valid, r .valid);
         apart = rw word (b .0);
         deep = omega (arith, g .deep, r .deep);

@@ -122,7 +122,9 @@ module _ (doc : List ℕ) where
     ints-laid w p n at l = (sym (ints-back doc bytes w n at l), ints-fit doc bytes w n at p l, ints-count doc w n at)
 
     -- a leaf of a fixed width
-    fixed-sound : (kind at w : ℕ) → ((name len : ℕ) → at + w ≤ length doc → Leaf kind (part doc at w) (valueBy doc (leafHead kind name len (record { start = at; size = w; count = 0; next = at + w })) nil ended))
+    fixed-sound : (kind at w : ℕ)
+        → ((name len : ℕ) → at + w ≤ length doc
+        → Leaf kind (part doc at w) (valueBy doc (leafHead kind name len (record { start = at; size = w; count = 0; next = at + w })) nil ended))
         → Answers Numbered (LaidAs kind at) (bytesAt doc w 0 at)
     fixed-sound kind at w f =
         weaker (bytesAt doc w 0 at) (bytes-sound doc w 0 at)

@@ -8,11 +8,11 @@ use lib.ListN.{length, length-append}
 use Rattle.form.specs.Answer.{got}
 use Rattle.form.specs.Spans.{part}
 use Rattle.form.specs.Layout.{stringBytes, payload, elementBytes, entryBytes, layout}
-use Rattle.form.specs.Table.{Forest, none, node, size, valueBy, tagsOf, entriesOf}
-use Rattle.form.specs.Reading.{One, Span, named}
+use Rattle.form.specs.Table.{Forest, none, node, valueBy, tagsOf, entriesOf}
+use Rattle.form.specs.Reading.{One, Span}
 use Rattle.form.specs.Cut.{Kept, nothing, whole, openHead, opened, keptEntries, begunAt, keptOf, documentOf}
 use Rattle.form.proofs.Fields.{string-within}
-use Rattle.form.proofs.Cut.{begun-element, no-element, no-entry, begun-entry, no-list, begun-compound, kept-is}
+use Rattle.form.proofs.Cut.{begun-compound, kept-is}
 use Rattle.demands.specs.Reading.{Bytes}
 use Rattle.demands.proofs.Answers.{of-got}
 use Rattle.demands.proofs.Tags.{tagOf, readAt}

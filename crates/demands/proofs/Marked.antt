@@ -9,13 +9,16 @@ use Rattle.form.specs.Decoding.{twoOf, threeOf, fourOf, unitOf, utf8Of, pairOf,
 use Rattle.form.specs.Tree.{kindOf, many}
 use Rattle.form.specs.Layout.{intsBytes, payload, elementBytes, entryBytes, layout}
 use Rattle.form.specs.Table.{size, width, _⊕_, flat, widthOf, valueBy, tagsOf, entriesOf}
-use Rattle.form.specs.Reading.{hasName, byteAt, bytesAt, numberAt, stringAt, countAt, arrayAt, leafAt, leafOne, listHeadAt, entryAt, elements, entries, listAt, compoundAt, containerAt, payloadBy, insideAt, documentAt}
+use Rattle.form.specs.Reading.{hasName, byteAt, bytesAt, numberAt, stringAt, countAt, arrayAt, leafAt, leafOne, listHeadAt, entryAt}
+use Rattle.form.specs.Reading.{elements, entries, listAt, compoundAt, containerAt, payloadBy, insideAt, documentAt}
 use Rattle.form.specs.Writing.{stringFine, payloadFine, judged, written}
 use Rattle.form.specs.Paths.{oneThen, someTail, fits, tagPaths, itemPaths, entryPaths, paths, which, matches}
 use Rattle.form.specs.Query.{stepBy, stepAt, stepsAt, spelt, shallow, asked}
 use Rattle.text_form.specs.Numbers.{has, before, behind, digits as decimalDigits, worth, wholeOf, wholeNumber, decimalOf, decimalNumber, number}
-use Rattle.text_form.specs.Lexing.{among, after, slurp, word, hexOf, hexes, escapeOf, quotedBy, quoted, skipBy, skip, unquotedAt, quotedAt, tokenBy, tokenAt, judgedText, lexed, frontOf, scalarsBy, contentOf, content}
-use Rattle.text_form.specs.Text.{known, due, following, stringOf, scalarTag, scalarValue, intsBy, arrayAt as textArrayAt, elementsBy, listFrom, listAt as textListAt, squareAt, keyOf, colonAt, closeAt, entryAt as textEntryAt, entriesBy, compoundAt as textCompoundAt, valueBy as textValueBy, valueAt, parsed}
+use Rattle.text_form.specs.Lexing.{among, after, slurp, word, hexOf, hexes, escapeOf, quotedBy, quoted, skipBy, skip, unquotedAt}
+use Rattle.text_form.specs.Lexing.{quotedAt, tokenBy, tokenAt, judgedText, lexed, frontOf, scalarsBy, contentOf, content}
+use Rattle.text_form.specs.Text.{known, due, following, stringOf, scalarTag, scalarValue, intsBy, arrayAt as textArrayAt, elementsBy, listFrom, listAt as textListAt, squareAt}
+use Rattle.text_form.specs.Text.{keyOf, colonAt, closeAt, entryAt as textEntryAt, entriesBy, compoundAt as textCompoundAt, valueBy as textValueBy, valueAt, parsed}
 use Rattle.demands.specs.Marked.{ascii, bytesIn, records, AreMarked}
 
 pub marked : AreMarked

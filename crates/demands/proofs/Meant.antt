@@ -20,22 +20,22 @@ use Rattle.form.specs.Layout.{stringBytes, intBytes, intsBytes, payload, elemen
 use Rattle.form.proofs.Answer.{guard-got}
 use Rattle.form.proofs.Digits.{digits-length}
 use Rattle.text_form.specs.Numbers.{Number, byte, short, int, long, float, double}
-use Rattle.text_form.specs.Lexing.{among, Stops, default, key, value, first, later, Token, openCurly, closedCurly, openSquare, closedSquare, comma, colon, semicolon, string, numeral, TokenData, Lexed, found, ended, tokenAt, contentOf, judgedText}
-use Rattle.text_form.specs.Text.{Value, Row, Ints, Block, Next, Then, goesOn, closes, Last, otherwise, afterComma, noComma, Reads, signOf, orElse, inRange, ranged, numberTag, arrayWidth, wholeIn, elementInt, arrayTag, known, fits, due, following, stringOf, scalarTag, scalarValue, intsBy, arrayAt, elementsBy, listFrom, listAt, letterWidth, Opened, anArray, aList, withSemicolon, openedBy, squareAt, keyOf, colonAt, closeAt, behind, entryAt, entriesBy, compoundAt, valueBy, valueAt, parsed}
+use Rattle.text_form.specs.Lexing.{among, Stops, default, key, value, first, later, Token, openCurly, closedCurly, openSquare, closedSquare, comma}
+use Rattle.text_form.specs.Lexing.{colon, semicolon, string, numeral, TokenData, Lexed, found, ended, tokenAt, contentOf, judgedText}
+use Rattle.text_form.specs.Text.{Value, Row, Ints, Block, Next, Then, goesOn, closes, Last, otherwise, afterComma, noComma, Reads, signOf, orElse, inRange, ranged, numberTag, arrayWidth}
+use Rattle.text_form.specs.Text.{wholeIn, elementInt, arrayTag, known, due, following, stringOf, scalarTag, scalarValue, intsBy, arrayAt, elementsBy, listFrom, listAt, letterWidth, Opened}
+use Rattle.text_form.specs.Text.{anArray, aList, withSemicolon, openedBy, squareAt, keyOf, colonAt, closeAt, behind, entryAt, entriesBy, compoundAt, valueBy, valueAt, parsed}
 use Rattle.text_form.proofs.Gives.{Gives, gives-got, gives-no, gives-bind, gives-guard, gives-then, gives-pick, gives-elim, gives-also, gives-all}
 use Rattle.text_form.proofs.Contents.{content-formed}
 use Rattle.text_form.proofs.Carried.{double-bits, single-bits}
 use Rattle.text_form.proofs.Tokens.{TokenHeld, whole-any, LexedFine, NextFine, token-fine, or-fine, due-fine}
 use Rattle.demands.specs.Numbers.{parseNumbers}
-use Rattle.form.proofs.Picks.{and-right}
+use Rattle.form.proofs.Picks.{differ, and-right}
 use Rattle.demands.proofs.Tags.{kind-range}
 use Rattle.demands.proofs.Names.{same-self}
 use Rattle.form.proofs.Spans.{same-true}
 
 -- ---- tests
-
-differ : {A : Type 0} → true ≡ false → A
-differ e = let z : _≡_ {A = ℕ} 0 1 = cc in absurd (omega arith)
 
 -- an integer in the range of w bytes fits them
 in-range : (w : ℕ) (z : ℤ) → inRange w z ≡ true → FitsIn w z
@@ -474,7 +474,8 @@ module _ (t : List ℕ) (room : ℕ) where
           (λ r w. gives-got (more-entries earlier p (x .next) u e r (omega (arith, h .1)) k w))))))
         where
           rest : (e : List ℕ × Value) (s : Then) → ThenIn (e .1 .next) s
-              → ((i n : ℕ) → e .1 .next < n → n ≤ length t → Gives parseNumbers (BlockFine (left - 1) n (e .1 .used) (e .0 ∷ earlier)) (entriesBy t room f val brace (e .0 ∷ earlier) (afterComma i) n (e .1 .used)))
+              → ((i n : ℕ) → e .1 .next < n → n ≤ length t
+              → Gives parseNumbers (BlockFine (left - 1) n (e .1 .used) (e .0 ∷ earlier)) (entriesBy t room f val brace (e .0 ∷ earlier) (afterComma i) n (e .1 .used)))
               → Gives parseNumbers (BlockFine (left - 1) (e .1 .next) (e .1 .used) (e .0 ∷ earlier))
               (behind t room (λ i n. entriesBy t room f val brace (e .0 ∷ earlier) (afterComma i) n (e .1 .used)) (e .1 .used) s)
           rest e (closes i n) j ih = close-fine i (e .1 .next) n (e .1 .used) (e .0 ∷ earlier) (omega (arith, j .0)) (j .1)

@@ -4,16 +4,13 @@ use Prim.Native.Nat.{ℕ}
 use mathlib.Core.List.{List, [], _∷_}
 use mathlib.Core.Bool.{Bool, true, false, _||_}
 use mathlib.Core.Path.{_≡_, refl, sym, ap, _∙_}
-use native.Mathlib.Omega.{arith}
 use borrow.Author.Tests.{eq-eqb}
 use Rattle.form.specs.Spans.{part, same}
 use Rattle.form.specs.Tree.{Tag, Entries, entry, hasEntry}
 use Rattle.form.specs.Table.{Head, Forest, none, node, _⊕_}
 use Rattle.form.specs.Reading.{hasName}
 use Rattle.form.proofs.Spans.{same-true}
-
-true-false : {A : Type 0} → true ≡ false → A
-true-false e = let z : _≡_ {A = ℕ} 0 1 = cc in absurd (omega arith)
+use Rattle.form.proofs.Picks.{differ, or-assoc}
 
 pub same-self : (xs : List ℕ) → same xs xs ≡ true
 unfolding same
@@ -27,7 +24,7 @@ module _ (doc : List ℕ) where
 
   pub apart-none : (es : Entries) → Apart none es
   unfolding hasName
-  apart-none es x e = true-false (sym e)
+  apart-none es x e = differ (sym e)
 
   has-more : (x : List ℕ) (f : Forest) (h : Head) (i : Forest) → hasName doc x (f ⊕ node h i none) ≡ (hasName doc x f || same (part doc (h .name) (h .name-length)) x)
   unfolding hasName _⊕_
@@ -37,14 +34,10 @@ module _ (doc : List ℕ) where
       or-false true = refl
       or-false false = refl
   has-more x (node g j later) h i = ap (λ b. same (part doc (g .name) (g .name-length)) x || b) (has-more x later h i)
-      ∙ or-assoc (same (part doc (g .name) (g .name-length)) x) (hasName doc x later) (same (part doc (h .name) (h .name-length)) x)
-    where
-      or-assoc : (a b c : Bool) → (a || (b || c)) ≡ ((a || b) || c)
-      or-assoc true b c = refl
-      or-assoc false b c = refl
+      ∙ sym (or-assoc (same (part doc (g .name) (g .name-length)) x) (hasName doc x later) (same (part doc (h .name) (h .name-length)) x))
 
   or-right : (a b : Bool) → (a || b) ≡ false → b ≡ false
-  or-right true b e = true-false e
+  or-right true b e = differ e
   or-right false b e = e
 
   or-true : (a b : Bool) → b ≡ true → (a || b) ≡ true
@@ -58,7 +51,7 @@ module _ (doc : List ℕ) where
     where
       go : (b : Bool) → hasName doc name earlier ≡ b → b ≡ false
       go false p = refl
-      go true p = true-false (sym (rw (same-self name) refl) ∙ a name p)
+      go true p = differ (sym (rw (same-self name) refl) ∙ a name p)
 
   module _ (earlier : Forest) (h : Head) (i : Forest) (name : List ℕ) (is : part doc (h .name) (h .name-length) ≡ name) (t : Tag) (es : Entries) where
     -- those after it stand apart from it too
@@ -76,5 +69,5 @@ module _ (doc : List ℕ) where
     apart-back new a = (λ x p. go x p (same name x) refl, a name (has-more name earlier h i ∙ or-true (hasName doc name earlier) _ (rw is (same-self name))))
       where
         go : (x : List ℕ) → hasName doc x earlier ≡ true → (b : Bool) → same name x ≡ b → (b || hasEntry x es) ≡ false
-        go x p true q = let n = same-true name x q in true-false (sym p ∙ rw (← n) new)
+        go x p true q = let n = same-true name x q in differ (sym p ∙ rw (← n) new)
         go x p false q = a x (has-more x earlier h i ∙ rw p refl)

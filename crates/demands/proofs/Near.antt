@@ -14,6 +14,7 @@ use Rattle.form.specs.Numbers.{bytesOf}
 use Rattle.form.specs.Tree.{Tag, Tags, Entries, byte, short, int, long, float, double, byteArray, string, list, compound, intArray, longArray, nil, more, ended, entry, kindOf, many}
 use Rattle.form.specs.Layout.{stringBytes, ListId, listId, Payload, Elements, EntryBytes, payload, elementBytes, entryBytes, layout}
 use Rattle.form.proofs.Digits.{digits-length}
+use Rattle.form.proofs.Picks.{differ}
 use Rattle.demands.specs.Writing.{isNil, idIn, elementIdIn, entryIdIn, Near, IsNear}
 use Rattle.demands.proofs.Fields.{string-length}
 
@@ -43,7 +44,7 @@ head-near : (ts : Tags) (id : ℕ) → ListId ts id → Near (λ k. eqb k 0 && i
 head-near nil id i = record { long = refl; same = go }
   where
     go : (k : ℕ) → (eqb k 0 && true) ≡ false → getD (id ∷ bytesOf 4 (many nil)) k 0 ≡ getD (listId nil ∷ bytesOf 4 (many nil)) k 0
-    go zero z = let y : _≡_ {A = ℕ} 0 1 = cc in absurd (omega arith)
+    go zero z = differ z
     go (suc k) z = refl
 head-near (more t ts) id i = near-is _ (ap (λ b. b ∷ bytesOf 4 (many (more t ts))) i)
 

@@ -86,18 +86,22 @@ module _ (f : List Hop → Bool) where
       go false h = h
 
   -- A number that is listed is that of a path of which f holds.
-  listed-fits : (k n : ℕ) (ps : List (List Hop)) → Among k (which f n ps) → (n ≤ k) × ((p : List Hop) × PathAt ps (k - n) p × (f p ≡ true))
+  abbrev Listed : ℕ → ℕ → List (List Hop) → Type 0
+  Listed k n ps = (n ≤ k) × ((p : List Hop) × PathAt ps (k - n) p × (f p ≡ true))
+
+  listed-fits : (k n : ℕ) (ps : List (List Hop)) → Among k (which f n ps) → Listed k n ps
   unfolding which
   listed-fits k n [] a = absurd a
   listed-fits k n (x ∷ xs) a = go (f x) refl (λ b. later (listed-fits k (suc n) xs b)) a
     where
-      later : (suc n ≤ k) × ((p : List Hop) × PathAt xs (k - suc n) p × (f p ≡ true)) → (n ≤ k) × ((p : List Hop) × PathAt (x ∷ xs) (k - n) p × (f p ≡ true))
+      later : Listed k (suc n) xs → Listed k n (x ∷ xs)
       later r =
           let le = r .0 in
           let e : suc (k - suc n) ≡ k - n = omega arith in
           (omega arith, (r .1 .0, subst (λ (j : ℕ). PathAt (x ∷ xs) j (r .1 .0)) e (r .1 .1), r .1 .2))
 
-      go : (b : Bool) → f x ≡ b → (Among k (which f (suc n) xs) → (n ≤ k) × ((p : List Hop) × PathAt (x ∷ xs) (k - n) p × (f p ≡ true))) → Among k (elim b [ true ↦ n ∷ which f (suc n) xs | false ↦ which f (suc n) xs ]) → (n ≤ k) × ((p : List Hop) × PathAt (x ∷ xs) (k - n) p × (f p ≡ true))
+      go : (b : Bool) → f x ≡ b → (Among k (which f (suc n) xs) → Listed k n (x ∷ xs))
+          → Among k (elim b [ true ↦ n ∷ which f (suc n) xs | false ↦ which f (suc n) xs ]) → Listed k n (x ∷ xs)
       go true h ih (inl e) = let z : 0 ≡ k - n = omega arith in (omega arith, (x, subst (λ (j : ℕ). PathAt (x ∷ xs) j x) z refl, h))
       go true h ih (inr b) = ih b
       go false h ih b = ih b

@@ -20,7 +20,7 @@ use Rattle.form.specs.Cut.{Kept, Rescue, openHead, begunAt, keptOf, documentOf,
 use Rattle.form.proofs.Strings.{wellFormed-iff}
 use Rattle.form.proofs.Fields.{string-within}
 use Rattle.form.proofs.Table.{size-one, flat-length}
-use Rattle.form.proofs.Tables.{fair-node, fair-none, fair-inner}
+use Rattle.form.proofs.Tables.{fair-node, fair-none, fair-inner, name-within}
 use Rattle.form.proofs.Cut.{not-both, kept-is, kept-of, begun-compound, rescued-accepted, rescued-other, rescued-root, rescued-short, rescued-full, rescued-saved}
 use Rattle.form.proofs.Agrees.{Agrees, agrees-got, agrees-other}
 use Rattle.form.proofs.Accepted.{root-parts}
@@ -63,7 +63,7 @@ unfolding Valid depth valueBy
 root-whole doc room name len k inner few small w text e g =
     let h = openHead 10 name len inner in
     let fair : Fair (length doc) false (node h inner none) =
-    fair-node (length doc) false h inner none (record { within = w; nameless = λ f. absurd (let z : _≡_ {A = ℕ} 0 1 = cc in omega arith) }) (g .sort) (g .fair) (fair-none (length doc) false) in
+    fair-node (length doc) false h inner none (name-within (length doc) h w) (g .sort) (g .fair) (fair-none (length doc) false) in
     record {
       head = h;
       inner = inner;

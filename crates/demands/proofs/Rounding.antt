@@ -19,7 +19,8 @@ use Rattle.text_form.specs.Numbers.{byte, short, int, long, float, double, isLe
 use Rattle.text_form.proofs.Gives.{Gives, ofNumber, gives-got, gives-no, gives-pick, gives-it}
 use Rattle.text_form.proofs.Carried.{Carries, number-carries}
 use Rattle.text_form.proofs.Nearest as nearest
-use Rattle.demands.specs.Rounding.{IsOneRounding, belowZero, IsWholeRounded, IsWholeZero, numerator, denominator, IsNearestRounded, IsDecimalRounded, IsSingleRounded, IsSingleInfinite, IsNeverNan, AreWholeTies, IsTenth, AreSingleEdges, AreWrongRefused}
+use Rattle.demands.specs.Rounding.{IsOneRounding, belowZero, IsWholeRounded, IsWholeZero, numerator, denominator, IsNearestRounded, IsDecimalRounded}
+use Rattle.demands.specs.Rounding.{IsSingleRounded, IsSingleInfinite, IsNeverNan, AreWholeTies, IsTenth, AreSingleEdges, AreWrongRefused}
 
 pub one-rounding : IsOneRounding
 one-rounding = nearest.one-rounding

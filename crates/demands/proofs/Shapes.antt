@@ -15,12 +15,10 @@ use Rattle.form.specs.Tree.{Tag, Tags, Entries, byteArray, string, list, compou
 use Rattle.form.specs.Table.{Head, Forest, none, node, width, widthOf, holds, isArray, intsAt, valueBy, tagsOf, entriesOf}
 use Rattle.form.specs.Tables.{LeafIs, ContainerIs, NameIs, Fair, firstKind}
 use Rattle.form.proofs.Spans.{part-length}
+use Rattle.form.proofs.Picks.{differ}
 use Rattle.form.proofs.Leaves.{LeafSort, number, string as text, array, leaf-sort, array-kind, held-kind, fits-held}
 use Rattle.form.proofs.Values.{ints-count, kind-is, fair-kind}
 use Rattle.demands.specs.Rescue.{SameBut}
-
-differ : {A : Type 0} → true ≡ false → A
-differ e = let z : _≡_ {A = ℕ} 0 1 = cc in absurd (omega arith)
 
 -- as many side by side, and a first of the same kind
 same-width : (f g : Forest) → SameBut f g → width f ≡ width g

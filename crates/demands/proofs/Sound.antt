@@ -14,7 +14,8 @@ use Rattle.form.specs.Numbers.{bytesOf}
 use Rattle.form.specs.Tree.{Tag, Tags, nil, more, kindOf, many, tagCount, tagsCount, entriesCount, depth, tagsDepth, entriesDepth, hasEntry, OneKind, Alike, Valid, ValidTags, ValidEntries}
 use Rattle.form.specs.Layout.{stringBytes, ListId, Payload, Elements, EntryBytes}
 use Rattle.form.specs.Table.{Forest, none, node, size, _⊕_, holds, valueBy, tagsOf, entriesOf}
-use Rattle.form.specs.Reading.{One, Run, Inside, Span, ListHead, Entry, end, named, heldOne, before, hasName, entryAt, listHeadAt, leafAt, leafOne, elements, entries, listAt, compoundAt, containerAt, payloadBy, insideAt}
+use Rattle.form.specs.Reading.{One, Run, Inside, Span, ListHead, Entry, end, named, heldOne, before, hasName, entryAt, listHeadAt}
+use Rattle.form.specs.Reading.{leafAt, leafOne, elements, entries, listAt, compoundAt, containerAt, payloadBy, insideAt}
 use Rattle.form.proofs.Digits.{digits-length}
 use Rattle.text_form.specs.Lexing.{among}
 use Rattle.demands.specs.Reading.{Bytes}
@@ -102,7 +103,8 @@ module _ (doc : List ℕ) (wf : StringLaw) (bytes : Bytes doc) (room : ℕ) wher
   Sounds d = (name len at n kind : ℕ) → 0 < kind → kind ≤ 12 → at ≤ length doc → Answers Numbered (TagSound doc room d kind name len at n) (readAt doc room d kind name len at n)
 
   module _ (d : ℕ) (P : Sounds d) where
-    more-tags : (k c at n : ℕ) (x : One) (r : Run) → TagSound doc room d k 0 0 at n x → TagsSound doc room d k c (x .next) (n + 1 + size (x .inner)) r → TagsSound doc room d k (suc c) at n (before x r)
+    more-tags : (k c at n : ℕ) (x : One) (r : Run) → TagSound doc room d k 0 0 at n x → TagsSound doc room d k c (x .next) (n + 1 + size (x .inner)) r
+        → TagsSound doc room d k (suc c) at n (before x r)
     unfolding Elements Valid OneKind depth tagCount many tagsOf size
     more-tags k c at n x r t w = record {
       bs = t .bs ++ w .bs;
@@ -162,7 +164,12 @@ module _ (doc : List ℕ) (wf : StringLaw) (bytes : Bytes doc) (room : ℕ) wher
           fits = omega (arith, w .fits);
         }
 
-    entries-sound : (fuel at n : ℕ) (earlier : Forest) → at ≤ length doc → length doc < fuel + at → n ≤ room → Answers Numbered (EntriesSound doc room d at n earlier) (entries doc (readAt doc room d) fuel earlier at n)
+    -- what reading entries gives, with so much fuel
+    abbrev EntriesBy : ℕ → Type 0
+    EntriesBy fuel = (at n : ℕ) (earlier : Forest) → at ≤ length doc → length doc < fuel + at → n ≤ room
+        → Answers Numbered (EntriesSound doc room d at n earlier) (entries doc (readAt doc room d) fuel earlier at n)
+
+    entries-sound : (fuel : ℕ) → EntriesBy fuel
     unfolding entries EntryBytes Valid depth tagCount entriesOf size hasEntry among
     entries-sound zero at n earlier l f r = absurd (omega arith)
     entries-sound (suc fuel) at n earlier l f r = bind-answers (entryAt doc at) _ (entry-sound doc wf bytes at) (go (entries-sound fuel))
@@ -174,8 +181,7 @@ module _ (doc : List ℕ) (wf : StringLaw) (bytes : Bytes doc) (room : ℕ) wher
               >>= (λ x. entries doc (readAt doc room d) fuel (earlier ⊕ node (x .head) (x .inner) none) (x .next) (n + 1 + size (x .inner)) >>= (λ r. got (before x r))))
         ]
 
-        go : ((at n : ℕ) (earlier : Forest) → at ≤ length doc → length doc < fuel + at → n ≤ room → Answers Numbered (EntriesSound doc room d at n earlier) (entries doc (readAt doc room d) fuel earlier at n))
-            → (e : Entry) → EntryIs doc at e → Answers Numbered (EntriesSound doc room d at n earlier) (rest e)
+        go : EntriesBy fuel → (e : Entry) → EntryIs doc at e → Answers Numbered (EntriesSound doc room d at n earlier) (rest e)
         go ih end i = got-answers (record {
           bs = 0 ∷ [];
           sits = i;
@@ -207,13 +213,14 @@ module _ (doc : List ℕ) (wf : StringLaw) (bytes : Bytes doc) (room : ℕ) wher
         held h i r w =
             let hd = i .id ∷ bytesOf 4 (h .count) in
             let five : at + length hd ≡ at + 5 = omega (arith, digits-length 4 (h .count)) in
+            let id-is = list-id (h .kind) (i .id) (tagsOf doc (r .forest)) (w .one-kind) (i .id-le) (λ p. i .some-is (omega (arith, w .many-is, p)) .0) in
             record {
               bs = hd ++ w .bs;
               sits = sits-join hd (w .bs) (i .sits) (rw five (w .sits));
               next = omega (arith, w .next, length-append (bytesOf 4 (h .count)) (w .bs), digits-length 4 (h .count));
               is = λ name len. record {
                 kind-is = refl;
-                lays = (i .id, w .bs, list-id (h .kind) (i .id) (tagsOf doc (r .forest)) (w .one-kind) (i .id-le) (λ p. i .some-is (omega (arith, w .many-is, p)) .0), w .lays, ap (λ c. i .id ∷ bytesOf 4 c ++ w .bs) (sym (w .many-is)));
+                lays = (i .id, w .bs, id-is, w .lays, ap (λ c. i .id ∷ bytesOf 4 c ++ w .bs) (sym (w .many-is)));
                 valid = (alike (h .kind) (tagsOf doc (r .forest)) (w .one-kind), omega (arith, w .many-is, i .small), w .valid);
                 deep = omega (arith, w .deep);
                 counts = omega (arith, w .counts);
@@ -245,7 +252,7 @@ module _ (doc : List ℕ) (wf : StringLaw) (bytes : Bytes doc) (room : ℕ) wher
         sits = w .sits;
         next = w .next;
         is = record { kind-is = f .kind-is; lays = f .lays; valid = f .valid; deep = omega (arith, f .flat); counts = f .alone };
-        fits = let l = ltb-true n room e in omega arith;
+        fits = omega (arith, ltb-true n room e);
         kind-is = refl;
         name-is = refl;
         len-is = refl;

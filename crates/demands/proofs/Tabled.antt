@@ -15,8 +15,10 @@ use Rattle.form.specs.Decoding.{wellFormed}
 use Rattle.form.specs.Table.{Head, Forest, none, node, size, width, _⊕_, widthOf, holds}
 use Rattle.form.specs.Tables.{leafFits, firstKind, LeafIs, ContainerIs, NameIs, Fair}
 use Rattle.form.specs.Query.{shallow}
-use Rattle.form.specs.Reading.{One, Run, Inside, Span, ListHead, Entry, end, named, before, hasName, byteAt, bytesAt, numberAt, stringAt, countAt, arrayAt, leafAt, leafOne, listHeadAt, entryAt, elements, entries, listAt, compoundAt, containerAt, payloadBy, insideAt, documentAt}
-use Rattle.form.proofs.Tables.{fair-node, fair-none}
+use Rattle.form.specs.Reading.{One, Run, Inside, Span, ListHead, Entry, end, named, before, hasName, byteAt, bytesAt, numberAt, stringAt, countAt, arrayAt, leafAt}
+use Rattle.form.specs.Reading.{leafOne, listHeadAt, entryAt, elements, entries, listAt, compoundAt, containerAt, payloadBy, insideAt, documentAt}
+use Rattle.form.proofs.Picks.{differ}
+use Rattle.form.proofs.Tables.{fair-node, fair-none, name-within}
 use Rattle.form.proofs.Depths.{shallow-none, shallow-on, shallow-parts, then-got}
 use Rattle.demands.proofs.Answers.{Answers, bind-answers, guard-answers, weaker, got-answers, no-answers}
 use Rattle.demands.proofs.Tags.{readAt}
@@ -88,12 +90,9 @@ module _ (doc : List ℕ) where
     leaf-span kind p q =
         by-kind (λ k. holds k ≡ false → Answers Whatever (LeafSpan k) (leafAt doc k at))
         (λ e. fixed 1 refl) (λ e. fixed 2 refl) (λ e. fixed 3 refl) (λ e. fixed 4 refl) (λ e. fixed 5 refl) (λ e. fixed 6 refl)
-        (λ e. array 7 (λ n. eq-eqb (n * 1) (n * 1) refl)) (λ e. text) (λ e. absurd (wrong e)) (λ e. absurd (wrong e))
+        (λ e. array 7 (λ n. eq-eqb (n * 1) (n * 1) refl)) (λ e. text) (λ e. differ e) (λ e. differ e)
         (λ e. array 11 (λ n. eq-eqb (n * 4) (n * 4) refl)) (λ e. array 12 (λ n. eq-eqb (n * 8) (n * 8) refl))
         kind p q
-      where
-        wrong : true ≡ false → ⊥
-        wrong e = let z : _≡_ {A = ℕ} 0 1 = cc in omega arith
 
   -- ---- heads
 
@@ -130,10 +129,10 @@ module _ (doc : List ℕ) where
 
       some-is : (n k : ℕ) (t : Bool) → eqb n 0 ≡ t → (a : Bool) → leb k 12 ≡ a → (b : Bool) → eqb k 0 ≡ b → (a && (not b || t)) ≡ true → 0 < n
           → (0 < elim t [ true ↦ 0 | false ↦ k ]) × (elim t [ true ↦ 0 | false ↦ k ] ≤ 12)
-      some-is n k true e a f b g h p = absurd (let z = eqb-true n 0 e in omega arith)
+      some-is n k true e a f b g h p = absurd (omega (arith, eqb-true n 0 e))
       some-is n k false e true f false g h p = let z = eqb-false k 0 g in (omega (arith, z), leb-true k 12 f)
-      some-is n k false e true f true g h p = absurd (let z : _≡_ {A = ℕ} 0 1 = cc in omega arith)
-      some-is n k false e false f b g h p = absurd (let z : _≡_ {A = ℕ} 0 1 = cc in omega arith)
+      some-is n k false e true f true g h p = differ (sym h)
+      some-is n k false e false f b g h p = differ (sym h)
 
   -- ---- records
 
@@ -145,6 +144,10 @@ module _ (doc : List ℕ) where
     pub sort : LeafIs (length doc) (x .head) (x .inner) ⊎ ContainerIs (x .head) (x .inner)
     pub inner : Fair (length doc) (eqb (x .head .kind) 9) (x .inner)
     pub deep : (n : ℕ) → shallow d n (node (x .head) (x .inner) none) ≡ got tt
+
+  -- It is no element, where its name is given.
+  tag-name : {d kind name len : ℕ} (x : One) → TagIs d kind name len x → name + len ≤ length doc → NameIs (length doc) false (x .head)
+  tag-name x t w = name-within (length doc) (x .head) (omega (arith, t .name-is, t .len-is, w))
 
   -- Records that were read one after the other; l says whether they are the elements of a list, which are of the kind k.
   pub record RunIs (d : ℕ) (l : Bool) (k c : ℕ) (r : Run) : Type 0 where
@@ -172,12 +175,13 @@ module _ (doc : List ℕ) where
     Reads = (kind name len at n : ℕ) → 0 < kind → kind ≤ 12 → Answers Whatever (TagIs d kind name len) (readAt doc room d kind name len at n)
 
     module _ (P : Reads) where
-      more-run : (l : Bool) (k c kind name len : ℕ) (x : One) (r : Run) → NameIs (length doc) l (x .head) → (l ≡ true → kind ≡ k) → TagIs d kind name len x → RunIs d l k c r → RunIs d l k (suc c) (before x r)
+      more-run : (l : Bool) (k c kind name len : ℕ) (x : One) (r : Run) → NameIs (length doc) l (x .head) → (l ≡ true → kind ≡ k)
+          → TagIs d kind name len x → RunIs d l k c r → RunIs d l k (suc c) (before x r)
       unfolding width firstKind
       more-run l k c kind name len x r m e t w = record {
         fair = fair-node (length doc) l (x .head) (x .inner) (r .forest) m (t .sort) (t .inner) (w .fair);
         deep = λ n. more-deep d n (x .head) (x .inner) (r .forest) (t .deep n) (w .deep);
-        wide = λ f. let z = w .wide f in omega arith;
+        wide = λ f. omega (arith, w .wide f);
         first = λ f p. t .kind-is ∙ e f;
       }
 
@@ -193,7 +197,7 @@ module _ (doc : List ℕ) where
           bind-answers (readAt doc room d k 0 0 at n) _ (P k 0 0 at n (q .0) (q .1))
           (λ x t. bind-answers (elements doc (readAt doc room d) c k (x .next) (n + 1 + size (x .inner))) _
           (elements-are c k (x .next) (n + 1 + size (x .inner)) (λ y. q))
-          (λ r w. got-answers (more-run true k c k 0 0 x r (record { within = let a = t .name-is in let b = t .len-is in omega arith; nameless = λ e. (t .name-is, t .len-is) }) (λ e. refl) t w)))
+          (λ r w. got-answers (more-run true k c k 0 0 x r (record { within = omega (arith, t .name-is, t .len-is); nameless = λ e. (t .name-is, t .len-is) }) (λ e. refl) t w)))
 
       entries-are : (fuel at n : ℕ) (earlier : Forest) → Answers Whatever (RunIs d false 0 0) (entries doc (readAt doc room d) fuel earlier at n)
       unfolding entries
@@ -208,16 +212,17 @@ module _ (doc : List ℕ) where
           ]
 
           plain : {c : ℕ} {r : Run} → RunIs d false 0 c r → RunIs d false 0 0 r
-          plain w = record { fair = w .fair; deep = w .deep; wide = λ e. absurd (let z : _≡_ {A = ℕ} 0 1 = cc in omega arith); first = λ e p. absurd (omega arith) }
+          plain w = record { fair = w .fair; deep = w .deep; wide = λ e. differ (sym e); first = λ e p. differ (sym e) }
 
-          go : ((at n : ℕ) (earlier : Forest) → Answers Whatever (RunIs d false 0 0) (entries doc (readAt doc room d) fuel earlier at n)) → (e : Entry) → EntryIs e → Answers Whatever (RunIs d false 0 0) (rest e)
+          go : ((at n : ℕ) (earlier : Forest) → Answers Whatever (RunIs d false 0 0) (entries doc (readAt doc room d) fuel earlier at n))
+              → (e : Entry) → EntryIs e → Answers Whatever (RunIs d false 0 0) (rest e)
           go ih end i = got-answers (none-run false 0 (at + 1))
           go ih (named kind s) i =
               guard-answers (not (hasName doc (part doc (s .start) (s .size)) earlier)) _ _ _ (λ e. tt)
               (λ e. bind-answers (readAt doc room d kind (s .start) (s .size) (s .next) n) _ (P kind (s .start) (s .size) (s .next) n (i .0) (i .1))
               (λ x t. bind-answers (entries doc (readAt doc room d) fuel (earlier ⊕ node (x .head) (x .inner) none) (x .next) (n + 1 + size (x .inner))) _
               (ih (x .next) (n + 1 + size (x .inner)) (earlier ⊕ node (x .head) (x .inner) none))
-              (λ r w. got-answers (plain (more-run false 0 0 kind (s .start) (s .size) x r (record { within = let a = t .name-is in let b = t .len-is in let z = i .2 in omega arith; nameless = λ f. absurd (let z : _≡_ {A = ℕ} 0 1 = cc in omega arith) }) (λ f. absurd (let z : _≡_ {A = ℕ} 0 1 = cc in omega arith)) t w)))))
+              (λ r w. got-answers (plain (more-run false 0 0 kind (s .start) (s .size) x r (tag-name x t (i .2)) (λ f. differ (sym f)) t w)))))
 
       list-is : (at n : ℕ) → Answers Whatever (HeldIs (suc d) 9) (insideAt doc room (suc d) 9 at n)
       unfolding insideAt containerAt listAt width firstKind
@@ -293,7 +298,8 @@ module _ (doc : List ℕ) where
     any-tag : (d : ℕ) → ((at n : ℕ) → Answers Whatever (HeldIs d 9) (insideAt doc room d 9 at n)) → ((at n : ℕ) → Answers Whatever (HeldIs d 10) (insideAt doc room d 10 at n)) → Reads room d
     any-tag d lists compounds kind name len at n p q =
         by-kind (λ k. Answers Whatever (TagIs d k name len) (readAt doc room d k name len at n))
-        (leaf 1 (omega arith) refl) (leaf 2 (omega arith) refl) (leaf 3 (omega arith) refl) (leaf 4 (omega arith) refl) (leaf 5 (omega arith) refl) (leaf 6 (omega arith) refl) (leaf 7 (omega arith) refl) (leaf 8 (omega arith) refl)
+        (leaf 1 (omega arith) refl) (leaf 2 (omega arith) refl) (leaf 3 (omega arith) refl) (leaf 4 (omega arith) refl)
+        (leaf 5 (omega arith) refl) (leaf 6 (omega arith) refl) (leaf 7 (omega arith) refl) (leaf 8 (omega arith) refl)
         (held-tag d 9 name len at n refl (lists at (n + 1))) (held-tag d 10 name len at n refl (compounds at (n + 1)))
         (leaf 11 (omega arith) refl) (leaf 12 (omega arith) refl)
         kind p q
@@ -322,6 +328,6 @@ module _ (doc : List ℕ) where
         (λ s w. weaker (readAt doc room depthLimit 10 (s .start) (s .size) (s .next) 0) (tag-is depthLimit 10 (s .start) (s .size) (s .next) 0 (omega arith) (omega arith))
         (λ x t. record {
           compound = t .kind-is;
-          fair = fair-node (length doc) false (x .head) (x .inner) none (record { within = let a = t .name-is in let b = t .len-is in let z = w .1 in omega arith; nameless = λ g. absurd (let z : _≡_ {A = ℕ} 0 1 = cc in omega arith) }) (t .sort) (t .inner) (fair-none (length doc) false);
+          fair = fair-node (length doc) false (x .head) (x .inner) none (tag-name x t (w .1)) (t .sort) (t .inner) (fair-none (length doc) false);
           deep = t .deep 0;
         })))))

@@ -47,9 +47,9 @@ text-judged t = go (leb (length t) textLimit) (utf8Verdict t) refl refl
         let long = leb-false (length t) textLimit h in
         let is : judgedText t ≡ no overLimit 0 = rw h refl in
         record {
-          fine = (λ e. absurd (got-no (sym e ∙ is)), λ p. absurd (let s = p .0 in omega (arith, long)));
+          fine = (λ e. absurd (got-no (sym e ∙ is)), λ p. absurd (omega (arith, p .0, long)));
           large = (λ e. long, λ l. is);
-          bad = (λ e. absurd (let z = numbers-apart (sym e ∙ is) in omega arith), λ p. absurd (let s = p .0 in omega (arith, long)));
+          bad = (λ e. absurd (omega (arith, numbers-apart (sym e ∙ is))), λ p. absurd (omega (arith, p .0, long)));
         }
     go true good h k =
         let short = leb-true (length t) textLimit h in
@@ -66,7 +66,7 @@ text-judged t = go (leb (length t) textLimit) (utf8Verdict t) refl refl
         let not-formed : WellFormedUtf8 t → ⊥ = λ w. good-bad (sym (utf8-judged t .good-is .1 w) ∙ k) in
         record {
           fine = (λ e. absurd (got-no (sym e ∙ is)), λ p. absurd (not-formed (p .1)));
-          large = (λ e. absurd (let z = numbers-apart (sym e ∙ is) in omega arith), λ l. absurd (omega (arith, short)));
+          large = (λ e. absurd (omega (arith, numbers-apart (sym e ∙ is))), λ l. absurd (omega (arith, short)));
           bad = (λ e. (short, not-formed), λ p. is);
         }
 

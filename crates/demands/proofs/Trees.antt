@@ -14,12 +14,9 @@ use Rattle.form.specs.Tree.{Tag, Tags, Entries, byte, short, int, long, float, 
 use Rattle.form.specs.Layout.{intsBytes, stringBytes, payload, elementBytes, entryBytes}
 use Rattle.form.proofs.Digits.{digits-length}
 use Rattle.demands.specs.Rescue.{counts, cutTag, cutTags, cutEntries, tagLines, elementLines, entryLines, BeginsTag, BeginsTags, BeginsEntries}
-use Rattle.form.proofs.Picks.{and-right}
+use Rattle.form.proofs.Picks.{differ, and-right}
 use Rattle.demands.proofs.Tests.{and-both}
 use Rattle.demands.proofs.Fields.{string-length}
-
-differ : {A : Type 0} → true ≡ false → A
-differ e = let z : _≡_ {A = ℕ} 0 1 = cc in absurd (omega arith)
 
 -- every payload has a byte
 pub payload-some : (t : Tag) → 0 < length (payload t)

@@ -10,7 +10,7 @@ use lib.Dec.{leb, eqb}
 use lib.ListN.{length, take, length-append}
 use lib.Seq.{length-take-le}
 use Rattle.form.specs.Answer.{got, depthLimit, recordLimit}
-use Rattle.form.specs.Tree.{compound, Lawful}
+use Rattle.form.specs.Tree.{Lawful}
 use Rattle.form.specs.Layout.{layout}
 use Rattle.form.specs.Table.{none, node, size, valueOf}
 use Rattle.form.specs.Tables.{IsTable, Within}

@@ -17,6 +17,7 @@ use Rattle.form.specs.Reading.{entryAt, listHeadAt, elements, entries, l
 use Rattle.form.specs.Cut.{Kept, Opener, nothing, whole, opened, notCut, rootCut, keptElements, keptEntries, begunAt, keptOf, documentOf, saved, refused, laidIn, rescued}
 use Rattle.form.specs.Layout.{layout}
 use Rattle.form.proofs.Answer.{got-no}
+use Rattle.form.proofs.Picks.{differ}
 use Rattle.form.proofs.Fields.{byte-got, string-within}
 
 -- ---- chains that refuse
@@ -248,8 +249,8 @@ module _ (doc : List ℕ) where
             | false ↦ nothing
           ]
         ] ≡ nothing
-        go true b e = absurd (let z : _≡_ {A = ℕ} 0 1 = cc in omega arith)
-        go false true e = absurd (let z : _≡_ {A = ℕ} 0 1 = cc in omega arith)
+        go true b e = differ e
+        go false true e = differ e
         go false false e = refl
 
     -- ---- the document

@@ -19,4 +19,6 @@ module _ (s : List ℕ) (i : ℕ) where
   drop3 h = rw (add-one, add-two, add-three, drop-cons s i 0 (omega arith), drop-cons s (suc i) 0 (omega arith), drop-cons s (suc (suc i)) 0 (omega arith))
 
   pub drop4 : i + 3 < length s → drop i s ≡ getD s i 0 ∷ getD s (i + 1) 0 ∷ getD s (i + 2) 0 ∷ getD s (i + 3) 0 ∷ drop (i + 4) s
-  drop4 h = rw (add-one, add-two, add-three, add-four, drop-cons s i 0 (omega arith), drop-cons s (suc i) 0 (omega arith), drop-cons s (suc (suc i)) 0 (omega arith), drop-cons s (suc (suc (suc i))) 0 (omega arith))
+  drop4 h =
+      rw (add-one, add-two, add-three, add-four, drop-cons s i 0 (omega arith), drop-cons s (suc i) 0 (omega arith))
+      (rw (drop-cons s (suc (suc i)) 0 (omega arith), drop-cons s (suc (suc (suc i))) 0 (omega arith)))

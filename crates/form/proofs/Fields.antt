@@ -15,6 +15,7 @@ use Rattle.form.specs.Reading.{Span, byteAt, bytesAt, numberAt, stringAt
 use Rattle.form.specs.Numbers.{bigEndian}
 use Rattle.form.specs.Table.{widthOf}
 use Rattle.form.proofs.Answer.{bind-got, guard-got}
+use Rattle.form.proofs.Picks.{and-left}
 
 -- a span that lies in the document, at or after a place
 pub record Within (doc : List ℕ) (at c : ℕ) (s : Span) : Type 0 where
@@ -274,10 +275,6 @@ module _ (doc : List ℕ) where
 
       after : ℕ → ℕ → Out ListHead
       after k n = guard (known k n) 3 at >> (guard (ltb n (2 ^ 31)) 5 (at + 1) >> got (head k n))
-
-      and-left : (a b : Bool) → (a && b) ≡ true → a ≡ true
-      and-left true b e = refl
-      and-left false b e = e
 
       pick : (t : Bool) (k : ℕ) → k ≤ 12 → elim t [ true ↦ 0 | false ↦ k ] ≤ 12
       pick true k l = omega arith

@@ -10,6 +10,7 @@ use borrow.Author.Tests.{eq-eqb, ne-eqb, eqb-true, lt-ltb, le-ltb, ltb-true}
 use Rattle.form.specs.Answer.{pick}
 use Rattle.form.specs.Table.{widthOf, holds, isArray}
 use Rattle.form.specs.Tables.{leafFits}
+use Rattle.form.proofs.Picks.{differ}
 
 -- What holds records is a list or a compound.
 pub held-kind : (k : ℕ) → holds k ≡ true → (k ≡ 9) ⊎ (k ≡ 10)
@@ -18,7 +19,7 @@ held-kind k h = go (eqb k 9) (eqb k 10) refl refl (rw h refl)
     go : (x y : Bool) → eqb k 9 ≡ x → eqb k 10 ≡ y → (x || y) ≡ true → (k ≡ 9) ⊎ (k ≡ 10)
     go true y p q r = inl (eqb-true k 9 p)
     go false true p q r = inr (eqb-true k 10 q)
-    go false false p q r = absurd (let y : _≡_ {A = ℕ} 0 1 = cc in omega arith)
+    go false false p q r = differ (sym r)
 
 -- An array's kind is one of three.
 pub array-kind : (P : ℕ → Type 0) (k : ℕ) → isArray k ≡ true → P 7 → P 11 → P 12 → P k
@@ -28,7 +29,7 @@ array-kind P k e a b c = go (eqb k 7) (eqb k 11) (eqb k 12) refl refl refl (rw e
     go true y z p q r h = subst P (sym (eqb-true k 7 p)) a
     go false true z p q r h = subst P (sym (eqb-true k 11 q)) b
     go false false true p q r h = subst P (sym (eqb-true k 12 r)) c
-    go false false false p q r h = absurd (let y : _≡_ {A = ℕ} 0 1 = cc in omega arith)
+    go false false false p q r h = differ (sym h)
 
 -- An array's kind is one of rule 4's.
 pub array-le : (k : ℕ) → isArray k ≡ true → k ≤ 12
@@ -88,9 +89,9 @@ leaf-sort kind len count f = go (eqb kind 8) (ltb kind 7) (isArray kind) refl re
   where
     low : (a b c : Bool) → ltb 0 kind ≡ a → eqb len (widthOf kind) ≡ b → eqb count 0 ≡ c → (a && (b && c)) ≡ true → ltb kind 7 ≡ true → LeafSort kind len count
     low true true true p q r h l = number (ltb-true 0 kind p) (ltb-true kind 7 l) (eqb-true len (widthOf kind) q) (eqb-true count 0 r)
-    low true true false p q r h l = absurd (let y : _≡_ {A = ℕ} 0 1 = cc in omega arith)
-    low true false c p q r h l = absurd (let y : _≡_ {A = ℕ} 0 1 = cc in omega arith)
-    low false b c p q r h l = absurd (let y : _≡_ {A = ℕ} 0 1 = cc in omega arith)
+    low true true false p q r h l = differ (sym h)
+    low true false c p q r h l = differ (sym h)
+    low false b c p q r h l = differ (sym h)
 
     go : (s l a : Bool) → eqb kind 8 ≡ s → ltb kind 7 ≡ l → isArray kind ≡ a
         → pick s (eqb count 0) (pick l (ltb 0 kind && (eqb len (widthOf kind) && eqb count 0)) (pick a (eqb len (count * widthOf kind)) false)) ≡ true
@@ -98,7 +99,7 @@ leaf-sort kind len count f = go (eqb kind 8) (ltb kind 7) (isArray kind) refl re
     go true l a p q r h = string (eqb-true kind 8 p) (eqb-true count 0 h)
     go false true a p q r h = low (ltb 0 kind) (eqb len (widthOf kind)) (eqb count 0) refl refl refl h q
     go false false true p q r h = array r (eqb-true len (count * widthOf kind) h)
-    go false false false p q r h = absurd (let y : _≡_ {A = ℕ} 0 1 = cc in omega arith)
+    go false false false p q r h = differ (sym h)
 
 -- Kinds are 1 to 12.
 pub leaf-kind : (kind len count : ℕ) → leafFits kind len count ≡ true → (0 < kind) × (kind ≤ 12)

@@ -1,7 +1,7 @@
 -- Laws of paths (rule 9): those of the values that records stand for, told from the records; and the numbers of the paths that fit.
 -- Assumes nothing.
 use Prim.Native.Nat.{ℕ, suc, _+_, _≤_}
-use mathlib.Core.Path.{_≡_, refl, ap, _∙_}
+use mathlib.Core.Path.{_≡_, refl, sym, ap, _∙_}
 use mathlib.Core.Logic.{_⊎_, inl, inr}
 use mathlib.Core.List.{List, [], _∷_, _++_, append-assoc}
 use mathlib.Core.Bool.{Bool, true, false}
@@ -16,7 +16,8 @@ use Rattle.form.specs.Tree.{Tags, Entries, byte, short, int, long, float
 use Rattle.form.specs.Table.{Head, Forest, none, node, size, valueBy, tagsOf, entriesOf, valueOf}
 use Rattle.form.specs.Tables.{LeafIs, ContainerIs, Fair, leafFits}
 use Rattle.form.specs.Records.{hopOf, recordPaths}
-use Rattle.form.specs.Paths.{Hop, named, item, fits, tagPaths, itemPaths, entryPaths, paths, which}
+use Rattle.form.specs.Paths.{Hop, named, item, tagPaths, itemPaths, entryPaths, paths, which}
+use Rattle.form.proofs.Picks.{differ}
 use Rattle.form.proofs.Leaves.{held-kind}
 use Rattle.form.proofs.Tables.{fair-first, fair-inner, fair-later}
 
@@ -49,7 +50,8 @@ module _ (doc : List ℕ) where
 
     -- A tag of any other kind has its own path alone.
     alone : (a b c d e f g i j : Bool) (v₁ v₂ v₃ v₄ : ℤ) (v₅ v₆ : ℕ) (v₇ : List ℤ) (v₈ : List ℕ) (v₉ v₁₀ : List ℤ)
-        → tagPaths p (pick a (byte v₁) (pick b (short v₂) (pick c (int v₃) (pick d (long v₄) (pick e (float v₅) (pick f (double v₆) (pick g (byteArray v₇) (pick i (string v₈) (pick j (intArray v₉) (longArray v₁₀))))))))))
+        → tagPaths p (pick a (byte v₁) (pick b (short v₂) (pick c (int v₃) (pick d (long v₄) (pick e (float v₅) (pick f (double v₆)
+        (pick g (byteArray v₇) (pick i (string v₈) (pick j (intArray v₉) (longArray v₁₀))))))))))
         ≡ p ∷ []
     unfolding tagPaths
     alone true b c d e f g i j v₁ v₂ v₃ v₄ v₅ v₆ v₇ v₈ v₉ v₁₀ = refl
@@ -73,8 +75,8 @@ module _ (doc : List ℕ) where
   -- What holds no records is of none of the two kinds that do.
   leaf-kind : (d : ℕ) (h : Head) (inner : Forest) → LeafIs d h inner → (k : ℕ) → (k ≡ 9) ⊎ (k ≡ 10) → h .kind ≡ k → ⊥
   unfolding leafFits
-  leaf-kind d h inner l k (inl a) e = let f = rw (e, a) at (l .fits) in let z : _≡_ {A = ℕ} 0 1 = cc in omega arith
-  leaf-kind d h inner l k (inr a) e = let f = rw (e, a) at (l .fits) in let z : _≡_ {A = ℕ} 0 1 = cc in omega arith
+  leaf-kind d h inner l k (inl a) e = differ (sym (rw (e, a) at (l .fits)))
+  leaf-kind d h inner l k (inr a) e = differ (sym (rw (e, a) at (l .fits)))
 
   -- The paths of a record's value are its own and those of the records in it.
   value-paths : (d : ℕ) (h : Head) (inner : Forest) → LeafIs d h inner ⊎ ContainerIs h inner

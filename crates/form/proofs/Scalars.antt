@@ -73,11 +73,13 @@ unfolding scalarOf
 low-back c l k d = rw (sb-low c k, unit-back c k l)
     (⊎-elim (λ h. simp (lt-ltb c 55296 h)) (λ h. simp (le-ltb c 55296 (omega arith), le-leb 57344 c h)) d)
 
-high-back : (hi lo c : ℕ) (l : List ℕ) → 55296 ≤ hi → hi < 56320 → 56320 ≤ lo → lo < 57344 → 65536 + (hi % 1024 * 1024 + lo % 1024) ≡ c → scalarOf (unitBytes hi ++ unitBytes lo ++ l) ≡ is c (length (unitBytes hi ++ unitBytes lo))
+high-back : (hi lo c : ℕ) (l : List ℕ) → 55296 ≤ hi → hi < 56320 → 56320 ≤ lo → lo < 57344 → 65536 + (hi % 1024 * 1024 + lo % 1024) ≡ c
+    → scalarOf (unitBytes hi ++ unitBytes lo ++ l) ≡ is c (length (unitBytes hi ++ unitBytes lo))
 unfolding scalarOf
 high-back hi lo c l h₁ h₂ h₃ h₄ p =
     rw (append-assoc (unitBytes hi) (unitBytes lo) l, unit-back hi (omega arith) (unitBytes lo ++ l))
-    (simp (le-ltb hi 55296 h₁, lt-leb 57344 hi (omega arith), lt-leb 56320 hi h₂, drop-append-seam, unit-back lo (omega arith) l, le-ltb lo 56320 h₃, lt-leb 57344 lo h₄, length-append, pair-is hi lo c p))
+    (simp (le-ltb hi 55296 h₁, lt-leb 57344 hi (omega arith), lt-leb 56320 hi h₂)
+    (simp (drop-append-seam, unit-back lo (omega arith) l, le-ltb lo 56320 h₃, lt-leb 57344 lo h₄, length-append, pair-is hi lo c p)))
 
 pub scalar-back : (c : ℕ) → IsScalar c → (l : List ℕ) → scalarOf (scalarBytes c ++ l) ≡ is c (length (scalarBytes c))
 scalar-back c s l = ⊎-elim

@@ -17,7 +17,7 @@ use Rattle.form.specs.Spans.{part}
 use Rattle.form.specs.Stored.{hexDigit, hexDigits, wordDigits, lineOf, linesOf, fitting, TextLine, begun, linesIn, digitOf, allDigits, hexValue, isLine, wordsOf, eachLine}
 use Rattle.form.proofs.Answer.{bind-got, guard-got}
 use Rattle.form.proofs.Numbers.{foldl-snoc}
-use Rattle.form.proofs.Picks.{lt-or, and-left, and-right}
+use Rattle.form.proofs.Picks.{lt-or, differ, and-left, and-right}
 
 -- ---- a digit and its value
 
@@ -277,7 +277,7 @@ module _ (b : ℕ) where
     line = record { bytes = b ∷ []; ended = false };
     later = [];
     lines-are = begun-line b [] n ∙ ap (begun b) no-lines;
-    behind = λ t. absurd (let z : _≡_ {A = ℕ} 0 1 = cc in omega arith);
+    behind = λ t. differ (sym t);
   }
 
   begins : (s : List ℕ) → (b ≡ 10 → ⊥) → First s → First (b ∷ s)

@@ -9,6 +9,7 @@ use native.Mathlib.Omega.{arith}
 use Rattle.form.specs.Spans.{part}
 use Rattle.form.specs.Strings.{scalarBytes, utf8Bytes, WellFormed}
 use Rattle.form.specs.Decoding.{Verdict, good, bad, scalarOf, utf8Of, verdict, utf8Verdict, isGood, wellFormed, Judged}
+use Rattle.form.proofs.Picks.{differ}
 use Rattle.form.proofs.Scalars.{mutf8}
 use Rattle.form.proofs.Utf8.{utf8}
 use Rattle.form.proofs.Walks as W
@@ -23,7 +24,7 @@ utf8-judged l = W.judged utf8 l (utf8Verdict l) refl
 
 isGood-iff : (v : Verdict) → (isGood v ≡ true) ↔ (v ≡ good)
 isGood-iff good = (λ _. refl, λ _. refl)
-isGood-iff (bad k) = (λ e. let z : _≡_ {A = ℕ} 0 1 = cc in absurd (omega arith), λ e. let z : _≡_ {A = ℕ} 0 1 = cc in absurd (omega arith))
+isGood-iff (bad k) = (λ e. differ (sym e), λ e. let z : _≡_ {A = ℕ} 0 1 = cc in absurd (omega arith))
 
 -- Refusal 4's test holds exactly of well-formed bytes.
 pub wellFormed-iff : (l : List ℕ) → (wellFormed l ≡ true) ↔ WellFormed l
@@ -32,7 +33,7 @@ wellFormed-iff l = let j = string-judged l in let g = isGood-iff (verdict l) in
 
 -- Where it fails, the bytes encode no list of scalar values.
 pub wellFormed-not : (l : List ℕ) → wellFormed l ≡ false → WellFormed l → ⊥
-wellFormed-not l e w = let z : true ≡ false = sym ((wellFormed-iff l) .1 w) ∙ e in let y : _≡_ {A = ℕ} 0 1 = cc in omega arith
+wellFormed-not l e w = differ (sym (wellFormed-iff l .1 w) ∙ e)
 
 -- A span is judged by its length where the code has its end.
 pub judged-part : (doc : List ℕ) (a n : ℕ) {b : Bool} → wellFormed (part doc a (a + n - a)) ≡ b → wellFormed (part doc a n) ≡ b

@@ -15,6 +15,7 @@ use Rattle.form.specs.Spans.{over}
 use Rattle.form.specs.Table.{Head, Forest, none, node, size, _⊕_, words, word, flat, wrote}
 use Rattle.form.specs.Records.{Stands, Sits, Under}
 use Rattle.form.specs.Tables.{LeafIs, ContainerIs, NameIs, Fair, IsTable, Within}
+use Rattle.form.proofs.Picks.{differ}
 use Rattle.form.proofs.Table.{flat-length}
 use Rattle.form.proofs.Leaves.{held-kind, leaf-kind}
 use Rattle.form.proofs.Records.{sits-at, one-forest}
@@ -257,6 +258,10 @@ one-tree d d′ w s t =
 pub fair-none : (d : ℕ) (l : Bool) → Fair d l none
 unfolding Fair
 fair-none d l = tt
+
+-- A record that is no element may have any name that lies in the document.
+pub name-within : (d : ℕ) (h : Head) → h .name + h .name-length ≤ d → NameIs d false h
+name-within d h w = record { within = w; nameless = λ e. differ (sym e) }
 
 module _ (d : ℕ) (l : Bool) (h : Head) (inner later : Forest) where
   -- The first record, those in it and those after it are fair together.

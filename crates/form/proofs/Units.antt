@@ -4,9 +4,11 @@ use Prim.Native.Nat.{ℕ, _+_, _/_, _%_, _≤_, _<_}
 use mathlib.Core.Path.{_≡_, refl, ap}
 use mathlib.Core.Logic.{_⊎_, inl, inr, ⊎-elim}
 use mathlib.Core.List.{List, [], _∷_, _++_}
+use mathlib.Core.Bool.{false}
 use native.Mathlib.Omega.{arith}
 use borrow.Author.Tests.{lt-ltb, le-ltb, lt-leb, eq-eqb, ne-eqb}
 use lib.ListN.{length, drop, length-append}
+use lib.Dec.{ltb, leb}
 use Rattle.form.specs.Strings.{twoBytes, threeBytes, unitBytes}
 use Rattle.form.specs.Decoding.{Sequence, is, stuck, six, twoOf, threeOf, afterTwo, afterOne, unitOf}
 use Rattle.form.proofs.Picks.{pick-lt, pick-le, pick-eq}
@@ -87,13 +89,20 @@ unit-sound (a ∷ l) =
     pick-lt (SoundUnit (a ∷ l)) a 192 (λ _. tt) (λ m. after-one a l m)))
 
 -- ---- and back
+-- a byte behind the first, by the two tests of it
+pub behind-low : (x : ℕ) → ltb (128 + x % 64) 128 ≡ false
+behind-low x = le-ltb (128 + x % 64) 128 (omega arith)
+
+pub behind-high : (x : ℕ) → leb 192 (128 + x % 64) ≡ false
+behind-high x = lt-leb 192 (128 + x % 64) (omega arith)
+
 two-back : (u : ℕ) (l : List ℕ) → u < 2048 → (u ≡ 0) ⊎ (128 ≤ u) → unitOf (twoBytes u ++ l) ≡ is u 2
 unfolding unitOf twoOf
 two-back u l h d =
     let a = 192 + u / 64 in
     let b = 128 + u % 64 in
     let e : six (a % 32) b ≡ u = omega arith in
-    simp (ne-eqb a 0 (omega arith), le-ltb a 128 (omega arith), le-ltb a 192 (omega arith), lt-ltb a 224 (omega arith), le-ltb b 128 (omega arith), lt-leb 192 b (omega arith), e)
+    simp (ne-eqb a 0 (omega arith), le-ltb a 128 (omega arith), le-ltb a 192 (omega arith), lt-ltb a 224 (omega arith), behind-low u, behind-high u, e)
     (⊎-elim (λ z. simp (eq-eqb u 0 z)) (λ k. simp (ne-eqb u 0 (omega arith), le-ltb u 128 k)) d)
 
 three-back : (u : ℕ) (l : List ℕ) → 2048 ≤ u → u < 65536 → unitOf (threeBytes u ++ l) ≡ is u 3
@@ -103,7 +112,7 @@ three-back u l h k =
     let b = 128 + u / 64 % 64 in
     let c = 128 + u % 64 in
     let e : six (six (a % 16) b) c ≡ u = omega arith in
-    simp (ne-eqb a 0 (omega arith), le-ltb a 128 (omega arith), le-ltb a 192 (omega arith), le-ltb a 224 (omega arith), lt-leb 240 a (omega arith), le-ltb b 128 (omega arith), lt-leb 192 b (omega arith), le-ltb c 128 (omega arith), lt-leb 192 c (omega arith), e, le-ltb u 2048 h)
+    simp (ne-eqb a 0 (omega arith), le-ltb a 128 (omega arith), le-ltb a 192 (omega arith), le-ltb a 224 (omega arith), lt-leb 240 a (omega arith), behind-low, behind-high, e, le-ltb u 2048 h)
 
 one-back : (u : ℕ) (l : List ℕ) → (u ≡ 0 → ⊥) → u < 128 → unitOf (u ∷ l) ≡ is u 1
 unfolding unitOf

@@ -12,7 +12,7 @@ use Rattle.form.specs.Decoding.{Sequence, is, stuck, six, unitOf, fourOf
 use Rattle.form.proofs.Picks.{pick-lt, pick-le, pick-eq, lt-or}
 use Rattle.form.proofs.Drops.{drop1}
 use Rattle.form.proofs.Coding.{SoundBy, Coding}
-use Rattle.form.proofs.Units.{SoundUnit, ub-one, ub-two, ub-three, unit-sound, unit-back}
+use Rattle.form.proofs.Units.{SoundUnit, ub-one, ub-two, ub-three, unit-sound, behind-low, behind-high, unit-back}
 
 -- which form a scalar value takes
 low-is : (c : ℕ) → 0 < c → c < 65536 → utf8Bytes c ≡ unitBytes c
@@ -37,7 +37,8 @@ abbrev SoundR : List ℕ → Sequence → Type 0
 SoundR l r = SoundBy utf8Bytes l r
 
 -- ---- sound
-four-is : (a b c d u : ℕ) (l : List ℕ) → 240 ≤ a → a < 248 → 128 ≤ b → b < 192 → 128 ≤ c → c < 192 → 128 ≤ d → d < 192 → u ≡ six (six (six (a % 8) b) c) d → 65536 ≤ u → u < 1114112 → SoundR (a ∷ b ∷ c ∷ d ∷ l) (is u 4)
+four-is : (a b c d u : ℕ) (l : List ℕ) → 240 ≤ a → a < 248 → 128 ≤ b → b < 192 → 128 ≤ c → c < 192 → 128 ≤ d → d < 192
+    → u ≡ six (six (six (a % 8) b) c) d → 65536 ≤ u → u < 1114112 → SoundR (a ∷ b ∷ c ∷ d ∷ l) (is u 4)
 four-is a b c d u l h₁ h₂ h₃ h₄ h₅ h₆ h₇ h₈ e f k =
     let g = high-is u f in
     let p : 240 + u / 262144 ≡ a = omega arith in
@@ -120,7 +121,7 @@ four-back u l h k =
     let c = 128 + u / 64 % 64 in
     let d = 128 + u % 64 in
     let e : six (six (six (a % 8) b) c) d ≡ u = rw (lead (u / 262144) (omega arith), tail (u / 4096), tail (u / 64), tail u) (digits u) in
-    simp (ne-eqb a 0 (omega arith), le-leb 240 a (omega arith), lt-leb 248 a (omega arith), le-ltb b 128 (omega arith), lt-leb 192 b (omega arith), le-ltb c 128 (omega arith), lt-leb 192 c (omega arith), le-ltb d 128 (omega arith), lt-leb 192 d (omega arith), e, le-ltb u 65536 h, lt-leb 1114112 u k)
+    simp (ne-eqb a 0 (omega arith), le-leb 240 a (omega arith), lt-leb 248 a (omega arith), behind-low, behind-high, e, le-ltb u 65536 h, lt-leb 1114112 u k)
 
 -- a unit's bytes begin with no zero byte, and with none above 239
 head-of : (P : List ℕ → Type 0) (u : ℕ) → u < 65536 → ((a : ℕ) (t : List ℕ) → 0 < a → a < 240 → P (a ∷ t)) → 0 < u → P (unitBytes u)
@@ -168,4 +169,7 @@ module _ (s : List ℕ) (i : ℕ) (h : i < length s) where
 
   pub utf8-cut : 240 ≤ getD s i 0 → getD s i 0 < 248 → length s - i < 4 → stuck ≡ utf8Of (drop i s)
   unfolding utf8Of
-  utf8-cut p q k = rw (drop1 s i h) (simp (ne-eqb (getD s i 0) 0 (omega arith), le-leb 240 (getD s i 0) p, lt-leb 248 (getD s i 0) q, short (getD s i 0) (drop (i + 1) s) (rw (length-drop (i + 1) s) (omega arith))))
+  utf8-cut p q k =
+      let a = getD s i 0 in
+      let few = short a (drop (i + 1) s) (rw (length-drop (i + 1) s) (omega arith)) in
+      rw (drop1 s i h) (simp (ne-eqb a 0 (omega arith), le-leb 240 a p, lt-leb 248 a q, few))

@@ -79,7 +79,8 @@ module _ (𝓒 : Coding) where
     },
   )
 
-  told-onward : (f i a : ℕ) (l : List ℕ) → ((t : List ℕ) (j : ℕ) → length t ≤ f → Told t j (walk one f t j)) → length l ≤ f → (r : Sequence) → one (a ∷ l) ≡ r → SoundBy enc (a ∷ l) r → Told (a ∷ l) i (onward (walk one f) (a ∷ l) i r)
+  told-onward : (f i a : ℕ) (l : List ℕ) → ((t : List ℕ) (j : ℕ) → length t ≤ f → Told t j (walk one f t j)) → length l ≤ f
+      → (r : Sequence) → one (a ∷ l) ≡ r → SoundBy enc (a ∷ l) r → Told (a ∷ l) i (onward (walk one f) (a ∷ l) i r)
   told-onward f i a l ih h stuck e s = told-stuck a l i e
   told-onward f i a l ih h (is c n) e s =
       told-more c (a ∷ l) (drop n (a ∷ l)) i n (s .0) (s .1) (s .2) (walk one f (drop n (a ∷ l)) (i + n))

@@ -3,7 +3,7 @@
 use Prim.Native.Nat.{ℕ, zero, suc, _+_, _-_, _%_, _≤_, _<_}
 use mathlib.Core.Path.{_≡_, ap}
 use mathlib.Core.Logic.{⊎-elim}
-use mathlib.Core.Bool.{true, false}
+use mathlib.Core.Bool.{true}
 use mathlib.Core.List.{List, _∷_}
 use native.Mathlib.Omega.{arith}
 use borrow.Author.Tests.{lt-ltb, le-ltb, ne-eqb}
@@ -15,61 +15,58 @@ use Rattle.chars.proofs.Sequences.{follows, unit-plain, unit-two, unit-three}
 use Rattle.mutf8.specs.declared.Coding.{Coding}
 use Rattle.mutf8.specs.declared.Coding.the-variants.{Modified}
 use Rattle.mutf8.specs.Answers.{encOf, oneOf}
-use Rattle.mutf8.specs.Runs.{Walked, none, more, commonOf, Passed, Plain, Fits, Fitting, Edge}
+use Rattle.plain.specs.Runs.{shortPlain, IsPlain, Plain}
+use Rattle.plain.proofs.Plains.{short-is}
+use Rattle.mutf8.specs.Runs.{Walked, none, more, commonOf, Passed, Fits, Fitting, Edge}
 use Rattle.mutf8.proofs.Codings.{alike}
 use Rattle.mutf8.proofs.Walks.{walked-join, walked-pass, all-walked}
 
-pub false-true : false ≡ true → ⊥
-false-true e = let z : _≡_ {A = ℕ} 0 1 = cc in omega arith
-
 -- ---- plain bytes
-
-pub plain-none : (s : List ℕ) (i j : ℕ) → j ≤ i → Plain s i j
-plain-none s i j h = record { each = λ k p q. absurd (omega arith) }
-
-pub plain-more : (s : List ℕ) (i j : ℕ) → Plain s i j → 0 < getD s j 0 → getD s j 0 < 128 → Plain s i (j + 1)
-plain-more s i j h p q = record { each = λ k a b. ⊎-elim (λ lt. h .each k a lt) (λ ge. let e : k ≡ j = omega arith in rw e (p, q)) (lt-or k j) }
-
--- two runs that overlap or meet
-pub plain-join : (s : List ℕ) (i j m n : ℕ) → m ≤ j → Plain s i j → Plain s m n → Plain s i n
-plain-join s i j m n o h g = record { each = λ k a b. ⊎-elim (λ lt. h .each k a lt) (λ ge. g .each k (omega arith) b) (lt-or k j) }
 
 one-common : (a : ℕ) (l : List ℕ) → 0 < a → a < 128 → commonOf (a ∷ l) ≡ is a 1
 unfolding commonOf
 one-common a l p q = rw (unit-plain a l p q) (simp (ne-eqb a 0 (omega arith), lt-ltb a 55296 (omega arith)))
 
-plain-is : (s : List ℕ) (i : ℕ) → i < length s → (0 < getD s i 0) × (getD s i 0 < 128) → commonOf (drop i s) ≡ is (getD s i 0) 1
-plain-is s i h b = rw (drop1 s i h) (one-common _ _ (b .0) (b .1))
+plain-is : (s : List ℕ) (i : ℕ) → i < length s → IsPlain 0 0 (getD s i 0) → commonOf (drop i s) ≡ is (getD s i 0) 1
+plain-is s i h b = rw (drop1 s i h) (one-common _ _ (b .some) (b .low))
 
 -- one plain byte more
-pub walked-plain : (k : Coding) (s : List ℕ) (i j : ℕ) → j < length s → (0 < getD s j 0) × (getD s j 0 < 128) → Walked (oneOf k) s i j → Walked (oneOf k) s i (j + 1)
+pub walked-plain : (k : Coding) (s : List ℕ) (i j : ℕ) → j < length s → IsPlain 0 0 (getD s j 0) → Walked (oneOf k) s i j → Walked (oneOf k) s i (j + 1)
 walked-plain k s i j h b w = walked-join w (more {i = j} {c = getD s j 0} {n = 1} (alike k _ _ _ (plain-is s j h b)) none)
 
-plain-run : (s : List ℕ) (n i : ℕ) → i + n ≤ length s → Plain s i (i + n) → Walked commonOf s i (i + n)
+plain-run : (s : List ℕ) (n i : ℕ) → i + n ≤ length s → Plain 0 0 s i (i + n) → Walked commonOf s i (i + n)
 plain-run s zero i h p = let e : i + 0 ≡ i = omega arith in rw e none
 plain-run s (suc n) i h p =
     let e : i + suc n ≡ i + 1 + n = omega arith in
     rw e (more {i = i} {c = getD s i 0} {n = 1} (plain-is s i (omega arith) (p .each i (omega arith) (omega arith)))
     (plain-run s n (i + 1) (omega arith) (record { each = λ k a l. p .each k (omega arith) (omega arith) })))
 
-pub plain-passed : (s : List ℕ) (i j : ℕ) → i ≤ j → j ≤ length s → Plain s i j → Passed s i j
+pub plain-passed : (s : List ℕ) (i j : ℕ) → i ≤ j → j ≤ length s → Plain 0 0 s i j → Passed s i j
 plain-passed s i j h l p = record {
   on = h;
   within = l;
   walked = let e : i + (j - i) ≡ j = omega arith in rw e at (plain-run s (j - i) i (omega arith) (rw e p));
 }
 
+-- as far as plain blocks reach
+pub blocks-passed : (s : List ℕ) (i r : ℕ) → (i ≤ r) × (r ≤ length s) × Plain 0 0 s i r → Passed s i r
+blocks-passed s i r h = plain-passed s i r (h .0) (h .1) (h .2)
+
 -- ---- what was passed
 
 pub passed-none : (s : List ℕ) (i : ℕ) → i ≤ length s → Passed s i i
 passed-none s i h = record { on = omega arith; within = h; walked = none }
 
--- a list that is all plain is good in any coding
-pub plain-good : (k : Coding) (s : List ℕ) → Plain s 0 (length s) → Judged (encOf k) (oneOf k) s good
-plain-good k s p = all-walked k (omega arith) (walked-pass k none (plain-passed s 0 (length s) (omega arith) (omega arith) p))
+-- the last bytes, where they are few and plain
+pub short-passed : (s : List ℕ) (i : ℕ) → i ≤ length s → shortPlain 0 s i (length s) ≡ true → Passed s i (length s)
+short-passed s i h e = plain-passed s i (length s) h (omega arith) (short-is 0 s i (length s) h e .1)
 
-pub plain-well : (s : List ℕ) → Plain s 0 (length s) → true ≡ wellFormed s
-plain-well s p = ap isGood (plain-good Modified s p .is)
+-- a list that is short and all plain is good in any coding
+pub short-good : (k : Coding) (s : List ℕ) → shortPlain 0 s 0 (length s) ≡ true → Judged (encOf k) (oneOf k) s good
+short-good k s e = all-walked k (omega arith) (walked-pass k none (short-passed s 0 (omega arith) e))
+
+pub short-well : (s : List ℕ) → shortPlain 0 s 0 (length s) ≡ true → true ≡ wellFormed s
+short-well s e = ap isGood (short-good Modified s e .is)
 
 pub passed-join : (s : List ℕ) (i j k : ℕ) → Passed s i j → Passed s j k → Passed s i k
 passed-join s i j k p q = record { on = omega (arith, p .on, q .on); within = q .within; walked = walked-join (p .walked) (q .walked) }

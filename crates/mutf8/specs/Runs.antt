@@ -28,10 +28,6 @@ pub record Stepped (one : List ℕ → Sequence) (s : List ℕ) (at stop r : ℕ
   pub walked : Walked one s at r
   pub halted : r < stop → one (drop r s) ≡ stuck
 
--- The bytes from i up to j are 1 to 127 each.
-pub record Plain (s : List ℕ) (i j : ℕ) : Type 0 where
-  pub each : (k : ℕ) → i ≤ k → k < j → (0 < getD s k 0) × (getD s k 0 < 128)
-
 -- The byte b may stand behind p, and p behind q, where both codings read alike: it follows a lead byte exactly where one is due, it is
 -- no zero byte, begins no overlong form and no four bytes, and behind E0 and ED it makes no overlong form and no half.
 pub record Fits (q p b : ℕ) : Type 0 where

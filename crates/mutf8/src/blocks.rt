@@ -1,8 +1,6 @@
 // Blocks of 64 or 16 bytes that are passed at once: they are plain, or fit behind each other so that both codings read them alike.
 // What no block takes is left to be read value by value.
-use crate::plain::all_plain;
-use crate::plain::ends_plain;
-use crate::plain::raise;
+use plain::raise;
 ghost use mathlib.Core.Path.{_≡_};
 ghost use mathlib.Core.Bool.{true};
 ghost use Prim.Native.Nat.{_+_, _≤_, _<_};
@@ -157,22 +155,6 @@ fn mixed(s: &[u8], at: usize) -> usize
     at
 }
 
-// Goes on by plain blocks of sixteen.
-fn narrow(s: &[u8], at: usize) -> usize
-    requires { ⌜ at ≤ length (now s) ⌝ }
-    ensures { λ r. ⌜ Passed (now (s .entry)) at r ⌝ }
-{
-    let mut i = at;
-    while 16 <= s.len() - i {
-        if all_plain(s, i, 16) {
-            i = i + 16;
-            continue;
-        }
-        return i;
-    }
-    i
-}
-
 // Goes on by blocks as far as they reach: plain ones, then some that are not, and again; the last bytes by two that overlap.
 pub fn pass(s: &[u8], at: usize) -> usize
     requires { ⌜ at ≤ length (now s) ⌝ }
@@ -180,18 +162,18 @@ pub fn pass(s: &[u8], at: usize) -> usize
 {
     let mut i = at;
     while 64 <= s.len() - i {
-        if all_plain(s, i, 64) {
+        if plain::all_plain(0, 0, s, i, 64) {
             i = i + 64;
             continue;
         }
         let j = mixed(s, i);
         if j <= i {
-            return narrow(s, i);
+            return plain::plain_blocks(0, 0, s, i, s.len());
         }
         i = j;
     }
-    if ends_plain(s, i) {
+    if plain::is_plain(0, s, i, s.len()) {
         return s.len();
     }
-    narrow(s, i)
+    plain::plain_blocks(0, 0, s, i, s.len())
 }

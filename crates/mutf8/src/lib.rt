@@ -1,7 +1,6 @@
 // Modified UTF-8 (rule 2) and UTF-8: whether a slice is well formed, and where it is not.
 // Text is passed in blocks of 64 bytes without a branch for each byte; what no block takes is read value by value.
 pub mod blocks;
-pub mod plain;
 
 use chars::Front;
 ghost use mathlib.Core.Path.{_≡_};
@@ -68,7 +67,7 @@ fn steps(s: &[u8], at: usize, stop: usize, coding: Coding) -> usize
 {
     let mut i = at;
     while i < stop {
-        if plain::unplain(s[i]) == 0 {
+        if plain::unplain(0, 0, s[i]) == 0 {
             i = i + 1;
             continue;
         }
@@ -107,7 +106,7 @@ fn judge(s: &[u8], coding: Coding) -> Checked
 pub fn check(s: &[u8]) -> Checked
     ensures { λ r. ⌜ (Judged scalarBytes scalarOf (now (s .entry)) (verdictOf r)) × (checkedOut badString r ≡ dueOut badString (verdict (now (s .entry)))) ⌝ }
 {
-    if plain::is_plain(s) {
+    if plain::is_plain(0, s, 0, s.len()) {
         return Checked::Good;
     }
     judge(s, Coding::Modified)
@@ -117,7 +116,7 @@ pub fn check(s: &[u8]) -> Checked
 pub fn is_well_formed(s: &[u8]) -> bool
     ensures { λ r. ⌜ r ≡ wellFormed (now (s .entry)) ⌝ }
 {
-    if plain::is_plain(s) {
+    if plain::is_plain(0, s, 0, s.len()) {
         return true;
     }
     match judge(s, Coding::Modified) {
@@ -130,7 +129,7 @@ pub fn is_well_formed(s: &[u8]) -> bool
 pub fn check_utf8(s: &[u8]) -> Checked
     ensures { λ r. ⌜ (Judged utf8Bytes utf8Of (now (s .entry)) (verdictOf r)) × (checkedOut badText r ≡ dueOut badText (utf8Verdict (now (s .entry)))) ⌝ }
 {
-    if plain::is_plain(s) {
+    if plain::is_plain(0, s, 0, s.len()) {
         return Checked::Good;
     }
     judge(s, Coding::Utf8)

@@ -6,7 +6,7 @@ use mathlib.Core.Bool.{Bool, true, false, not, _&&_}
 use mathlib.Core.Logic.{⊎-elim}
 use mathlib.Core.List.{List}
 use native.Mathlib.Omega.{arith}
-use borrow.Author.Tests.{ltb-true, leb-true, eqb-false, not-true, le-leb, lt-leb, eq-eqb, ne-eqb}
+use borrow.Author.Tests.{ltb-true, ltb-false, leb-true, eqb-false, not-true, le-leb, lt-leb, eq-eqb, ne-eqb}
 use lib.Dec.{leb, ltb, eqb}
 use lib.ListN.{getD}
 use Rattle.form.specs.Answer.{pick}
@@ -23,58 +23,66 @@ alike false false f g = refl
 
 -- ---- a byte
 
-pub byte-is : (q b : ℕ) → plainByte q b ≡ true → IsPlain q b
-byte-is q b e =
+pub byte-is : (p q b : ℕ) → plainByte p q b ≡ true → IsPlain p q b
+byte-is p q b e =
     let w = and-right (leb 1 b) _ e in
     let x = and-right (leb b 127) _ w in
     record {
       some = leb-true 1 b (and-left (leb 1 b) _ e);
       low = omega (arith, leb-true b 127 (and-left (leb b 127) _ w));
-      unescaped = eqb-false b 92 (not-true (eqb b 92) (and-left (not (eqb b 92)) (not (eqb b q)) x));
-      other = eqb-false b q (not-true (eqb b q) (and-right (not (eqb b 92)) (not (eqb b q)) x));
+      first = eqb-false b p (not-true (eqb b p) (and-left (not (eqb b p)) (not (eqb b q)) x));
+      second = eqb-false b q (not-true (eqb b q) (and-right (not (eqb b p)) (not (eqb b q)) x));
     }
 
-pub byte-holds : (q b : ℕ) → IsPlain q b → true ≡ plainByte q b
-byte-holds q b p = simp (le-leb 1 b (p .some), le-leb b 127 (omega (arith, p .low)), ne-eqb b 92 (p .unescaped), ne-eqb b q (p .other))
+pub byte-holds : (p q b : ℕ) → IsPlain p q b → true ≡ plainByte p q b
+byte-holds p q b h = simp (le-leb 1 b (h .some), le-leb b 127 (omega (arith, h .low)), ne-eqb b p (h .first), ne-eqb b q (h .second))
 
 -- 0 for a plain byte, as the code has it
-pub zero-is : (q b r : ℕ) → r ≡ mark (plainByte q b) → r ≡ 0 → IsPlain q b
+pub zero-is : (p q b r : ℕ) → r ≡ mark (plainByte p q b) → r ≡ 0 → IsPlain p q b
 unfolding mark
-zero-is q b r e z = byte-is q b (go (plainByte q b) (sym e ∙ z))
+zero-is p q b r e z = byte-is p q b (go (plainByte p q b) (sym e ∙ z))
   where
     go : (x : Bool) → mark x ≡ 0 → x ≡ true
     go true h = refl
     go false h = absurd (omega (arith, h))
 
 -- 1 for any other
-module _ (q b : ℕ) where
-  pub far-is-none : (1 ≤ b → 127 < b) → 1 ≡ mark (plainByte q b)
+module _ (p q b : ℕ) where
+  pub far-is-none : (1 ≤ b → 127 < b) → 1 ≡ mark (plainByte p q b)
   unfolding mark
   far-is-none h = sym (ap mark (go (leb 1 b) refl))
     where
-      go : (x : Bool) → leb 1 b ≡ x → plainByte q b ≡ false
+      go : (x : Bool) → leb 1 b ≡ x → plainByte p q b ≡ false
       go true e = simp (e, lt-leb b 127 (h (leb-true 1 b e)))
       go false e = simp e
 
-  pub backslash-is-none : b ≡ 92 → 1 ≡ mark (plainByte q b)
+  pub first-is-none : b ≡ p → 1 ≡ mark (plainByte p q b)
   unfolding mark
-  backslash-is-none e = simp (eq-eqb b 92 e, and-false)
+  first-is-none e = simp (eq-eqb b p e, and-false)
 
-  pub quote-is-none : b ≡ q → 1 ≡ mark (plainByte q b)
+  pub second-is-none : b ≡ q → 1 ≡ mark (plainByte p q b)
   unfolding mark
-  quote-is-none e = simp (eq-eqb b q e, and-false)
+  second-is-none e = simp (eq-eqb b q e, and-false)
 
 -- ---- a run
 
-pub plain-none : (q : ℕ) (t : List ℕ) (i j : ℕ) → j ≤ i → Plain q t i j
-plain-none q t i j h = record { each = λ k m n. absurd (omega arith) }
+pub plain-none : (p q : ℕ) (t : List ℕ) (i j : ℕ) → j ≤ i → Plain p q t i j
+plain-none p q t i j h = record { each = λ k m n. absurd (omega arith) }
 
-pub plain-more : (q : ℕ) (t : List ℕ) (i j : ℕ) → Plain q t i j → IsPlain q (getD t j 0) → Plain q t i (j + 1)
-plain-more q t i j p b = record { each = λ k h m. ⊎-elim (λ l. p .each k h l) (λ l. let e : k ≡ j = omega arith in rw e b) (lt-or k j) }
+pub plain-more : (p q : ℕ) (t : List ℕ) (i j : ℕ) → Plain p q t i j → IsPlain p q (getD t j 0) → Plain p q t i (j + 1)
+plain-more p q t i j r b = record { each = λ k h m. ⊎-elim (λ l. r .each k h l) (λ l. let e : k ≡ j = omega arith in rw e b) (lt-or k j) }
 
 -- two runs that overlap or meet
-pub plain-join : (q : ℕ) (t : List ℕ) (i j m k : ℕ) → m ≤ j → Plain q t i j → Plain q t m k → Plain q t i k
-plain-join q t i j m k o a b = record { each = λ n h z. ⊎-elim (λ l. a .each n h l) (λ l. b .each n (omega arith) z) (lt-or n j) }
+pub plain-join : (p q : ℕ) (t : List ℕ) (i j m k : ℕ) → m ≤ j → Plain p q t i j → Plain p q t m k → Plain p q t i k
+plain-join p q t i j m k o a b = record { each = λ n h z. ⊎-elim (λ l. a .each n h l) (λ l. b .each n (omega arith) z) (lt-or n j) }
+
+-- the greater of two is below neither
+pub raised-over : (top x r : ℕ) → r ≡ pick (ltb top x) x top → (top ≤ r) × (x ≤ r)
+raised-over top x r e = go (ltb top x) refl e
+  where
+    go : (b : Bool) → ltb top x ≡ b → r ≡ pick b x top → (top ≤ r) × (x ≤ r)
+    go true l e = let z = ltb-true top x l in (omega arith, omega arith)
+    go false l e = let z = ltb-false top x l in (omega arith, omega arith)
 
 -- the greater of what says so of n bytes and of one more says so of all
 raised : (x y : Bool) → pick (ltb (mark x) (mark y)) (mark y) (mark x) ≡ mark (x && y)
@@ -94,61 +102,62 @@ unfolding mark
 told true top e = (λ _. refl, λ h. absurd (h e))
 told false top e = (λ z. absurd (omega (arith, e, z)), λ _. refl)
 
-pub none-in : (q : ℕ) (t : List ℕ) (i : ℕ) → 0 ≡ mark (plainIn q t i 0)
+pub none-in : (p q : ℕ) (t : List ℕ) (i : ℕ) → 0 ≡ mark (plainIn p q t i 0)
 unfolding plainIn mark
-none-in q t i = refl
+none-in p q t i = refl
 
-pub more-in : (q : ℕ) (t : List ℕ) (i n : ℕ) → plainIn q t i (n + 1) ≡ (plainIn q t i n && plainByte q (getD t (i + n) 0))
+pub more-in : (p q : ℕ) (t : List ℕ) (i n : ℕ) → plainIn p q t i (n + 1) ≡ (plainIn p q t i n && plainByte p q (getD t (i + n) 0))
 unfolding plainIn
-more-in q t i n = let e : n + 1 ≡ suc n = omega arith in rw e refl
+more-in p q t i n = let e : n + 1 ≡ suc n = omega arith in rw e refl
 
-pub run-is : (q : ℕ) (t : List ℕ) (i n : ℕ) → plainIn q t i n ≡ true → Plain q t i (i + n)
+pub run-is : (p q : ℕ) (t : List ℕ) (i n : ℕ) → plainIn p q t i n ≡ true → Plain p q t i (i + n)
 unfolding plainIn
-run-is q t i zero e = plain-none q t i (i + 0) (omega arith)
-run-is q t i (suc n) e =
-    let b = plainByte q (getD t (i + n) 0) in
+run-is p q t i zero e = plain-none p q t i (i + 0) (omega arith)
+run-is p q t i (suc n) e =
+    let b = plainByte p q (getD t (i + n) 0) in
     let z : i + suc n ≡ i + n + 1 = omega arith in
-    rw z (plain-more q t i (i + n) (run-is q t i n (and-left (plainIn q t i n) b e)) (byte-is q (getD t (i + n) 0) (and-right (plainIn q t i n) b e)))
+    rw z (plain-more p q t i (i + n) (run-is p q t i n (and-left (plainIn p q t i n) b e)) (byte-is p q (getD t (i + n) 0) (and-right (plainIn p q t i n) b e)))
 
-pub run-holds : (q : ℕ) (t : List ℕ) (i n : ℕ) → Plain q t i (i + n) → plainIn q t i n ≡ true
+pub run-holds : (p q : ℕ) (t : List ℕ) (i n : ℕ) → Plain p q t i (i + n) → plainIn p q t i n ≡ true
 unfolding plainIn
-run-holds q t i zero p = refl
-run-holds q t i (suc n) p =
-    let before = run-holds q t i n (record { each = λ k h m. p .each k h (omega (arith, m)) }) in
-    ap₂ _&&_ before (sym (byte-holds q (getD t (i + n) 0) (p .each (i + n) (omega arith) (omega arith))))
+run-holds p q t i zero r = refl
+run-holds p q t i (suc n) r =
+    let before = run-holds p q t i n (record { each = λ k h m. r .each k h (omega (arith, m)) }) in
+    ap₂ _&&_ before (sym (byte-holds p q (getD t (i + n) 0) (r .each (i + n) (omega arith) (omega arith))))
 
-pub short-is : (t : List ℕ) (start e : ℕ) → shortPlain t start e ≡ true → (e - start < 64) × Plain 92 t start (start + (e - start))
-short-is t start e s =
+pub short-is : (p : ℕ) (t : List ℕ) (start e : ℕ) → start ≤ e → shortPlain p t start e ≡ true → (e - start < 64) × Plain p p t start e
+short-is p t start e h s =
     let n = e - start in
-    (ltb-true n 64 (and-left (ltb n 64) (plainIn 92 t start n) s), run-is 92 t start n (and-right (ltb n 64) (plainIn 92 t start n) s))
+    let z : start + n ≡ e = omega arith in
+    (ltb-true n 64 (and-left (ltb n 64) (plainIn p p t start n) s), rw z at (run-is p p t start n (and-right (ltb n 64) (plainIn p p t start n) s)))
 
 -- a span by its first n bytes and its last n
-module _ (q : ℕ) (t : List ℕ) (start e n : ℕ) (l : start + n ≤ e) (h : e ≤ start + n + n) where
+module _ (p q : ℕ) (t : List ℕ) (start e n : ℕ) (l : start + n ≤ e) (h : e ≤ start + n + n) where
   whole : start + (e - start) ≡ e
   whole = omega arith
 
   behind : e - n + n ≡ e
   behind = omega arith
 
-  first-of : plainIn q t start (e - start) ≡ true → plainIn q t start n ≡ true
-  first-of a = run-holds q t start n (record { each = λ k x y. run-is q t start (e - start) a .each k x (omega (arith, y, whole)) })
+  first-of : plainIn p q t start (e - start) ≡ true → plainIn p q t start n ≡ true
+  first-of a = run-holds p q t start n (record { each = λ k x y. run-is p q t start (e - start) a .each k x (omega (arith, y, whole)) })
 
-  last-of : plainIn q t start (e - start) ≡ true → plainIn q t (e - n) n ≡ true
-  last-of a = run-holds q t (e - n) n (record {
-    each = λ k x y. run-is q t start (e - start) a .each k (omega (arith, x)) (omega (arith, y, whole, behind));
+  last-of : plainIn p q t start (e - start) ≡ true → plainIn p q t (e - n) n ≡ true
+  last-of a = run-holds p q t (e - n) n (record {
+    each = λ k x y. run-is p q t start (e - start) a .each k (omega (arith, x)) (omega (arith, y, whole, behind));
   })
 
-  pub both-in : plainIn q t start n ≡ true → plainIn q t (e - n) n ≡ plainIn q t start (e - start)
-  both-in a = alike (plainIn q t (e - n) n) (plainIn q t start (e - start)) joined last-of
+  pub both-in : plainIn p q t start n ≡ true → plainIn p q t (e - n) n ≡ plainIn p q t start (e - start)
+  both-in a = alike (plainIn p q t (e - n) n) (plainIn p q t start (e - start)) joined last-of
     where
-      joined : plainIn q t (e - n) n ≡ true → plainIn q t start (e - start) ≡ true
+      joined : plainIn p q t (e - n) n ≡ true → plainIn p q t start (e - start) ≡ true
       joined b =
-          let last = rw behind at (run-is q t (e - n) n b) in
-          run-holds q t start (e - start) (rw whole (plain-join q t start (start + n) (e - n) e (omega arith) (run-is q t start n a) last))
+          let last = rw behind at (run-is p q t (e - n) n b) in
+          run-holds p q t start (e - start) (rw whole (plain-join p q t start (start + n) (e - n) e (omega arith) (run-is p q t start n a) last))
 
-  pub first-fails : plainIn q t start n ≡ false → false ≡ plainIn q t start (e - start)
-  first-fails a = go (plainIn q t start (e - start)) refl
+  pub first-fails : plainIn p q t start n ≡ false → false ≡ plainIn p q t start (e - start)
+  first-fails a = go (plainIn p q t start (e - start)) refl
     where
-      go : (x : Bool) → plainIn q t start (e - start) ≡ x → false ≡ x
+      go : (x : Bool) → plainIn p q t start (e - start) ≡ x → false ≡ x
       go true b = sym a ∙ first-of b
       go false b = refl

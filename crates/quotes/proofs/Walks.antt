@@ -125,7 +125,7 @@ module _ (t : List ℕ) (start : ℕ) where
       go (suc f) e = rw (drop-of-length-le t {i = i} h) at e
 
   -- a run of n plain bytes is n characters
-  pub going-run : (n i w : ℕ) → i + n ≤ length t → Plain q t i (i + n) → Going i w → Going (i + n) (w + n)
+  pub going-run : (n i w : ℕ) → i + n ≤ length t → Plain 92 q t i (i + n) → Going i w → Going (i + n) (w + n)
   going-run zero i w h p g = let e : i + 0 ≡ i = omega arith in let d : w + 0 ≡ w = omega arith in rw (e, d) g
   going-run (suc n) i w h p g =
       let b = p .each i (omega arith) (omega arith) in
@@ -133,10 +133,10 @@ module _ (t : List ℕ) (start : ℕ) where
       let e : i + suc n ≡ i + 1 + n = omega arith in
       let d : w + suc n ≡ w + begins (getD t i 0) + n = omega (arith, o) in
       rw (e, d) (going-run n (i + 1) (w + begins (getD t i 0)) (omega arith) (record { each = λ k m l. p .each k (omega arith) (omega arith) })
-      (going-character i w (omega arith) g (b .other) (b .unescaped)))
+      (going-character i w (omega arith) g (b .second) (b .first)))
 
   -- the same from one place to another
-  pub going-plain : (i j w : ℕ) → i ≤ j → j ≤ length t → Plain q t i j → Going i w → Going j (w + (j - i))
+  pub going-plain : (i j w : ℕ) → i ≤ j → j ≤ length t → Plain 92 q t i j → Going i w → Going j (w + (j - i))
   going-plain i j w h k p g =
       let e : i + (j - i) ≡ j = omega arith in
       rw e at (going-run (j - i) i w (omega arith) (rw e p) g)

@@ -38,7 +38,7 @@ pub fn quoted_at(text: &[u8], start: usize) -> Quoted
     let mut i = start + 1;
     let mut width = Width(1);
     while i < text.len() {
-        let end = plain::plain_end(q, text, i, text.len());
+        let end = plain::plain_end(92, q, text, i, text.len());
         width = wider(width, end - i);
         i = end;
         if i == text.len() {

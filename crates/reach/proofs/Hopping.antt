@@ -96,7 +96,7 @@ module _ {q plan : List ℕ} {n : ℕ} (p : PlanIn q plan n) {set : ℕ} (w : St
     where
       named : (s : ℕ) → (0 < s) × (s ≤ n) → NameIn q (wordsOf plan s)
       named zero x = absurd (let some = x .0 in omega (arith, some))
-      named (suc k) x = p .names k (let le = x .1 in omega arith)
+      named (suc k) x = p .names k (omega (arith, x .1))
 
 pub takes-at : (f : ℕ → Step) (h : Hop) (s : ℕ) → 0 < s → takes (f s) h ≡ takesAt f h s
 takes-at f h zero some = absurd (omega (arith, some))

@@ -1,10 +1,10 @@
 -- A step and a level, case by case: what a struct's step is, what a level is in the table's words, and whether the one takes the other.
 -- Assumes nothing.
-use Prim.Native.Nat.{ℕ, _+_, _≤_}
+use Prim.Native.Nat.{ℕ, _+_, _-_, _≤_, _<_}
 use mathlib.Core.Path.{_≡_, refl, sym, _∙_}
-use mathlib.Core.List.{List, _∷_}
+use mathlib.Core.List.{List}
 use mathlib.Core.Bool.{Bool, true, false}
-use lib.ListN.{length}
+use lib.ListN.{length, getD}
 use lib.Dec.{eqb}
 use borrow.Author.Tests.{ne-eqb}
 use Rattle.form.specs.Answer.{pick}
@@ -17,13 +17,16 @@ use Rattle.steps.specs.Steps.{stepOf}
 use Rattle.steps.specs.declared.Step.{Step as StepWords}
 use Rattle.reach.specs.Levels.{nameOf, hopTo, RecordIn}
 use Rattle.reach.specs.Reached.{isDeep}
+use Rattle.reach.proofs.Runs.{part-more}
 
--- Two lists that begin alike, and two that do not.
-pub same-more : (p q : List ℕ) (a b : ℕ) (s t : List ℕ) → p ≡ a ∷ s → q ≡ b ∷ t → a ≡ b → same p q ≡ same s t
-same-more p q a b s t hp hq e = rw (hp, hq, e) (same-head b s t)
+-- What is left of two parts begins alike, and it does not.
+module _ (p q : List ℕ) (x y i n : ℕ) (lt : i < n) (in-p : x + n ≤ length p) (in-q : y + n ≤ length q) where
+  pub same-more : getD p (x + i) 0 ≡ getD q (y + i) 0
+      → same (part p (x + i) (n - i)) (part q (y + i) (n - i)) ≡ same (part p (x + (i + 1)) (n - (i + 1))) (part q (y + (i + 1)) (n - (i + 1)))
+  same-more e = rw (part-more p x i n lt in-p, part-more q y i n lt in-q, e) (same-head _ _ _)
 
-pub same-less : (p q : List ℕ) (a b : ℕ) (s t : List ℕ) → p ≡ a ∷ s → q ≡ b ∷ t → (a ≡ b → ⊥) → same p q ≡ false
-same-less p q a b s t hp hq e = rw (hp, hq) (same-differ a b s t e)
+  pub same-less : (getD p (x + i) 0 ≡ getD q (y + i) 0 → ⊥) → same (part p (x + i) (n - i)) (part q (y + i) (n - i)) ≡ false
+  same-less e = rw (part-more p x i n lt in-p, part-more q y i n lt in-q) (same-differ _ _ _ _ e)
 
 -- A name of the query and a record's name, of one length and of two.
 module _ (doc t q : List ℕ) (at len c : ℕ) where

@@ -275,21 +275,21 @@ module _ (f : ℕ → Step) where
 
   -- None comes before the first.
   pub reached-within : (k s : ℕ) (p : List Hop) → among (from s p) k ≡ true → k ≤ s
-  reached-within k zero p e = let x = none-left k p e in omega arith
+  reached-within k zero p e = omega (arith, none-left k p e)
   reached-within k (suc s) p e = go (reached-within k s) (isDeep (f (suc s))) refl p e
     where
       last : ((p : List Hop) → among (from s p) k ≡ true → k ≤ s) → (k ≡ suc s) ⊎ (among (from s []) k ≡ true) → k ≤ suc s
       last ih (inl x) = omega arith
-      last ih (inr x) = let y = ih [] x in omega arith
+      last ih (inr x) = omega (arith, ih [] x)
 
       either : ((p : List Hop) → among (from s p) k ≡ true → k ≤ s) → (h : Hop) (p : List Hop) → (among (from (suc s) p) k ≡ true → k ≤ suc s)
           → (among (from s (h ∷ p)) k ≡ true) ⊎ (among (from (suc s) p) k ≡ true) → k ≤ suc s
-      either ih h p on (inl x) = let y = ih (h ∷ p) x in omega arith
+      either ih h p on (inl x) = omega (arith, ih (h ∷ p) x)
       either ih h p on (inr x) = on x
 
       go : ((p : List Hop) → among (from s p) k ≡ true → k ≤ s) → (b : Bool) → isDeep (f (suc s)) ≡ b → (p : List Hop) → among (from (suc s) p) k ≡ true → k ≤ suc s
-      go ih false d [] e = let x = one-last k s d e in omega arith
-      go ih false d (h ∷ p) e = let x = ih p (one-in k s d h p e) in omega arith
+      go ih false d [] e = omega (arith, one-last k s d e)
+      go ih false d (h ∷ p) e = omega (arith, ih p (one-in k s d h p e))
       go ih true d [] e = last ih (deep-last k s d e)
       go ih true d (h ∷ p) e = either ih h p (go ih true d p) (deep-in k s d h p e)
 

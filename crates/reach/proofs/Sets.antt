@@ -155,8 +155,8 @@ module _ (a b : ℕ) (w : Within b a) where
   within-odd = go (has b 0) refl
     where
       go : (x : Bool) → has b 0 ≡ x → b % 2 ≤ a % 2
-      go true e = let x = in-odd a (w 0 e) in omega arith
-      go false e = let x = out-even b e in omega arith
+      go true e = omega (arith, in-odd a (w 0 e))
+      go false e = omega (arith, out-even b e)
 
 pub within-le : (b a : ℕ) → Within b a → b ≤ a
 within-le = bin-ind (λ (b : ℕ). (a : ℕ) → Within b a → b ≤ a) (λ a w. omega arith) (λ b ih a w. step b ih a w)

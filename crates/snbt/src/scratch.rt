@@ -99,7 +99,7 @@ fn middle(text: &[u8], out: &mut [u8]) -> Done
 }
 
 // Texts up to 262,144 bytes.
-fn wide(text: &[u8], out: &mut [u8]) -> Done
+fn big(text: &[u8], out: &mut [u8]) -> Done
     requires { ⌜ length (now text) ≤ 262144 ⌝ }
     ensures { λ r. ⌜ RootIs (rootOf (now (text .entry)) (length (now (out .entry)))) (now (out .entry)) r (now (out .exit)) ⌝ }
 {
@@ -137,7 +137,7 @@ pub fn stepped(text: &[u8], out: &mut [u8], limit: usize) -> Done
         return middle(text, out);
     }
     if limit <= 262144 {
-        return wide(text, out);
+        return big(text, out);
     }
     large(text, out)
 }

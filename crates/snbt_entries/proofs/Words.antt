@@ -111,11 +111,11 @@ module _ (t : List ℕ) (i j : ℕ) (first : 60 ≤ getD t i 0) (run : Run t i j
   unfolding tokenBy
   colon-token = sym (token-here default t j j (sym colon-here) (got (made colon j 1 (j + 1))) low (rw sign refl))
 
-  plain : Plain 92 t i j
+  plain : Plain 92 92 t i j
   plain = record { each = λ k x y. of (run .each k x y) }
     where
-      of : {x : ℕ} → Ordinary x → IsPlain 92 x
-      of o = record { some = omega (arith, o .low); low = omega (arith, o .high); unescaped = o .backslash; other = o .backslash }
+      of : {x : ℕ} → Ordinary x → IsPlain 92 92 x
+      of o = record { some = omega (arith, o .low); low = omega (arith, o .high); first = o .backslash; second = o .backslash }
 
   own-content : contentOf t false i j ≡ got (part t i (j - i))
   own-content =

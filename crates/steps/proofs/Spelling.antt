@@ -12,7 +12,6 @@ use Rattle.form.specs.Spans.{part}
 use Rattle.form.specs.Numbers.{bigEndian}
 use Rattle.form.specs.Decoding.{wellFormed}
 use Rattle.form.specs.Reading.{numberAt, stringAt, countAt}
-use Rattle.form.specs.Paths.{name}
 use Rattle.form.specs.Query.{Spelt, blamed, stepBy, stepAt}
 use Rattle.form.proofs.Fields.{byte-got, number-got, number-no, string-no, string-cut, string-bad, string-got}
 use Rattle.steps.specs.Steps.{stepOf}
@@ -114,29 +113,23 @@ module _ (q : List ℕ) (at : ℕ) where
     kind-is k r e s = record { is = s .is ∙ sym (by-kind k e); goes = s .goes }
 
     -- 03 and 04 are a byte.
-    plain-goes : (getD q at 0 ≡ 1 → ⊥) → (getD q at 0 ≡ 2 → ⊥) → Goes q at (wordsOf (getD q at 0) 0 0) (at + 1)
+    plain-goes : (getD q at 0 ≡ 1 → ⊥) → (getD q at 0 ≡ 2 → ⊥) → (t : StepWords) (j : ℕ) → Next (wordsOf (getD q at 0) 0 0) (at + 1) ≡ Next t j → Goes q at t j
     unfolding wordsAt bytesAt
-    plain-goes n m = record {
+    plain-goes n m = next-goes (wordsOf (getD q at 0) 0 0) (at + 1) (record {
       words = rw (ne-eqb (getD q at 0) 1 n, ne-eqb (getD q at 0) 2 m) refl;
       place = rw (ne-eqb (getD q at 0) 1 n, ne-eqb (getD q at 0) 2 m) refl;
       after = omega arith;
       near = omega arith;
       name = λ (e : getD q at 0 ≡ 1). absurd (n e);
-    }
+    })
 
     pub any-is : getD q at 0 ≡ 3 → Reads q at (stepAt q at) (Next (wordsOf (getD q at 0) 0 0) (at + 1))
     unfolding stepBy stepOf
-    any-is e = record {
-      is = rw e (sym (by-kind 3 e));
-      goes = next-goes (wordsOf (getD q at 0) 0 0) (at + 1) (plain-goes (λ f. omega arith) (λ f. omega arith));
-    }
+    any-is e = record { is = rw e (sym (by-kind 3 e)); goes = plain-goes (λ f. omega arith) (λ f. omega arith) }
 
     pub deep-is : getD q at 0 ≡ 4 → Reads q at (stepAt q at) (Next (wordsOf (getD q at 0) 0 0) (at + 1))
     unfolding stepBy stepOf
-    deep-is e = record {
-      is = rw e (sym (by-kind 4 e));
-      goes = next-goes (wordsOf (getD q at 0) 0 0) (at + 1) (plain-goes (λ f. omega arith) (λ f. omega arith));
-    }
+    deep-is e = record { is = rw e (sym (by-kind 4 e)); goes = plain-goes (λ f. omega arith) (λ f. omega arith) }
 
     -- Any other byte is no step.
     pub none-is : (getD q at 0 ≡ 1 → ⊥) → (getD q at 0 ≡ 2 → ⊥) → (getD q at 0 ≡ 3 → ⊥) → (getD q at 0 ≡ 4 → ⊥) → Reads q at (stepAt q at) Bad

@@ -72,6 +72,10 @@ abbrev pub push : Query → StepWords → Query
 push query t = record { steps = set (query .steps) (query .count) t; count = query .count + 1 }
 
 module _ (q : List ℕ) (query : Query) (i : ℕ) (turn : Turn q query i) (lt : i < length q) where
+  -- The whole, by what is left.
+  left : {o : Out (List Step)} → stepsAt q (16 - query .count) i ≡ o → spelt q ≡ before (span (stepNo q query) 0 (query .count)) o
+  left e = turn .spells ∙ ap (before (span (stepNo q query) 0 (query .count))) e
+
   -- What is left where a step follows, and where it is refused.
   left-more : query .count < 16 → (t : StepWords) (j : ℕ) → got (record { step = stepOf q t; next = j }) ≡ stepAt q i
       → stepsAt q (16 - query .count) i ≡ before (stepOf q t ∷ []) (stepsAt q (16 - (query .count + 1)) j)
@@ -123,7 +127,9 @@ module _ (q : List ℕ) (query : Query) (i : ℕ) (turn : Turn q query i) (lt : 
         place = g .place ∙ next;
         held = λ k. keeps g k (ℕ-discrete k (query .count));
         names = λ k lt′. go g k lt′ (ℕ-discrete k (query .count));
-        spells = turn .spells ∙ ap (before (span (stepNo q query) 0 (query .count))) (left-more h t j x) ∙ before-before _ _ (stepsAt q (16 - (query .count + 1)) j) ∙ ap (λ l. before l (stepsAt q (16 - (query .count + 1)) j)) (sym (span-push h t));
+        spells =
+            let rest = stepsAt q (16 - (query .count + 1)) j in
+            left (left-more h t j x) ∙ before-before _ _ rest ∙ ap (λ l. before l rest) (sym (span-push h t));
       }
     where
       -- a step that is not the new one is held as before
@@ -166,13 +172,11 @@ module _ (q : List ℕ) (query : Query) (i : ℕ) (turn : Turn q query i) (lt : 
   pub turn-bad : query .count < 16 → (o : One) → Reads q i (stepAt q i) o → o ≡ Bad → (r : Taken) → Refuses r → TakenIs q r
   turn-bad h o s e r f =
       let x : refusal badQuery i ≡ stepAt q i = ap (oneOut q i) (sym e) ∙ s .is in
-      refuses r f (sym (turn .spells ∙ ap (before (span (stepNo q query) 0 (query .count))) (left-bad h x)))
+      refuses r f (sym (left (left-bad h x)))
 
   -- A seventeenth step.
   pub turn-many : 16 ≤ query .count → (r : Taken) → Refuses r → TakenIs q r
-  turn-many h r f =
-      let few = turn .few in
-      refuses r f (sym (turn .spells ∙ ap (before (span (stepNo q query) 0 (query .count))) (left-many h)))
+  turn-many h r f = refuses r f (sym (left (left-many h)))
 
 left-end : (n : ℕ) (q : List ℕ) (i : ℕ) → length q ≤ i → stepsAt q n i ≡ got []
 unfolding stepsAt
@@ -192,10 +196,10 @@ held-all q query i turn =
 pub turn-last : (q : List ℕ) (query : Query) (i : ℕ) → Turn q query i → length q ≤ i → TakenIs q (record { ok = true; place = 0; query = query })
 turn-last q query i turn h =
     let z : query .count - 0 ≡ query .count = omega arith in
-    let all : spelt q ≡ got (span (stepNo q query) 0 (query .count)) =
-    turn .spells ∙ ap (before (span (stepNo q query) 0 (query .count))) (left-end (16 - query .count) q i h) ∙ ap got (append-nil (span (stepNo q query) 0 (query .count))) in
+    let steps = span (stepNo q query) 0 (query .count) in
+    let all : spelt q ≡ got steps = turn .spells ∙ ap (before steps) (left-end (16 - query .count) q i h) ∙ ap got (append-nil steps) in
     record {
       whole = held-all q query i turn ∙ ap (λ (n : ℕ). taken-steps q n) (sym (span-length (stepNo q query) 0 (query .count))) ∙ ap (takenBy q) (sym all);
-      is = sym (turn .spells ∙ ap (before (span (stepNo q query) 0 (query .count))) (left-end (16 - query .count) q i h) ∙ ap got (append-nil (span (stepNo q query) 0 (query .count)) ∙ ap (span (stepNo q query) 0) (sym z)));
+      is = rw z (sym all);
       safe = record { few = turn .few; names = turn .names };
     }

@@ -1,11 +1,12 @@
--- Right since what is all plain is good, and else `judge` has the verdict.
+-- Right since what is short and plain is good, and else `judge` has the verdict.
 -- Assumes nothing.
 use borrow.Author.Needs.{needs}
+use mathlib.Core.Path.{sym, _∙_}
 use Rattle.form.specs.Answer.{badString}
 use Rattle.mutf8.specs.declared.Checked.{Checked}
 use Rattle.mutf8.specs.declared.Coding.the-variants.{Modified}
 use Rattle.mutf8.proofs.Walks.{checked-is}
-use Rattle.mutf8.proofs.Alike.{plain-good}
+use Rattle.mutf8.proofs.Alike.{short-good}
 use Rattle.mutf8.proofs.check.Statement.{statement}
 use Rattle.mutf8.proofs.check.Tie as tie
 
@@ -14,6 +15,6 @@ check-spec =
     tie.close
     (tie.spec
     (λ c κs. search needs)
-    (λ c. checked-is badString Checked.Good (plain-good Modified _ (c .before .is-plain .ensures (c .if1 .taken))))
+    (λ c. checked-is badString Checked.Good (short-good Modified _ (sym (c .before .is-plain .ensures) ∙ c .if1 .taken)))
     (λ c κs. search needs)
     (λ c. checked-is badString (c .judge .result) (c .judge .ensures)))

@@ -1,11 +1,12 @@
--- Right since what is all plain is good, and else `judge` has the verdict.
+-- Right since what is short and plain is good, and else `judge` has the verdict.
 -- Assumes nothing.
 use borrow.Author.Needs.{needs}
+use mathlib.Core.Path.{sym, _∙_}
 use Rattle.form.specs.Answer.{badText}
 use Rattle.mutf8.specs.declared.Checked.{Checked}
 use Rattle.mutf8.specs.declared.Coding.the-variants.{Utf8}
 use Rattle.mutf8.proofs.Walks.{checked-is}
-use Rattle.mutf8.proofs.Alike.{plain-good}
+use Rattle.mutf8.proofs.Alike.{short-good}
 use Rattle.mutf8.proofs.check_utf8.Statement.{statement}
 use Rattle.mutf8.proofs.check_utf8.Tie as tie
 
@@ -14,6 +15,6 @@ check-utf8-spec =
     tie.close
     (tie.spec
     (λ c κs. search needs)
-    (λ c. checked-is badText Checked.Good (plain-good Utf8 _ (c .before .is-plain .ensures (c .if1 .taken))))
+    (λ c. checked-is badText Checked.Good (short-good Utf8 _ (sym (c .before .is-plain .ensures) ∙ c .if1 .taken)))
     (λ c κs. search needs)
     (λ c. checked-is badText (c .judge .result) (c .judge .ensures)))

@@ -1,7 +1,8 @@
--- Right since what is all plain is well formed, and else `judge` gives the computed verdict.
+-- Right since what is short and plain is well formed, and else `judge` gives the computed verdict.
 -- Assumes nothing.
 use borrow.Author.Needs.{needs}
-use Rattle.mutf8.proofs.Alike.{plain-well}
+use mathlib.Core.Path.{sym, _∙_}
+use Rattle.mutf8.proofs.Alike.{short-well}
 use Rattle.mutf8.proofs.Walks.{judged-by}
 use Rattle.mutf8.proofs.is_well_formed.Statement.{statement}
 use Rattle.mutf8.proofs.is_well_formed.Tie as tie
@@ -11,7 +12,7 @@ is-well-formed-spec =
     tie.close
     (tie.spec
     (λ c κs. search needs)
-    (λ c. plain-well _ (c .before .is-plain .ensures (c .if1 .taken)))
+    (λ c. short-well _ (sym (c .before .is-plain .ensures) ∙ c .if1 .taken))
     (λ c κs. search needs)
     (λ c. search needs)
     (λ c. search needs)

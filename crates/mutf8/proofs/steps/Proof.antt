@@ -7,6 +7,7 @@ use lib.ListN.{length}
 use Rattle.chars.proofs.Fronts.{told}
 use Rattle.mutf8.specs.Answers.{oneOf}
 use Rattle.mutf8.specs.Runs.{Walked, none}
+use Rattle.plain.proofs.Plains.{zero-is}
 use Rattle.mutf8.proofs.Walks.{walked-more, reach}
 use Rattle.mutf8.proofs.Alike.{walked-plain}
 use Rattle.mutf8.proofs.steps.Statement.{statement}
@@ -45,7 +46,7 @@ steps-spec =
     (λ c. omega arith)
     (λ c. omega arith)
     (λ c. let l = turn-of (c .before .before) in let a = l .before .before .args in
-    (omega arith, omega arith, walked-plain (a .coding) _ _ _ (omega arith) (c .before .unplain .ensures (c .if1 .taken)) (l .loop .inv .2)))
+    (omega arith, omega arith, walked-plain (a .coding) _ _ _ (omega arith) (zero-is _ _ _ _ (c .before .unplain .ensures) (c .if1 .taken)) (l .loop .inv .2)))
     (λ c κs. search needs)
     (λ c. search needs)
     (λ c. omega (arith, reached (c .before)))

@@ -10,10 +10,10 @@ use Rattle.plain.proofs.all_plain.Statement.{statement}
 use Rattle.plain.proofs.all_plain.Tie as tie
 
 abbrev Inv-loop : tie.InvT-loop
-Inv-loop q text at n top₀ k₀ top k = (k ≤ n) × (top ≡ mark (plainIn q text at k))
+Inv-loop p q text at n top₀ k₀ top k = (k ≤ n) × (top ≡ mark (plainIn p q text at k))
 
 abbrev μ-loop : tie.MeasureT-loop
-μ-loop q text at n top₀ k₀ top k = n - k
+μ-loop p q text at n top₀ k₀ top k = n - k
 
 loop-again : tie.Need-loop-again Inv-loop μ-loop
 loop-again c =
@@ -21,17 +21,17 @@ loop-again c =
     let l = at-byte .before .before .before .loop in (
       omega arith,
       marked _ _ (l .top) (at-byte .unplain .result) (c .raise .result) (l .inv .1) (at-byte .unplain .ensures) (c .raise .ensures)
-          ∙ ap mark (sym (more-in _ _ _ (l .k))),
+          ∙ ap mark (sym (more-in _ _ _ _ (l .k))),
     )
 
 -- all n bytes were asked
 asked : (c : tie.After-loop Inv-loop μ-loop)
-    → let a = c .before .before .before .args in c .before .loop .top ≡ mark (plainIn (a .q) (a .text .now) (a .at) (a .n))
+    → let a = c .before .before .before .args in c .before .loop .top ≡ mark (plainIn (a .p) (a .q) (a .text .now) (a .at) (a .n))
 asked c =
     let l = c .before .loop in
     let a = c .before .before .before .args in
     let e : l .k ≡ a .n = omega arith in
-    l .inv .1 ∙ ap (λ (n : ℕ). mark (plainIn (a .q) (a .text .now) (a .at) n)) e
+    l .inv .1 ∙ ap (λ (n : ℕ). mark (plainIn (a .p) (a .q) (a .text .now) (a .at) n)) e
 
 pub all-plain-spec : {M : Type 1} → statement M
 all-plain-spec =
@@ -39,7 +39,7 @@ all-plain-spec =
     (tie.spec
     Inv-loop
     μ-loop
-    (λ c. (omega arith, none-in _ _ _))  -- loop-holds
+    (λ c. (omega arith, none-in _ _ _ _))  -- loop-holds
     (λ c. search needs)  -- add-unplain
     (λ c. search needs)  -- shared-slice-read-unplain
     (λ c κs. search needs)  -- unplain-requires

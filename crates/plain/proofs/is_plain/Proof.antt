@@ -12,10 +12,10 @@ use Rattle.plain.proofs.is_plain.Tie as tie
 
 -- a short span is asked whole
 short : (c : tie.After-shared-slice-known) (r : Bool) → let a = c .before .args in
-    a .end - a .start < 64 → r ≡ plainIn 92 (a .text .now) (a .start) (a .end - a .start) → r ≡ shortPlain (a .text .now) (a .start) (a .end)
+    a .end - a .start < 64 → r ≡ plainIn (a .p) (a .p) (a .text .now) (a .start) (a .end - a .start) → r ≡ shortPlain (a .p) (a .text .now) (a .start) (a .end)
 short c r h e =
     let a = c .before .args in
-    e ∙ ap (λ (x : Bool). x && plainIn 92 (a .text .now) (a .start) (a .end - a .start)) (sym (lt-ltb (a .end - a .start) 64 h))
+    e ∙ ap (λ (x : Bool). x && plainIn (a .p) (a .p) (a .text .now) (a .start) (a .end - a .start)) (sym (lt-ltb (a .end - a .start) 64 h))
 
 pub is-plain-spec : {M : Type 1} → statement M
 is-plain-spec =

@@ -9,10 +9,10 @@ use Rattle.plain.proofs.plain_from.Statement.{statement}
 use Rattle.plain.proofs.plain_from.Tie as tie
 
 abbrev Inv : tie.InvT-loop
-Inv q text at end i₀ i = (at ≤ i) × (i ≤ end) × Plain q text at i
+Inv p q text at end i₀ i = (at ≤ i) × (i ≤ end) × Plain p q text at i
 
 abbrev μ : tie.MeasureT-loop
-μ q text at end i₀ i = end - i
+μ p q text at end i₀ i = end - i
 
 abbrev loop-of : tie.After-unplain Inv μ → tie.In-loop Inv μ
 loop-of c = c .before .before
@@ -21,7 +21,7 @@ loop-again : tie.Need-loop-again Inv μ
 loop-again c =
     let at-byte = c .before in
     let l = loop-of at-byte .before .loop in
-    (omega arith, omega arith, plain-more _ _ _ _ (l .inv .2) (zero-is _ _ _ (at-byte .unplain .ensures) (c .if1 .taken)))
+    (omega arith, omega arith, plain-more _ _ _ _ _ (l .inv .2) (zero-is _ _ _ _ (at-byte .unplain .ensures) (c .if1 .taken)))
 
 pub plain-from-spec : {M : Type 1} → statement M
 plain-from-spec =

@@ -4,7 +4,7 @@ use mathlib.Core.Path.{ap}
 use native.Mathlib.Omega.{arith}
 use borrow.Author.Needs.{needs}
 use Rattle.plain.specs.Runs.{mark}
-use Rattle.plain.proofs.Plains.{byte-holds, far-is-none, backslash-is-none, quote-is-none}
+use Rattle.plain.proofs.Plains.{byte-holds, far-is-none, first-is-none, second-is-none}
 use Rattle.plain.proofs.unplain.Statement.{statement}
 use Rattle.plain.proofs.unplain.Tie as tie
 
@@ -14,11 +14,11 @@ returns-4 c =
     let at-test = c .before .before in
     let a = at-test .before .before .args in
     let w = at-test .before .wrapping-sub-u8 .ensures in
-    ap mark (byte-holds (a .q) (a .b) (record {
+    ap mark (byte-holds (a .p) (a .q) (a .b) (record {
       some = omega (arith, w);
       low = omega (arith, w);
-      unescaped = c .before .if2 .left;
-      other = c .if3 .left;
+      first = c .before .if2 .left;
+      second = c .if3 .left;
     }))
 
 pub unplain-spec : {M : Type 1} → statement M
@@ -26,7 +26,7 @@ unplain-spec =
     tie.close
     (tie.spec
     (λ c κs. search needs)  -- wrapping-sub-u8-requires
-    (λ c. let a = c .before .before .args in far-is-none (a .q) (a .b) (λ h. omega (arith, h, c .before .wrapping-sub-u8 .ensures)))  -- returns
-    (λ c. backslash-is-none _ _ (c .if2 .taken))  -- returns-2
-    (λ c. quote-is-none _ _ (c .if3 .taken))  -- returns-3
+    (λ c. let a = c .before .before .args in far-is-none (a .p) (a .q) (a .b) (λ h. omega (arith, h, c .before .wrapping-sub-u8 .ensures)))  -- returns
+    (λ c. first-is-none _ _ _ (c .if2 .taken))  -- returns-2
+    (λ c. second-is-none _ _ _ (c .if3 .taken))  -- returns-3
     returns-4)

@@ -1,7 +1,7 @@
 -- `reach::next` meets its contract. The invariant: what is gathered comes from the set, and all that comes from its steps is there but from
 -- those left; the measure is the set of those. Assumes nothing.
 use borrow.Author.Needs.{needs}
-use Prim.Native.Nat.{_/_}
+use Prim.Native.Nat.{_/_, _≤_}
 use native.Mathlib.Omega.{arith}
 use lib.ListN.{getD}
 use lib.Bits.{bitAnd}
@@ -26,10 +26,15 @@ deeps-start c = let at-slices = c .before in at-slices .before .before .before
 abbrev loop-start : tie.At-loop Inv μ → tie.Start Inv μ
 loop-start c = deeps-start (c .before .before)
 
+-- The step whose turn it is is one of at most sixteen.
+few : (c : tie.After-least Inv μ) → c .least .result ≤ 16
+few c =
+    let at-loop = c .before .before in
+    let v = loop-start at-loop .pre .0 .2 in
+    omega (arith, v .plan-in .few, set-within v _ (at-loop .loop .inv .within _ (c .least .ensures .is-in)))
+
 mul-takers : tie.Need-mul-takers Inv μ
-mul-takers c =
-    let fits = deeps-start c .fits .set .fits in
-    omega arith
+mul-takers c = omega (arith, deeps-start c .fits .set .fits)
 
 takers-requires : tie.Need-takers-requires Inv μ
 takers-requires c κs =
@@ -47,20 +52,7 @@ reach-requires : tie.Need-reach-requires Inv μ
 reach-requires c κs =
     let at-loop = c .before .before in
     let at-takers = at-loop .before in
-    let v = loop-start at-loop .pre .0 .2 in
-    let inv = at-loop .loop .inv in
-    let few = v .plan-in .few in
-    let le = set-within v _ (inv .within _ (c .least .ensures .is-in)) in
-    (omega arith, (_, _, hopping-ready v _ (at-takers .takers .ensures) inv (c .least .ensures)))
-
-only-requires : tie.Need-only-requires Inv μ
-only-requires c κs =
-    let at-least = c .before in
-    let at-loop = at-least .before .before in
-    let v = loop-start at-loop .pre .0 .2 in
-    let few = v .plan-in .few in
-    let le = set-within v _ (at-loop .loop .inv .within _ (at-least .least .ensures .is-in)) in
-    omega arith
+    (few c, (_, _, hopping-ready (loop-start at-loop .pre .0 .2) _ (at-takers .takers .ensures) (at-loop .loop .inv) (c .least .ensures)))
 
 sub-rest-2 : tie.Need-sub-rest-2 Inv μ
 sub-rest-2 c = least-le (c .before .before .least .ensures) (c .only .ensures) .0
@@ -97,7 +89,7 @@ next-spec =
     loop-holds
     (λ c κs. c .loop-test .taken)
     reach-requires
-    only-requires
+    (λ c κs. few (c .before))
     sub-rest-2
     loop-less
     loop-again

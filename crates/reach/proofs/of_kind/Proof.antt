@@ -1,6 +1,6 @@
 -- `reach::of_kind` meets its contract. The invariant: the steps before s are marked where their kind is one of those. Assumes nothing.
 use borrow.Author.Needs.{needs}
-use Prim.Native.Nat.{_+_, _-_, _<_}
+use Prim.Native.Nat.{_+_, _-_, _≤_, _<_}
 use mathlib.Core.Path.{refl}
 use native.Mathlib.Omega.{arith}
 use Rattle.reach.specs.Plans.{kindIn}
@@ -17,40 +17,22 @@ abbrev μ-loop : tie.MeasureT-loop
 loop-holds : tie.Need-loop-holds Inv-loop μ-loop
 loop-holds c = (omega arith, marking-start refl)
 
-mul-between : tie.Need-mul-between Inv-loop μ-loop
-mul-between c = let few = c .before .before .pre in omega arith
+-- Where a turn began.
+abbrev turn-of : tie.After-between Inv-loop μ-loop → tie.In-loop Inv-loop μ-loop
+turn-of c = c .before .before
 
-mul-between-2 : tie.Need-mul-between-2 Inv-loop μ-loop
-mul-between-2 c = let few = c .before .before .pre in omega arith
-
-element-copy-out-between : tie.Need-element-copy-out-between Inv-loop μ-loop
-element-copy-out-between c = let few = c .before .before .pre in omega arith
-
-mark-requires : tie.Need-mark-requires Inv-loop μ-loop
-mark-requires c κs =
-    let at-in-loop = c .before .before in
-    let few = at-in-loop .before .before .pre in
-    let le = at-in-loop .loop-test .taken in
-    omega arith
-
-add-s : tie.Need-add-s Inv-loop μ-loop
-add-s c =
-    let at-in-loop = c .before .before .before in
-    let few = at-in-loop .before .before .pre in
-    let le = at-in-loop .loop-test .taken in
-    omega arith
-
-loop-less : tie.Need-loop-less Inv-loop μ-loop
-loop-less c = let le = c .before .before .before .loop-test .taken in omega arith
+-- The step is one of at most sixteen.
+few : (c : tie.In-loop Inv-loop μ-loop) → c .before .loop .s ≤ 16
+few c = omega (arith, c .before .before .pre, c .loop-test .taken)
 
 loop-again : tie.Need-loop-again Inv-loop μ-loop
 loop-again c =
     let at-between = c .before in
-    let at-in-loop = at-between .before .before in
-    let at-loop = at-in-loop .before in
-    let a = at-loop .before .args in
-    let inv = at-loop .loop .inv in
-    (omega arith, marking-next (inv .1) (kind-is (a .plan .now) (a .count) (a .low) (a .high) _ (inv .0) (at-in-loop .loop-test .taken) (at-between .between .ensures)) (c .mark .ensures))
+    let turn = turn-of at-between in
+    let a = turn .before .before .args in
+    let inv = turn .before .loop .inv in
+    let kind = kind-is (a .plan .now) (a .count) (a .low) (a .high) _ (inv .0) (turn .loop-test .taken) (at-between .between .ensures) in
+    (omega arith, marking-next (inv .1) kind (c .mark .ensures))
 
 returns : tie.Need-returns Inv-loop μ-loop
 returns c =
@@ -64,12 +46,12 @@ of-kind-spec =
     Inv-loop
     μ-loop
     loop-holds
-    mul-between
-    mul-between-2
-    element-copy-out-between
+    (λ c. omega (arith, few c))
+    (λ c. omega (arith, few c))
+    (λ c. omega (arith, few c))
     (λ c κs. search needs)
-    mark-requires
-    add-s
-    loop-less
+    (λ c κs. few (turn-of c))
+    (λ c. omega (arith, few (turn-of (c .before))))
+    (λ c. omega (arith, turn-of (c .before) .loop-test .taken))
     loop-again
     returns)

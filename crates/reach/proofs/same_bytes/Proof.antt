@@ -6,7 +6,7 @@ use mathlib.Core.Path.{_≡_, sym, ap₂, _∙_}
 use native.Mathlib.Omega.{arith}
 use Rattle.form.specs.Spans.{part, same}
 use Rattle.form.proofs.Spans.{same-nil}
-use Rattle.reach.proofs.Runs.{part-more, part-none, part-all}
+use Rattle.reach.proofs.Runs.{part-none, part-all}
 use Rattle.reach.proofs.Levels.{same-more, same-less}
 use Rattle.reach.proofs.same_bytes.Statement.{statement}
 use Rattle.reach.proofs.same_bytes.Tie as tie
@@ -17,6 +17,10 @@ Inv-loop a x b y n i₀ i = (i ≤ n) × (same (part a x n) (part b y n) ≡ sam
 abbrev μ-loop : tie.MeasureT-loop
 μ-loop a x b y n i₀ i = n - i
 
+-- Where a turn began, from where its two bytes are read.
+abbrev turn-of : tie.After-shared-slice-known2 Inv-loop μ-loop → tie.In-loop Inv-loop μ-loop
+turn-of c = c .before .before
+
 loop-holds : tie.Need-loop-holds Inv-loop μ-loop
 loop-holds c =
     let a = c .args in
@@ -24,27 +28,22 @@ loop-holds c =
 
 returns : tie.Need-returns Inv-loop μ-loop
 returns c =
-    let at-loop = c .before .before .before .before in
-    let a = at-loop .before .args in
-    let i = at-loop .loop .i in
-    let left = part-more (a .a .now) (a .x) i (a .n) (omega arith) (omega arith) in
-    let right = part-more (a .b .now) (a .y) i (a .n) (omega arith) (omega arith) in
-    sym (at-loop .loop .inv .1 ∙ same-less _ _ _ _ _ _ left right (c .if1 .taken))
+    let turn = turn-of (c .before) in
+    let p = turn .before .before .pre in
+    sym (turn .before .loop .inv .1 ∙ same-less _ _ _ _ _ _ (turn .loop-test .taken) (p .0) (p .1) (c .if1 .taken))
 
 loop-again : tie.Need-loop-again Inv-loop μ-loop
 loop-again c =
-    let at-loop = c .before .before .before .before in
-    let a = at-loop .before .args in
-    let i = at-loop .loop .i in
-    let left = part-more (a .a .now) (a .x) i (a .n) (omega arith) (omega arith) in
-    let right = part-more (a .b .now) (a .y) i (a .n) (omega arith) (omega arith) in
-    (omega arith, at-loop .loop .inv .1 ∙ same-more _ _ _ _ _ _ left right (c .if1 .left))
+    let turn = turn-of (c .before) in
+    let p = turn .before .before .pre in
+    (omega arith, turn .before .loop .inv .1 ∙ same-more _ _ _ _ _ _ (turn .loop-test .taken) (p .0) (p .1) (c .if1 .left))
 
 returns-2 : tie.Need-returns-2 Inv-loop μ-loop
 returns-2 c =
     let a = c .before .before .args in
     let i = c .before .loop .i in
-    sym (c .before .loop .inv .1 ∙ ap₂ same (part-none (a .a .now) (a .x) i (a .n) (omega arith)) (part-none (a .b .now) (a .y) i (a .n) (omega arith)) ∙ same-nil)
+    let none = ap₂ same (part-none (a .a .now) (a .x) i (a .n) (omega arith)) (part-none (a .b .now) (a .y) i (a .n) (omega arith)) in
+    sym (c .before .loop .inv .1 ∙ none ∙ same-nil)
 
 pub same-bytes-spec : {M : Type 1} → statement M
 same-bytes-spec =

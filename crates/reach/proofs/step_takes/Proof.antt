@@ -9,7 +9,7 @@ use Rattle.reach.proofs.step_takes.Tie as tie
 
 -- The start, from where the step's words have been read.
 abbrev start-of : tie.After-len → tie.Start
-start-of c = c .before .before .before .before .before .before
+start-of c = let at-slices = c .before .before .before in at-slices .before .before .before
 
 word-requires : tie.Need-word-requires
 word-requires c κs = (start-of (c .before) .pre .2 .row, search needs)

@@ -1,6 +1,7 @@
 -- `reach::takers` meets its contract. The invariant: the steps that are not asked stay, and those asked before are there if they take the hop;
 -- the measure is the set of those left. Assumes nothing.
 use borrow.Author.Needs.{needs}
+use Prim.Native.Nat.{_≤_, _<_}
 use mathlib.Core.Path.{_∙_}
 use lib.Bits.{bitAnd}
 use lib.ListN.{getD}
@@ -17,9 +18,18 @@ Inv doc table q plan set parent c index rest₀ out₀ rest out = Taking (planne
 abbrev μ : tie.MeasureT-loop
 μ doc table q plan set parent c index rest₀ out₀ rest out = rest
 
--- The places: where the function begins, from a turn of the loop.
+-- The places: where the function begins, from a turn of the loop, and the turn, from its step.
 abbrev loop-start : tie.At-loop Inv μ → tie.Start Inv μ
 loop-start c = let at-slices = c .before .before in at-slices .before .before .before
+
+abbrev loop-of : tie.After-least Inv μ → tie.At-loop Inv μ
+loop-of c = c .before .before
+
+-- The step that is asked is one of the plan.
+asked : (c : tie.After-least Inv μ) → (0 < c .least .result) × (c .least .result ≤ 16)
+asked c =
+    let p = loop-start (loop-of c) .pre .0 in
+    asked-step (p .1) (p .2) (loop-of c .loop .inv) (c .least .ensures)
 
 sub-out : tie.Need-sub-out Inv μ
 sub-out c = within-le _ _ (within-both _ _)
@@ -32,24 +42,8 @@ least-requires c κs = c .loop-test .taken
 
 step-takes-requires : tie.Need-step-takes-requires Inv μ
 step-takes-requires c κs =
-    let at-loop = c .before .before in
-    let p = loop-start at-loop .pre in
-    let inv = at-loop .loop .inv in
-    (asked-step (p .0 .1) (p .0 .2) inv (c .least .ensures) .1, asked-name (p .0 .1) (p .0 .2) inv (c .least .ensures), p .1, p .2)
-
-mark-requires : tie.Need-mark-requires Inv μ
-mark-requires c κs =
-    let at-least = c .before in
-    let at-loop = at-least .before .before in
-    let p = loop-start at-loop .pre in
-    asked-step (p .0 .1) (p .0 .2) (at-loop .loop .inv) (at-least .least .ensures) .1
-
-only-requires : tie.Need-only-requires Inv μ
-only-requires c κs =
-    let at-least = c .before .before in
-    let at-loop = at-least .before .before in
-    let p = loop-start at-loop .pre in
-    asked-step (p .0 .1) (p .0 .2) (at-loop .loop .inv) (at-least .least .ensures) .1
+    let p = loop-start (loop-of c) .pre in
+    (asked c .1, asked-name (p .0 .1) (p .0 .2) (loop-of c .loop .inv) (c .least .ensures), p .1, p .2)
 
 sub-rest : tie.Need-sub-rest Inv μ
 sub-rest c =
@@ -66,11 +60,8 @@ loop-again c =
     let at-mark = c .before in
     let at-step-takes = at-mark .before in
     let at-least = at-step-takes .before in
-    let at-loop = at-least .before .before in
-    let p = loop-start at-loop .pre in
-    let inv = at-loop .loop .inv in
-    let some = asked-step (p .0 .1) (p .0 .2) inv (at-least .least .ensures) .0 in
-    taking-next _ _ _ _ inv (at-least .least .ensures) (at-step-takes .step-takes .ensures ∙ takes-at _ _ _ some) (at-mark .mark .ensures) (c .only .ensures)
+    let takes = at-step-takes .step-takes .ensures ∙ takes-at _ _ _ (asked at-least .0) in
+    taking-next _ _ _ _ (loop-of at-least .loop .inv) (at-least .least .ensures) takes (at-mark .mark .ensures) (c .only .ensures)
 
 returns : tie.Need-returns Inv μ
 returns c =
@@ -89,8 +80,8 @@ takers-spec =
     loop-holds
     least-requires
     step-takes-requires
-    mark-requires
-    only-requires
+    (λ c κs. asked (c .before) .1)
+    (λ c κs. asked (c .before .before) .1)
     sub-rest
     loop-less
     loop-again

@@ -7,7 +7,9 @@ use Rattle.replay_queries.proofs.replay.Statement.{statement}
 use Rattle.replay_queries.proofs.replay.Tie as tie
 
 abbrev Inv-loop : tie.InvT-loop
-Inv-loop chunk₀ line₀ field₀ doc₀ table₀ q₀ list₀ input₀ turns₀ chunk line field doc table q list input turns = (length chunk ≡ length chunk₀) × (length line ≡ length line₀) × (length field ≡ length field₀) × (length doc ≡ length doc₀) × (length table ≡ length table₀) × (length q ≡ length q₀) × (length list ≡ length list₀)
+Inv-loop chunk₀ line₀ field₀ doc₀ table₀ q₀ list₀ input₀ turns₀ chunk line field doc table q list input turns =
+    (length chunk ≡ length chunk₀) × (length line ≡ length line₀) × (length field ≡ length field₀) × (length doc ≡ length doc₀)
+    × (length table ≡ length table₀) × (length q ≡ length q₀) × (length list ≡ length list₀)
 
 abbrev μ-loop : tie.MeasureT-loop
 μ-loop chunk₀ line₀ field₀ doc₀ table₀ q₀ list₀ input₀ turns₀ chunk line field doc table q list input turns = turns

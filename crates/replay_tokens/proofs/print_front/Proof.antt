@@ -1,7 +1,6 @@
 -- `replay_tokens::print_front` is safe: the first bytes are as many as are asked for.
 -- Assumes nothing.
 use borrow.Author.Needs.{needs}
-use native.Mathlib.Omega.{arith}
 use mathlib.Core.Path.{sym}
 use lib.Seq.{length-take-le}
 use Rattle.replay_tokens.proofs.print_front.Statement.{statement}
@@ -13,7 +12,7 @@ print-front-spec =
     (tie.spec
     (λ c. search needs)
     (λ c κs. search needs)
-    (λ c. let a = c .before .before .before .before .before .before .args in sym (length-take-le (a .n) (a .out .now) (omega arith)))
+    (λ c. sym (length-take-le _ _ (search needs)))
     (λ c κs. search needs)
     (λ c. search needs)
     (λ c. search needs))

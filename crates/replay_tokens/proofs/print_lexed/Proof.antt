@@ -5,13 +5,19 @@ use Rattle.lexer.proofs.Answered.{found-quiet}
 use Rattle.replay_tokens.proofs.print_lexed.Statement.{statement}
 use Rattle.replay_tokens.proofs.print_lexed.Tie as tie
 
+print-token-requires : tie.Need-print-token-requires
+print-token-requires c κs =
+    let told = c .before .before .before in
+    let found = told .before in
+    found-quiet _ _ _ _ _ _ (found .«data» .given .1) (found .before .before .token .ensures)
+
 pub print-lexed-spec : {M : Type 1} → statement M
 print-lexed-spec =
     tie.close
     (tie.spec
     (λ c κs. search needs)
     (λ c. search needs)
-    (λ c κs. found-quiet _ _ _ _ _ _ (c .before .before .before .before .«data» .given .1) (c .before .before .before .before .before .before .token .ensures))
+    print-token-requires
     (λ c. search needs)
     (λ c. search needs)
     (λ c κs. search needs)

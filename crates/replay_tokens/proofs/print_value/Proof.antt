@@ -6,6 +6,9 @@ use Rattle.tokens.specs.Quiet.{Quiet}
 use Rattle.replay_tokens.proofs.print_value.Statement.{statement}
 use Rattle.replay_tokens.proofs.print_value.Tie as tie
 
+abbrev start-of : tie.After-slice-known → tie.Start
+start-of c = c .before .before
+
 pub print-value-spec : {M : Type 1} → statement M
 print-value-spec =
     tie.close
@@ -32,9 +35,9 @@ print-value-spec =
     (λ c κs. search needs)
     (λ c κs. search needs)
     (λ c. search needs)
-    (λ c κs. subst Quiet (c .before .token6 .given .1) (c .before .before .before .before .before .pre))
+    (λ c κs. subst Quiet (c .before .token6 .given .1) (start-of (c .before .before .before) .pre))
     (λ c. search needs)
-    (λ c κs. subst Quiet (c .before .token7 .given .1) (c .before .before .before .before .before .pre))
+    (λ c κs. subst Quiet (c .before .token7 .given .1) (start-of (c .before .before .before) .pre))
     (λ c. search needs)
     (λ c. search needs)
     (λ c. search needs)

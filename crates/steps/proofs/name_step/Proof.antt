@@ -17,12 +17,12 @@ use Rattle.steps.proofs.name_step.Tie as tie
 judged : (q : List ℕ) (a n m : ℕ) → n ≡ m → {b : Bool} → wellFormed (part q a (a + n - a)) ≡ b → wellFormed (part q a m) ≡ b
 judged q a n m e w = let k : m ≡ a + n - a = omega arith in rw k w
 
--- Back to the start, where the first byte is 01.
-abbrev start : tie.Else3 → tie.Start
-start c =
-    let cut = c .before .before .before in
-    let short = cut .before .before in
-    short .before .before
+-- The name's length, and the start, where the first byte is 01.
+abbrev length-of : tie.After-is-well-formed → tie.After-u16-at
+length-of c = c .before .before .before
+
+abbrev start-of : tie.After-u16-at → tie.Start
+start-of c = c .before .before .before
 
 returns : tie.Need-returns
 returns c = name-short _ _ (omega arith)
@@ -31,13 +31,16 @@ returns-2 : tie.Need-returns-2
 returns-2 c = name-cut _ _ (omega arith) (omega (arith, c .before .u16-at .ensures))
 
 returns-3 : tie.Need-returns-3
-returns-3 c = let e = c .before .before .before .before .u16-at .ensures in
+returns-3 c =
+    let e = length-of (c .before) .u16-at .ensures in
     name-bad _ _ (omega arith) (omega (arith, e)) (judged _ _ _ _ e (sym (c .before .is-well-formed .ensures) ∙ not-true _ (c .if3 .taken)))
 
 returns-4 : tie.Need-returns-4
-returns-4 c = let e = c .before .before .before .before .u16-at .ensures in
-    rw e
-    (name-got _ _ (omega arith) (omega (arith, e)) (start c .pre .2) (judged _ _ _ _ e (sym (c .before .is-well-formed .ensures) ∙ not-false _ (c .if3 .left))) (omega (arith, e)))
+returns-4 c =
+    let at-length = length-of (c .before) in
+    let e = at-length .u16-at .ensures in
+    let good = judged _ _ _ _ e (sym (c .before .is-well-formed .ensures) ∙ not-false _ (c .if3 .left)) in
+    rw e (name-got _ _ (omega arith) (omega (arith, e)) (start-of at-length .pre .2) good (omega (arith, e)))
 
 pub name-step-spec : {M : Type 1} → statement M
 name-step-spec =

@@ -15,42 +15,54 @@ Inv-loop q query₀ at₀ query at = Turn q query at
 abbrev μ-loop : tie.MeasureT-loop
 μ-loop q query₀ at₀ query at = length q - at
 
+-- A turn's step, and where the turn began.
+abbrev step-of : tie.After-known-told Inv-loop μ-loop → tie.After-one-step Inv-loop μ-loop
+step-of c = c .before .before .before
+
+abbrev turn-of : tie.After-one-step Inv-loop μ-loop → tie.In-loop Inv-loop μ-loop
+turn-of c = c .before .before
+
 loop-holds : tie.Need-loop-holds Inv-loop μ-loop
 loop-holds c = turn-none _ _ refl refl
 
 returns : tie.Need-returns Inv-loop μ-loop
-returns c = turn-many _ _ _ (c .before .before .before .loop .inv) (c .before .before .loop-test .taken) (c .before .if1 .taken) (c .refused .result) (c .refused .ensures)
+returns c =
+    let turn = c .before .before in
+    turn-many _ _ _ (turn .before .loop .inv) (turn .loop-test .taken) (c .before .if1 .taken) (c .refused .result) (c .refused .ensures)
 
 one-step-requires : tie.Need-one-step-requires Inv-loop μ-loop
-one-step-requires c κs = let v = c .before .before .loop .inv in
-    let few = v .few in
-    let far = v .far in
-    (c .before .loop-test .taken, omega arith)
+one-step-requires c κs = (c .before .loop-test .taken, omega (arith, c .before .before .loop .inv))
 
 enum-known-step : tie.Need-enum-known-step Inv-loop μ-loop
 enum-known-step c = c .match .keys1
 
 mul-step : tie.Need-mul-step Inv-loop μ-loop
-mul-step c = let few = c .before .before .before .before .before .before .loop .inv .few in omega arith
+mul-step c = omega (arith, turn-of (step-of c) .before .loop .inv .few)
 
 loop-less : tie.Need-loop-less Inv-loop μ-loop
-loop-less c = let e = c .before .before .before in
-    let l = e .before .before .before in
-    let lt = turn-after _ _ _ (l .loop .inv) (e .before .before .loop-test .taken) (e .one-step .result) _ _ (e .one-step .ensures) (c .before .step .given .1) in
-    omega arith
+loop-less c =
+    let step = step-of c in
+    let turn = turn-of step in
+    omega (arith, turn-after _ _ _ (turn .before .loop .inv) (turn .loop-test .taken) (step .one-step .result) _ _ (step .one-step .ensures) (c .before .step .given .1))
 
 loop-again : tie.Need-loop-again Inv-loop μ-loop
-loop-again c = let e = c .before .before .before in
-    let l = e .before .before .before in
-    turn-more _ _ _ (l .loop .inv) (e .before .before .loop-test .taken) (e .before .if1 .left) (e .one-step .result) _ _ (e .one-step .ensures) (c .before .step .given .1)
+loop-again c =
+    let step = step-of c in
+    let turn = turn-of step in
+    let inv = turn .before .loop .inv in
+    turn-more _ _ _ inv (turn .loop-test .taken) (step .before .if1 .left) (step .one-step .result) _ _ (step .one-step .ensures) (c .before .step .given .1)
 
 enum-told : tie.Need-enum-told Inv-loop μ-loop
 enum-told c = c .match .keys2
 
 returns-2 : tie.Need-returns-2 Inv-loop μ-loop
-returns-2 c = let e = c .before .before .before in
-    let l = e .before .before .before in
-    turn-bad _ _ _ (l .loop .inv) (e .before .before .loop-test .taken) (e .before .if1 .left) (e .one-step .result) (e .one-step .ensures) (c .before .enum-told .given .1) (c .refused2 .result) (c .refused2 .ensures)
+returns-2 c =
+    let told = c .before in
+    let step = told .before .before in
+    let turn = turn-of step in
+    let inv = turn .before .loop .inv in
+    turn-bad _ _ _ inv (turn .loop-test .taken) (step .before .if1 .left) (step .one-step .result) (step .one-step .ensures) (told .enum-told .given .1)
+    (c .refused2 .result) (c .refused2 .ensures)
 
 returns-3 : tie.Need-returns-3 Inv-loop μ-loop
 returns-3 c = turn-last _ _ _ (c .before .loop .inv) (c .loop-test .left)

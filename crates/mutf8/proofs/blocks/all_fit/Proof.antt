@@ -1,11 +1,13 @@
 -- Right since nothing odd among k bytes says that those k fit.
 -- Assumes nothing.
 use Prim.Native.Nat.{_+_, _-_, _≤_}
-use mathlib.Core.Path.{_≡_}
+use mathlib.Core.Path.{_≡_, sym}
 use native.Mathlib.Omega.{arith}
 use borrow.Author.Needs.{needs}
+use Rattle.form.proofs.Picks.{differ}
+use Rattle.plain.proofs.Plains.{raised-over}
 use Rattle.mutf8.specs.Runs.{Fitting}
-use Rattle.mutf8.proofs.Alike.{false-true, fitting-none, fitting-more}
+use Rattle.mutf8.proofs.Alike.{fitting-none, fitting-more}
 use Rattle.mutf8.proofs.blocks.all_fit.Statement.{statement}
 use Rattle.mutf8.proofs.blocks.all_fit.Tie as tie
 
@@ -41,8 +43,8 @@ all-fit-spec =
     (λ c. omega arith)
     (λ c. let turn = turn-of (c .before) in let l = turn .loop in let at = turn .before .before .args .at in (
       omega arith,
-      λ h. let e : at + (l .k + 1) ≡ at + l .k + 1 = omega arith in
-          rw e (fitting-more _ _ _ (l .inv .1 (omega (arith, c .raise .ensures))) (c .before .odd .ensures (omega (arith, c .raise .ensures)))),
+      λ h. let e : at + (l .k + 1) ≡ at + l .k + 1 = omega arith in let z = raised-over (l .top) (c .before .odd .result) (c .raise .result) (c .raise .ensures) in
+          rw e (fitting-more _ _ _ (l .inv .1 (omega (arith, h, z))) (c .before .odd .ensures (omega (arith, h, z)))),
     ))
     (λ c. λ _. let l = c .before .before .loop in let e : l .k ≡ 64 = omega arith in rw e at (l .inv .1 (c .if1 .taken)))
-    (λ c. λ e. absurd (false-true e)))
+    (λ c. λ e. differ (sym e)))

@@ -1,7 +1,8 @@
 -- Right by the two tests.
 -- Assumes nothing.
 use borrow.Author.Needs.{needs}
-use Rattle.mutf8.proofs.Alike.{false-true}
+use mathlib.Core.Path.{sym}
+use Rattle.form.proofs.Picks.{differ}
 use Rattle.mutf8.proofs.blocks.is_edge.Statement.{statement}
 use Rattle.mutf8.proofs.blocks.is_edge.Tie as tie
 
@@ -11,8 +12,8 @@ is-edge-spec =
     (tie.spec
     (λ c. search needs)
     (λ c. search needs)
-    (λ c. λ e. absurd (false-true e))
+    (λ c. λ e. differ (sym e))
     (λ c. search needs)
     (λ c. search needs)
-    (λ c. λ e. absurd (false-true e))
+    (λ c. λ e. differ (sym e))
     (λ c. search needs))

@@ -1,10 +1,12 @@
 -- Right since each block and each end that was passed is of values that both codings read alike.
 -- Assumes nothing.
 use Prim.Native.Nat.{_-_, _≤_}
+use mathlib.Core.Path.{sym, _∙_}
 use native.Mathlib.Omega.{arith}
 use lib.ListN.{length}
+use Rattle.plain.proofs.Plains.{run-is}
 use Rattle.mutf8.specs.Runs.{Passed}
-use Rattle.mutf8.proofs.Alike.{plain-passed, passed-none, passed-join}
+use Rattle.mutf8.proofs.Alike.{plain-passed, blocks-passed, short-passed, passed-none, passed-join}
 use Rattle.mutf8.proofs.blocks.pass.Statement.{statement}
 use Rattle.mutf8.proofs.blocks.pass.Tie as tie
 
@@ -21,7 +23,7 @@ turn-of c = c .before .before
 abbrev mixed-of : tie.After-mixed Inv μ → tie.At-loop Inv μ
 mixed-of c = turn-of (c .before .before)
 
-abbrev end-of : tie.After-ends-plain Inv μ → tie.At-loop Inv μ
+abbrev end-of : tie.After-is-plain Inv μ → tie.At-loop Inv μ
 end-of c = c .before .before
 
 pub pass-spec : {M : Type 1} → statement M
@@ -35,14 +37,13 @@ pass-spec =
     (λ c κs. omega arith)
     (λ c. omega arith)
     (λ c. omega arith)
-    (λ c. (omega arith, passed-join _ _ _ _ (turn-of (c .before) .loop .inv .1) (plain-passed _ _ _ (omega arith) (omega arith) (c .before .all-plain .ensures (c .if1 .taken)))))
+    (λ c. (omega arith, passed-join _ _ _ _ (turn-of (c .before) .loop .inv .1) (plain-passed _ _ _ (omega arith) (omega arith) (run-is _ _ _ _ 64 (sym (c .before .all-plain .ensures) ∙ c .if1 .taken)))))
     (λ c κs. turn-of (c .before) .loop .inv .0)
-    (λ c κs. mixed-of (c .before) .loop .inv .0)
-    (λ c. passed-join _ _ _ _ (mixed-of (c .before .before) .loop .inv .1) (c .narrow .ensures))
+    (λ c κs. (mixed-of (c .before) .loop .inv .0, omega arith))
+    (λ c. passed-join _ _ _ _ (mixed-of (c .before .before) .loop .inv .1) (blocks-passed _ _ _ (c .plain-blocks .ensures)))
     (λ c. omega (arith, c .before .mixed .ensures .within))
     (λ c. let m = c .before .mixed .ensures in (m .within, passed-join _ _ _ _ (mixed-of (c .before) .loop .inv .1) m))
     (λ c κs. (c .before .loop .inv .0, omega arith))
-    (λ c. let v = end-of (c .before) .loop .inv in
-    passed-join _ _ _ _ (v .1) (plain-passed _ _ _ (v .0) (omega arith) (c .before .ends-plain .ensures (c .if3 .taken))))
-    (λ c κs. end-of (c .before) .loop .inv .0)
-    (λ c. passed-join _ _ _ _ (end-of (c .before .before) .loop .inv .1) (c .narrow2 .ensures)))
+    (λ c. let v = end-of (c .before) .loop .inv in passed-join _ _ _ _ (v .1) (short-passed _ _ (v .0) (sym (c .before .is-plain .ensures) ∙ c .if3 .taken)))
+    (λ c κs. (end-of (c .before) .loop .inv .0, omega arith))
+    (λ c. passed-join _ _ _ _ (end-of (c .before .before) .loop .inv .1) (blocks-passed _ _ _ (c .plain-blocks2 .ensures))))

@@ -11,7 +11,7 @@ use Rattle.snbt.proofs.scratch.large.Reads as large
 use Rattle.snbt.proofs.scratch.middle.Reads as middle
 use Rattle.snbt.proofs.scratch.small.Reads as small
 use Rattle.snbt.proofs.scratch.tiny.Reads as tiny
-use Rattle.snbt.proofs.scratch.wide.Reads as wide
+use Rattle.snbt.proofs.scratch.big.Reads as big
 use Rattle.snbt.proofs.scratch.+stepped.Lts-stepped as lts
 use Rattle.snbt.proofs.scratch.+stepped.{statement}
 use Rattle.snbt.proofs.scratch.+stepped.Tie.{close}
@@ -35,8 +35,8 @@ claims t = (
   small.Learnt,
   middle.Asked,
   middle.Learnt,
-  wide.Asked,
-  wide.Learnt,
+  big.Asked,
+  big.Learnt,
   large.Asked,
   large.Learnt,
 )

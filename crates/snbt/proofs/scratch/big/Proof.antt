@@ -4,11 +4,11 @@ use Prim.Native.Nat.{_-_}
 use mathlib.Core.Logic.{inl}
 use native.Mathlib.Omega.{arith}
 use borrow.Author.Needs.{needs}
-use Rattle.snbt.proofs.scratch.wide.Statement.{statement}
-use Rattle.snbt.proofs.scratch.wide.Tie as tie
+use Rattle.snbt.proofs.scratch.big.Statement.{statement}
+use Rattle.snbt.proofs.scratch.big.Tie as tie
 
-pub wide-spec : {M : Type 1} → statement M
-wide-spec =
+pub big-spec : {M : Type 1} → statement M
+big-spec =
     tie.close
     (tie.spec
     (λ c. search needs)
