@@ -1,19 +1,18 @@
 -- Laws of blocks: plain bytes, and bytes that fit behind each other, are values that both codings read alike.
 -- Assumes nothing.
 use Prim.Native.Nat.{ℕ, zero, suc, _+_, _-_, _%_, _≤_, _<_}
-use mathlib.Core.Path.{_≡_, ap}
+use mathlib.Core.Path.{_≡_}
 use mathlib.Core.Logic.{⊎-elim}
 use mathlib.Core.Bool.{true}
 use mathlib.Core.List.{List, _∷_}
 use native.Mathlib.Omega.{arith}
 use borrow.Author.Tests.{lt-ltb, le-ltb, ne-eqb}
 use lib.ListN.{length, drop, getD}
-use Rattle.form.specs.Decoding.{is, good, six, twoOf, threeOf, isGood, wellFormed, Judged}
+use Rattle.form.specs.Decoding.{is, good, six, twoOf, threeOf, Judged}
 use Rattle.form.proofs.Picks.{lt-or}
 use Rattle.form.proofs.Drops.{drop1, drop2, drop3}
 use Rattle.chars.proofs.Sequences.{follows, unit-plain, unit-two, unit-three}
 use Rattle.mutf8.specs.declared.Coding.{Coding}
-use Rattle.mutf8.specs.declared.Coding.the-variants.{Modified}
 use Rattle.mutf8.specs.Answers.{encOf, oneOf}
 use Rattle.plain.specs.Runs.{shortPlain, IsPlain, Plain}
 use Rattle.plain.proofs.Plains.{short-is}
@@ -64,9 +63,6 @@ short-passed s i h e = plain-passed s i (length s) h (omega arith) (short-is 0 s
 -- a list that is short and all plain is good in any coding
 pub short-good : (k : Coding) (s : List ℕ) → shortPlain 0 s 0 (length s) ≡ true → Judged (encOf k) (oneOf k) s good
 short-good k s e = all-walked k (omega arith) (walked-pass k none (short-passed s 0 (omega arith) e))
-
-pub short-well : (s : List ℕ) → shortPlain 0 s 0 (length s) ≡ true → true ≡ wellFormed s
-short-well s e = ap isGood (short-good Modified s e .is)
 
 pub passed-join : (s : List ℕ) (i j k : ℕ) → Passed s i j → Passed s j k → Passed s i k
 passed-join s i j k p q = record { on = omega (arith, p .on, q .on); within = q .within; walked = walked-join (p .walked) (q .walked) }

@@ -116,10 +116,7 @@ pub fn check(s: &[u8]) -> Checked
 pub fn is_well_formed(s: &[u8]) -> bool
     ensures { λ r. ⌜ r ≡ wellFormed (now (s .entry)) ⌝ }
 {
-    if plain::is_plain(0, s, 0, s.len()) {
-        return true;
-    }
-    match judge(s, Coding::Modified) {
+    match check(s) {
         Checked::Good => true,
         Checked::Bad(_) => false,
     }

@@ -40,13 +40,9 @@ fn alike(done: Done, want: u8, index: Index) -> Done
 {
     match done {
         Done::No { number, place } => Done::No { number, place },
-        Done::To {
-            next: _,
-            used: _,
-            kind,
-        } => {
+        Done::To { next, used, kind } => {
             if placing::is_alike(want, kind) {
-                return done;
+                return Done::To { next, used, kind };
             }
             Done::No {
                 number: form::MIXED_LIST,
