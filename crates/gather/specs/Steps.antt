@@ -121,6 +121,22 @@ abbrev pub SideIs : List ℕ → ℕ → Out Run → Kept → ℕ → ℕ → �
 SideIs doc room o k level at above n t t′ ls ls′ most (Side.Whole at′ n′ count) = Gone doc room o at′ n′ count at above n t t′ × (ls′ ≡ ls)
 SideIs doc room o k level at above n t t′ ls ls′ most (Side.Cut n′ count m) = IsCut o × Shut room k n′ m level above n t t′ ls ls′ most × (count ≡ width (k .forest))
 
+-- A payload of a kind at a place, where so many containers may still stand within each other; a list's elements; a compound's entries.
+abbrev pub PayloadIs : List ℕ → ℕ → ℕ → ℕ → ℕ → ℕ → ℕ → ℕ → List ℕ → List ℕ → List ℕ → List ℕ → ℕ → Piece → Type 0
+PayloadIs doc depth kind name len at above n t t′ ls ls′ most r =
+    PieceIs doc (roomOf (length t)) (readIn doc (length t) depth kind name len at n) (begunAt doc (roomOf (length t)) depth kind name len at n)
+    (512 - depth) at above n t t′ ls ls′ most r
+
+abbrev pub ElementsAre : List ℕ → ℕ → ℕ → ℕ → ℕ → ℕ → List ℕ → List ℕ → List ℕ → List ℕ → ℕ → Side → Type 0
+ElementsAre doc depth count kind at n t t′ ls ls′ most r =
+    SideIs doc (roomOf (length t)) (elementsIn doc (length t) depth count kind at (n + 1)) (elementsKept doc (length t) depth count kind at (n + 1))
+    (512 - depth) at n (n + 1) t t′ ls ls′ most r
+
+abbrev pub EntriesAre : List ℕ → ℕ → ℕ → ℕ → List ℕ → List ℕ → List ℕ → List ℕ → ℕ → Side → Type 0
+EntriesAre doc depth at n t t′ ls ls′ most r =
+    SideIs doc (roomOf (length t)) (entriesIn doc (length t) depth at (n + 1)) (entriesKept doc (length t) depth at (n + 1))
+    (512 - depth) at n (n + 1) t t′ ls ls′ most r
+
 -- The words of a container's record.
 abbrev pub heldWords : ℕ → ℕ → ℕ → ℕ → ℕ → ℕ → ℕ → List ℕ
 heldWords kind name len count inner end parent =

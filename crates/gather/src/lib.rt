@@ -4,15 +4,14 @@
 // else, names, room and depth are not asked again.
 ghost use mathlib.Core.Path.{_≡_};
 ghost use mathlib.Core.List.{[], _∷_};
-ghost use Prim.Native.Nat.{ℕ, _+_, _-_, _*_, _≤_, _<_, _^_};
+ghost use Prim.Native.Nat.{_+_, _-_, _*_, _≤_, _<_, _^_};
 ghost use lib.ListN.{length};
 ghost use lib.Dec.{eqb};
 ghost use Rattle.form.specs.Answer.{pick};
 ghost use Rattle.form.specs.Spans.{over};
 ghost use Rattle.form.specs.Reading.{leafOne, roomOf, reading};
-ghost use Rattle.form.specs.Cut.{begunAt};
 ghost use Rattle.reader.specs.Steps.{Named};
-ghost use Rattle.gather.specs.Steps.{IsCut, LeafIs, HeldAsked, readIn, elementsIn, entriesIn, elementsKept, entriesKept, PayloadAsked, ElementsAsked, EntriesAsked, PieceIs, SideIs, HeldIs, GatheredIs};
+ghost use Rattle.gather.specs.Steps.{IsCut, LeafIs, HeldAsked, PayloadAsked, ElementsAsked, EntriesAsked, PayloadIs, ElementsAre, EntriesAre, HeldIs, GatheredIs};
 use fields::Entry;
 use fields::ListHead;
 use fields::Part;
@@ -173,7 +172,7 @@ fn gather_tag_body(
     most: usize,
 ) -> Piece
     requires { ⌜ PayloadAsked (now doc) (now table) depth kind name len at up ix (now lines) most ⌝ }
-    ensures { λ r. ⌜ PieceIs (now (doc .entry)) (roomOf (length (now (table .entry)))) (readIn (now (doc .entry)) (length (now (table .entry))) depth kind name len at ix) (begunAt (now (doc .entry)) (roomOf (length (now (table .entry)))) depth kind name len at ix) (512 - depth) at up ix (now (table .entry)) (now (table .exit)) (now (lines .entry)) (now (lines .exit)) most r ⌝ }
+    ensures { λ r. ⌜ PayloadIs (now (doc .entry)) depth kind name len at up ix (now (table .entry)) (now (table .exit)) (now (lines .entry)) (now (lines .exit)) most r ⌝ }
 {
     match kind {
         kinds::END..=kinds::DOUBLE => gather_fixed(doc, kind, name, len, at, table, up, ix),
@@ -196,7 +195,7 @@ fn gather_larger_body(
     most: usize,
 ) -> Piece
     requires { ⌜ (PayloadAsked (now doc) (now table) depth kind name len at up ix (now lines) most) × (6 < kind) ⌝ }
-    ensures { λ r. ⌜ PieceIs (now (doc .entry)) (roomOf (length (now (table .entry)))) (readIn (now (doc .entry)) (length (now (table .entry))) depth kind name len at ix) (begunAt (now (doc .entry)) (roomOf (length (now (table .entry)))) depth kind name len at ix) (512 - depth) at up ix (now (table .entry)) (now (table .exit)) (now (lines .entry)) (now (lines .exit)) most r ⌝ }
+    ensures { λ r. ⌜ PayloadIs (now (doc .entry)) depth kind name len at up ix (now (table .entry)) (now (table .exit)) (now (lines .entry)) (now (lines .exit)) most r ⌝ }
 {
     let level = form::DEPTH - depth;
     match kind {
@@ -228,7 +227,7 @@ fn gather_elements(
     most: usize,
 ) -> Side
     requires { ⌜ ElementsAsked (now doc) (now table) depth count kind at n (now lines) most ⌝ }
-    ensures { λ r. ⌜ SideIs (now (doc .entry)) (roomOf (length (now (table .entry)))) (elementsIn (now (doc .entry)) (length (now (table .entry))) depth count kind at (n + 1)) (elementsKept (now (doc .entry)) (length (now (table .entry))) depth count kind at (n + 1)) (512 - depth) at n (n + 1) (now (table .entry)) (now (table .exit)) (now (lines .entry)) (now (lines .exit)) most r ⌝ }
+    ensures { λ r. ⌜ ElementsAre (now (doc .entry)) depth count kind at n (now (table .entry)) (now (table .exit)) (now (lines .entry)) (now (lines .exit)) most r ⌝ }
 {
     let mut here = at;
     let mut next = n + 1;
@@ -260,7 +259,7 @@ fn gather_compound(
     most: usize,
 ) -> Side
     requires { ⌜ EntriesAsked (now doc) (now table) depth at n (now lines) most ⌝ }
-    ensures { λ r. ⌜ SideIs (now (doc .entry)) (roomOf (length (now (table .entry)))) (entriesIn (now (doc .entry)) (length (now (table .entry))) depth at (n + 1)) (entriesKept (now (doc .entry)) (length (now (table .entry))) depth at (n + 1)) (512 - depth) at n (n + 1) (now (table .entry)) (now (table .exit)) (now (lines .entry)) (now (lines .exit)) most r ⌝ }
+    ensures { λ r. ⌜ EntriesAre (now (doc .entry)) depth at n (now (table .entry)) (now (table .exit)) (now (lines .entry)) (now (lines .exit)) most r ⌝ }
 {
     let mut here = at;
     let mut ix = n + 1;

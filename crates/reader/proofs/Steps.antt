@@ -16,10 +16,10 @@ use Rattle.form.proofs.Table.{wrote-head}
 use Rattle.form.proofs.Fields.{bytes-got, bytes-no, leaf-fixed}
 use Rattle.table.specs.declared.Record.{Record}
 use Rattle.table.specs.Records.{recordWords, containerOf}
-use Rattle.reader.specs.declared.Step.{Step}
+use Rattle.reader.specs.declared.bodies.Step.{Step}
 use Rattle.reader.specs.declared.Answer.{Answer}
-use Rattle.reader.specs.declared.Kids.{Kids}
-use Rattle.reader.specs.declared.Ran.{Ran}
+use Rattle.reader.specs.declared.bodies.Kids.{Kids}
+use Rattle.reader.specs.declared.settling.Ran.{Ran}
 use Rattle.reader.specs.Steps.{Filled, Next, Gone, Stepped, Held, Went, Kept, Settled, Finished, EntrySettled, readOut}
 use native.Mathlib.Omega.{arith}
 use borrow.Author.Tests.{eq-eqb, ne-eqb, eqb-false}

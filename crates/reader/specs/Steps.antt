@@ -1,19 +1,22 @@
 -- What the contracts of this crate cite: the public answer as the definition's, and what a step leaves in the table.
 -- Assumes nothing.
-use Prim.Native.Nat.{ℕ, _+_, _*_, _≤_, _<_, _^_}
+use Prim.Native.Nat.{ℕ, suc, _+_, _*_, _≤_, _<_, _^_}
 use mathlib.Core.Path.{_≡_}
 use mathlib.Core.List.{List}
 use lib.ListN.{length, take}
 use mathlib.Core.Bool.{Bool, not}
 use Rattle.form.specs.Answer.{Out, got, no, _>>_, guard}
-use Rattle.siblings.specs.Holding.{Holds}
+use Rattle.siblings.specs.Holding.{among, Holds}
+use Rattle.siblings.specs.Names.{firstRepeat}
+use Rattle.siblings.specs.Forests.{refusalOf}
 use Rattle.siblings.specs.Lists.{Family}
 use Rattle.form.specs.Table.{none, node, size, width, wrote}
-use Rattle.form.specs.Reading.{One, Inside, Run, Counts}
+use Rattle.form.specs.Spans.{part}
+use Rattle.form.specs.Reading.{One, Inside, Run, Counts, payloadBy, insideAt, roomOf}
 use Rattle.reader.specs.declared.Answer.{Answer}
-use Rattle.reader.specs.declared.Step.{Step}
-use Rattle.reader.specs.declared.Kids.{Kids}
-use Rattle.reader.specs.declared.Ran.{Ran}
+use Rattle.reader.specs.declared.bodies.Step.{Step}
+use Rattle.reader.specs.declared.bodies.Kids.{Kids}
+use Rattle.reader.specs.declared.settling.Ran.{Ran}
 
 -- 01's number and values for each case of the public answer
 abbrev pub readOut : Answer → Out Counts
@@ -56,6 +59,11 @@ abbrev pub Stepped : List ℕ → ℕ → Out One → ℕ → ℕ → ℕ → Li
 Stepped doc cap o at above n t t′ (Step.Next at′ n′) = Next doc cap o at′ n′ at above n t t′
 Stepped doc cap o at above n t t′ (Step.No m p) = (o ≡ no m p) × Kept n t t′
 
+-- what the root's payload gives, where the table has room for its records
+abbrev pub RootIs : List ℕ → ℕ → ℕ → ℕ → List ℕ → List ℕ → Step → Type 0
+RootIs doc name len at t t′ r =
+    Stepped doc (roomOf (length t)) (payloadBy doc (roomOf (length t)) (insideAt doc (roomOf (length t)) 512) 10 name len at 0) at 0 0 t t′ r
+
 -- the records x in a container were read and are written from record n on
 pub record Filled (doc : List ℕ) (cap : ℕ) (o : Out Inside) (at′ n′ count kind : ℕ) (at above n : ℕ) (t t′ : List ℕ) : Type 0 where
   pub x : Inside
@@ -96,6 +104,10 @@ pub record Known (doc t : List ℕ) (first next : ℕ) : Type 0 where
   pub holds : Holds (length doc) t first next
   pub fits : 9 * next ≤ length t
 
+-- refusal 6 at the first repeated name among the records side by side, if there is one
+abbrev pub repeatIn : List ℕ → List ℕ → ℕ → ℕ → Out (Unit {0})
+repeatIn doc t first next = refusalOf t (firstRepeat doc t first next)
+
 -- a refusal, unless a name is repeated before it: o says whether one is
 abbrev pub Settled : Out (Unit {0}) → ℕ → ℕ → Ran → Type 0
 Settled o n p (Ran.No m q) = _>>_ {A = Unit {0}} {B = Run} o (no n p) ≡ no m q
@@ -110,3 +122,8 @@ Finished o at next count (Ran.Done a i c) = (o ≡ got tt) × (a ≡ at) × (i �
 abbrev pub EntrySettled : Out (Unit {0}) → Bool → ℕ → ℕ → ℕ → Ran → Type 0
 EntrySettled o twice here n p (Ran.No m q) = _>>_ {A = Unit {0}} {B = Run} o (guard (not twice) 6 here >> no n p) ≡ no m q
 EntrySettled o twice here n p (Ran.Done a i c) = ⊥
+
+-- the same of an entry whose name has len bytes from `start` on
+abbrev pub EntryIs : List ℕ → List ℕ → ℕ → ℕ → ℕ → ℕ → ℕ → ℕ → ℕ → Ran → Type 0
+EntryIs doc t first next start len here n p r =
+    EntrySettled (repeatIn doc t first next) (among doc t (suc next) first next (part doc start len)) here n p r

@@ -7,18 +7,18 @@ use mathlib.Core.List.{List}
 use borrow.Fn.Kinds.{In}
 use borrow.Fn.PlainCycle.{Measures, is, falls, and}
 use Rattle.form.specs.Reading.{Reader, payloadBy, insideAt}
-use Rattle.reader.proofs.read_compound.Reads as read-compound
-use Rattle.reader.proofs.read_compound.Kinds as read-compound-kinds
-use Rattle.reader.proofs.read_container.Reads as read-container
-use Rattle.reader.proofs.read_container.Kinds as read-container-kinds
-use Rattle.reader.proofs.read_elements.Reads as read-elements
-use Rattle.reader.proofs.read_elements.Kinds as read-elements-kinds
-use Rattle.reader.proofs.read_larger_body.Reads as read-larger-body
-use Rattle.reader.proofs.read_larger_body.Kinds as read-larger-body-kinds
-use Rattle.reader.proofs.read_list.Reads as read-list
-use Rattle.reader.proofs.read_list.Kinds as read-list-kinds
-use Rattle.reader.proofs.read_tag_body.Reads as read-tag-body
-use Rattle.reader.proofs.read_tag_body.Kinds as read-tag-body-kinds
+use Rattle.reader.proofs.bodies.read_compound.Reads as read-compound
+use Rattle.reader.proofs.bodies.read_compound.Kinds as read-compound-kinds
+use Rattle.reader.proofs.bodies.read_container.Reads as read-container
+use Rattle.reader.proofs.bodies.read_container.Kinds as read-container-kinds
+use Rattle.reader.proofs.bodies.read_elements.Reads as read-elements
+use Rattle.reader.proofs.bodies.read_elements.Kinds as read-elements-kinds
+use Rattle.reader.proofs.bodies.read_larger_body.Reads as read-larger-body
+use Rattle.reader.proofs.bodies.read_larger_body.Kinds as read-larger-body-kinds
+use Rattle.reader.proofs.bodies.read_list.Reads as read-list
+use Rattle.reader.proofs.bodies.read_list.Kinds as read-list-kinds
+use Rattle.reader.proofs.bodies.read_tag_body.Reads as read-tag-body
+use Rattle.reader.proofs.bodies.read_tag_body.Kinds as read-tag-body-kinds
 
 -- the reader of a payload, where so many containers may still stand within each other
 abbrev pub readOf : List ℕ → ℕ → ℕ → Reader

@@ -7,12 +7,12 @@ use borrow.Fn.Kinds.{In, Out}
 use Rattle.form.proofs.Payloads.{inside-deep, inside-list, inside-compound, compound-no, compound-got}
 use Rattle.form.proofs.Table.{width-le-size}
 use Rattle.reader.proofs.Steps.{went-no, went-done}
-use Rattle.reader.proofs.read_container.Reads as read-container
-use Rattle.reader.proofs.read_container.Kinds as kinds
-use Rattle.reader.proofs.read_list.Reads as read-list
-use Rattle.reader.proofs.read_compound.Reads as read-compound
-use Rattle.reader.proofs.+read_compound+read_container+read_elements+read_larger_body+read_list+read_tag_body.Lts-read_container as lts
-use Rattle.reader.proofs.+read_compound+read_container+read_elements+read_larger_body+read_list+read_tag_body.Proof.Common.{read-list-below, read-compound-below, read-container-at}
+use Rattle.reader.proofs.bodies.read_container.Reads as read-container
+use Rattle.reader.proofs.bodies.read_container.Kinds as kinds
+use Rattle.reader.proofs.bodies.read_list.Reads as read-list
+use Rattle.reader.proofs.bodies.read_compound.Reads as read-compound
+use Rattle.reader.proofs.bodies.+read_compound+read_container+read_elements+read_larger_body+read_list+read_tag_body.Lts-read_container as lts
+use Rattle.reader.proofs.bodies.+read_compound+read_container+read_elements+read_larger_body+read_list+read_tag_body.Proof.Common.{read-list-below, read-compound-below, read-container-at}
 
 abbrev On : ℕ → (lts.Claims → In 2 kinds.ps → Out 2 kinds.ps kinds.r → Type 0) → Type 0
 On t F = F (read-list-below t, read-list.Post, read-compound-below t, read-compound.Post) (read-container-at t) read-container.Post

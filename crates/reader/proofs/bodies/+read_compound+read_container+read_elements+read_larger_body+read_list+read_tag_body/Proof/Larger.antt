@@ -10,15 +10,15 @@ use Rattle.reader.proofs.Steps.{holds-below, holds-above, holds-between
 use Rattle.form.specs.Table.{holds}
 use mathlib.Core.Bool.{true, false}
 use mathlib.Core.Logic.{⊎-elim}
-use Rattle.reader.proofs.read_larger_body.Reads as read-larger-body
-use Rattle.reader.proofs.read_larger_body.Kinds as kinds
-use Rattle.reader.proofs.read_container.Reads as read-container
-use Rattle.reader.proofs.read_leaf.Reads as read-leaf
+use Rattle.reader.proofs.bodies.read_larger_body.Reads as read-larger-body
+use Rattle.reader.proofs.bodies.read_larger_body.Kinds as kinds
+use Rattle.reader.proofs.bodies.read_container.Reads as read-container
+use Rattle.reader.proofs.bodies.read_leaf.Reads as read-leaf
 use Rattle.fields.proofs.wide.Reads as wide
 use Rattle.table.proofs.container.Reads as container
 use Rattle.table.proofs.put.Reads as put
-use Rattle.reader.proofs.+read_compound+read_container+read_elements+read_larger_body+read_list+read_tag_body.Lts-read_larger_body as lts
-use Rattle.reader.proofs.+read_compound+read_container+read_elements+read_larger_body+read_list+read_tag_body.Proof.Common.{read-container-below, read-larger-body-at}
+use Rattle.reader.proofs.bodies.+read_compound+read_container+read_elements+read_larger_body+read_list+read_tag_body.Lts-read_larger_body as lts
+use Rattle.reader.proofs.bodies.+read_compound+read_container+read_elements+read_larger_body+read_list+read_tag_body.Proof.Common.{read-container-below, read-larger-body-at}
 
 abbrev On : ℕ → (lts.Claims → In 2 kinds.ps → Out 2 kinds.ps kinds.r → Type 0) → Type 0
 On t F =

@@ -6,12 +6,12 @@ use native.Mathlib.Omega.{arith}
 use borrow.Fn.Kinds.{In, Out}
 use Rattle.form.proofs.Payloads.{payload-full, payload-leaf}
 use Rattle.reader.proofs.Steps.{holds-below}
-use Rattle.reader.proofs.read_tag_body.Reads as read-tag-body
-use Rattle.reader.proofs.read_tag_body.Kinds as kinds
-use Rattle.reader.proofs.read_fixed.Reads as read-fixed
-use Rattle.reader.proofs.read_larger_body.Reads as read-larger-body
-use Rattle.reader.proofs.+read_compound+read_container+read_elements+read_larger_body+read_list+read_tag_body.Lts-read_tag_body as lts
-use Rattle.reader.proofs.+read_compound+read_container+read_elements+read_larger_body+read_list+read_tag_body.Proof.Common.{read-larger-body-below, read-tag-body-at}
+use Rattle.reader.proofs.bodies.read_tag_body.Reads as read-tag-body
+use Rattle.reader.proofs.bodies.read_tag_body.Kinds as kinds
+use Rattle.reader.proofs.bodies.read_fixed.Reads as read-fixed
+use Rattle.reader.proofs.bodies.read_larger_body.Reads as read-larger-body
+use Rattle.reader.proofs.bodies.+read_compound+read_container+read_elements+read_larger_body+read_list+read_tag_body.Lts-read_tag_body as lts
+use Rattle.reader.proofs.bodies.+read_compound+read_container+read_elements+read_larger_body+read_list+read_tag_body.Proof.Common.{read-larger-body-below, read-tag-body-at}
 
 abbrev On : ℕ → (lts.Claims → In 2 kinds.ps → Out 2 kinds.ps kinds.r → Type 0) → Type 0
 On t F = F (read-fixed.Asked, read-fixed.Learnt, read-larger-body-below t, read-larger-body.Post) (read-tag-body-at t) read-tag-body.Post

@@ -11,11 +11,11 @@ use Rattle.form.specs.Reading.{elements as elementsOf}
 use Rattle.form.specs.Table.{Forest, none}
 use Rattle.form.proofs.Runs.{Sofar, sofar-start, sofar-no, sofar-end, sofar-next, sofar-length, elements-none, elements-no, elements-next}
 use Rattle.reader.proofs.Steps.{stepped-no, stepped-next}
-use Rattle.reader.proofs.read_elements.Reads as read-elements
-use Rattle.reader.proofs.read_elements.Kinds as kinds
-use Rattle.reader.proofs.read_tag_body.Reads as read-tag-body
-use Rattle.reader.proofs.+read_compound+read_container+read_elements+read_larger_body+read_list+read_tag_body.Lts-read_elements as lts
-use Rattle.reader.proofs.+read_compound+read_container+read_elements+read_larger_body+read_list+read_tag_body.Proof.Common.{readOf, read-tag-body-below, read-elements-at}
+use Rattle.reader.proofs.bodies.read_elements.Reads as read-elements
+use Rattle.reader.proofs.bodies.read_elements.Kinds as kinds
+use Rattle.reader.proofs.bodies.read_tag_body.Reads as read-tag-body
+use Rattle.reader.proofs.bodies.+read_compound+read_container+read_elements+read_larger_body+read_list+read_tag_body.Lts-read_elements as lts
+use Rattle.reader.proofs.bodies.+read_compound+read_container+read_elements+read_larger_body+read_list+read_tag_body.Proof.Common.{readOf, read-tag-body-below, read-elements-at}
 
 pub record Inv (doc : List ℕ) (kind count at depth : ℕ) (t₀ : List ℕ) (cap above ix : ℕ) (t : List ℕ) (here next left : ℕ) : Type 0 where
   pub acc : Forest

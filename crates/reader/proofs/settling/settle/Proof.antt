@@ -2,8 +2,8 @@
 -- Assumes nothing.
 use Rattle.reader.proofs.Steps.{settled-at, settled-none}
 use borrow.Author.Needs.{needs}
-use Rattle.reader.proofs.settle.Statement.{statement}
-use Rattle.reader.proofs.settle.Tie as tie
+use Rattle.reader.proofs.settling.settle.Statement.{statement}
+use Rattle.reader.proofs.settling.settle.Tie as tie
 
 returns : tie.Need-returns
 returns c =

@@ -2,8 +2,8 @@
 -- Assumes nothing.
 use mathlib.Core.Path.{refl, sym}
 use borrow.Author.Needs.{needs}
-use Rattle.reader.proofs.finish.Statement.{statement}
-use Rattle.reader.proofs.finish.Tie as tie
+use Rattle.reader.proofs.settling.finish.Statement.{statement}
+use Rattle.reader.proofs.settling.finish.Tie as tie
 
 returns : tie.Need-returns
 returns c =

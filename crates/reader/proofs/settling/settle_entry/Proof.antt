@@ -3,8 +3,8 @@
 use mathlib.Core.Path.{sym, _∙_}
 use Rattle.reader.proofs.Steps.{entry-settled-yes, entry-settled-no}
 use borrow.Author.Needs.{needs}
-use Rattle.reader.proofs.settle_entry.Statement.{statement}
-use Rattle.reader.proofs.settle_entry.Tie as tie
+use Rattle.reader.proofs.settling.settle_entry.Statement.{statement}
+use Rattle.reader.proofs.settling.settle_entry.Tie as tie
 
 returns : tie.Need-returns
 returns c =

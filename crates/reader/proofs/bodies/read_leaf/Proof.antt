@@ -9,8 +9,8 @@ use Rattle.form.proofs.Fields.{leaf-within}
 use Rattle.form.proofs.Payloads.{leaf-one-no, leaf-one-got}
 use Rattle.form.proofs.Table.{size-none, wrote-leaf}
 use Rattle.fields.specs.Answers.{partOut}
-use Rattle.reader.proofs.read_leaf.Statement.{statement}
-use Rattle.reader.proofs.read_leaf.Tie as tie
+use Rattle.reader.proofs.bodies.read_leaf.Statement.{statement}
+use Rattle.reader.proofs.bodies.read_leaf.Tie as tie
 
 -- the payload, and the span that was read of it
 abbrev payload-of : tie.After-known-told2 → tie.After-leaf-at

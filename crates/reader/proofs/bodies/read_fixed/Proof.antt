@@ -6,8 +6,8 @@ use mathlib.Core.Path.{refl, _∙_}
 use Rattle.form.proofs.Payloads.{leaf-one-no, leaf-one-got}
 use Rattle.form.proofs.Table.{size-none, wrote-leaf}
 use Rattle.reader.proofs.Steps.{fixed-got, fixed-no}
-use Rattle.reader.proofs.read_fixed.Statement.{statement}
-use Rattle.reader.proofs.read_fixed.Tie as tie
+use Rattle.reader.proofs.bodies.read_fixed.Statement.{statement}
+use Rattle.reader.proofs.bodies.read_fixed.Tie as tie
 
 abbrev start-of : tie.After-width-of → tie.Start
 start-of c = c .before .before .before

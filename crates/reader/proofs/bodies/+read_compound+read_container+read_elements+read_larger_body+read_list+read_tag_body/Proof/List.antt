@@ -10,12 +10,12 @@ use Rattle.form.proofs.Fields.{list-head-within}
 use Rattle.form.proofs.Payloads.{list-head-no, list-no, list-got}
 use Rattle.fields.specs.Answers.{listHeadOut}
 use Rattle.reader.proofs.Steps.{went-no, went-done}
-use Rattle.reader.proofs.read_list.Reads as read-list
-use Rattle.reader.proofs.read_list.Kinds as kinds
+use Rattle.reader.proofs.bodies.read_list.Reads as read-list
+use Rattle.reader.proofs.bodies.read_list.Kinds as kinds
 use Rattle.fields.proofs.list_head.Reads as list-head
-use Rattle.reader.proofs.read_elements.Reads as read-elements
-use Rattle.reader.proofs.+read_compound+read_container+read_elements+read_larger_body+read_list+read_tag_body.Lts-read_list as lts
-use Rattle.reader.proofs.+read_compound+read_container+read_elements+read_larger_body+read_list+read_tag_body.Proof.Common.{read-elements-below, read-list-at}
+use Rattle.reader.proofs.bodies.read_elements.Reads as read-elements
+use Rattle.reader.proofs.bodies.+read_compound+read_container+read_elements+read_larger_body+read_list+read_tag_body.Lts-read_list as lts
+use Rattle.reader.proofs.bodies.+read_compound+read_container+read_elements+read_larger_body+read_list+read_tag_body.Proof.Common.{read-elements-below, read-list-at}
 
 abbrev On : ℕ → (lts.Claims → In 2 kinds.ps → Out 2 kinds.ps kinds.r → Type 0) → Type 0
 On t F = F (list-head.Asked, list-head.Learnt, read-elements-below t, read-elements.Post) (read-list-at t) read-list.Post

@@ -20,15 +20,15 @@ use Rattle.reader.proofs.Deferred.{Going, going-start, going-length, go
 use Rattle.fields.specs.Answers.{entryOut}
 use Rattle.reader.specs.Steps.{Known, Kept}
 use Rattle.reader.proofs.Steps.{stepped-no, stepped-next, settled-went, entry-settled-went, finished-went}
-use Rattle.reader.proofs.read_compound.Reads as read-compound
-use Rattle.reader.proofs.read_compound.Kinds as kinds
+use Rattle.reader.proofs.bodies.read_compound.Reads as read-compound
+use Rattle.reader.proofs.bodies.read_compound.Kinds as kinds
 use Rattle.fields.proofs.entry_at.Reads as entry-at
-use Rattle.reader.proofs.settle.Reads as settle
-use Rattle.reader.proofs.finish.Reads as finish
-use Rattle.reader.proofs.settle_entry.Reads as settle-entry
-use Rattle.reader.proofs.read_tag_body.Reads as read-tag-body
-use Rattle.reader.proofs.+read_compound+read_container+read_elements+read_larger_body+read_list+read_tag_body.Lts-read_compound as lts
-use Rattle.reader.proofs.+read_compound+read_container+read_elements+read_larger_body+read_list+read_tag_body.Proof.Common.{readOf, read-tag-body-below, read-compound-at}
+use Rattle.reader.proofs.settling.settle.Reads as settle
+use Rattle.reader.proofs.settling.finish.Reads as finish
+use Rattle.reader.proofs.settling.settle_entry.Reads as settle-entry
+use Rattle.reader.proofs.bodies.read_tag_body.Reads as read-tag-body
+use Rattle.reader.proofs.bodies.+read_compound+read_container+read_elements+read_larger_body+read_list+read_tag_body.Lts-read_compound as lts
+use Rattle.reader.proofs.bodies.+read_compound+read_container+read_elements+read_larger_body+read_list+read_tag_body.Proof.Common.{readOf, read-tag-body-below, read-compound-at}
 
 pub record Inv (doc : List ℕ) (at depth : ℕ) (t₀ : List ℕ) (cap above ix : ℕ) (t : List ℕ) (here next count : ℕ) : Type 0 where
   pub fuel : ℕ

@@ -8,30 +8,30 @@ mod Larger
 mod List
 mod TagBody
 use borrow.Author.Needs.{needs}
-use Rattle.reader.proofs.read_compound.Reads as read-compound
-use Rattle.reader.proofs.read_container.Reads as read-container
-use Rattle.reader.proofs.read_elements.Reads as read-elements
-use Rattle.reader.proofs.read_larger_body.Reads as read-larger-body
-use Rattle.reader.proofs.read_list.Reads as read-list
-use Rattle.reader.proofs.read_tag_body.Reads as read-tag-body
+use Rattle.reader.proofs.bodies.read_compound.Reads as read-compound
+use Rattle.reader.proofs.bodies.read_container.Reads as read-container
+use Rattle.reader.proofs.bodies.read_elements.Reads as read-elements
+use Rattle.reader.proofs.bodies.read_larger_body.Reads as read-larger-body
+use Rattle.reader.proofs.bodies.read_list.Reads as read-list
+use Rattle.reader.proofs.bodies.read_tag_body.Reads as read-tag-body
 use Rattle.fields.proofs.entry_at.Reads as entry-at
 use Rattle.table.proofs.container.Reads as container
-use Rattle.reader.proofs.read_fixed.Reads as read-fixed
-use Rattle.reader.proofs.read_leaf.Reads as read-leaf
+use Rattle.reader.proofs.bodies.read_fixed.Reads as read-fixed
+use Rattle.reader.proofs.bodies.read_leaf.Reads as read-leaf
 use Rattle.fields.proofs.list_head.Reads as list-head
 use Rattle.table.proofs.put.Reads as put
-use Rattle.reader.proofs.settle.Reads as settle
-use Rattle.reader.proofs.finish.Reads as finish
-use Rattle.reader.proofs.settle_entry.Reads as settle-entry
+use Rattle.reader.proofs.settling.settle.Reads as settle
+use Rattle.reader.proofs.settling.finish.Reads as finish
+use Rattle.reader.proofs.settling.settle_entry.Reads as settle-entry
 use Rattle.fields.proofs.wide.Reads as wide
-use Rattle.reader.proofs.+read_compound+read_container+read_elements+read_larger_body+read_list+read_tag_body.Lts-read_compound as read-compound-lts
-use Rattle.reader.proofs.+read_compound+read_container+read_elements+read_larger_body+read_list+read_tag_body.Lts-read_container as read-container-lts
-use Rattle.reader.proofs.+read_compound+read_container+read_elements+read_larger_body+read_list+read_tag_body.Lts-read_elements as read-elements-lts
-use Rattle.reader.proofs.+read_compound+read_container+read_elements+read_larger_body+read_list+read_tag_body.Lts-read_larger_body as read-larger-body-lts
-use Rattle.reader.proofs.+read_compound+read_container+read_elements+read_larger_body+read_list+read_tag_body.Lts-read_list as read-list-lts
-use Rattle.reader.proofs.+read_compound+read_container+read_elements+read_larger_body+read_list+read_tag_body.Lts-read_tag_body as read-tag-body-lts
-use Rattle.reader.proofs.+read_compound+read_container+read_elements+read_larger_body+read_list+read_tag_body.{statement}
-use Rattle.reader.proofs.+read_compound+read_container+read_elements+read_larger_body+read_list+read_tag_body.Tie.{close}
+use Rattle.reader.proofs.bodies.+read_compound+read_container+read_elements+read_larger_body+read_list+read_tag_body.Lts-read_compound as read-compound-lts
+use Rattle.reader.proofs.bodies.+read_compound+read_container+read_elements+read_larger_body+read_list+read_tag_body.Lts-read_container as read-container-lts
+use Rattle.reader.proofs.bodies.+read_compound+read_container+read_elements+read_larger_body+read_list+read_tag_body.Lts-read_elements as read-elements-lts
+use Rattle.reader.proofs.bodies.+read_compound+read_container+read_elements+read_larger_body+read_list+read_tag_body.Lts-read_larger_body as read-larger-body-lts
+use Rattle.reader.proofs.bodies.+read_compound+read_container+read_elements+read_larger_body+read_list+read_tag_body.Lts-read_list as read-list-lts
+use Rattle.reader.proofs.bodies.+read_compound+read_container+read_elements+read_larger_body+read_list+read_tag_body.Lts-read_tag_body as read-tag-body-lts
+use Rattle.reader.proofs.bodies.+read_compound+read_container+read_elements+read_larger_body+read_list+read_tag_body.{statement}
+use Rattle.reader.proofs.bodies.+read_compound+read_container+read_elements+read_larger_body+read_list+read_tag_body.Tie.{close}
 use Common.{μ-read-compound, μ-read-container, μ-read-elements, μ-read-larger-body, μ-read-list, μ-read-tag-body, read-compound-at, read-container-at, read-elements-at, read-larger-body-at, read-list-at, read-tag-body-at, read-compound-below, read-container-below, read-elements-below, read-larger-body-below, read-list-below, read-tag-body-below}
 
 pub +read-compound+read-container+read-elements+read-larger-body+read-list+read-tag-body-spec : {M : Type 1} → statement M
