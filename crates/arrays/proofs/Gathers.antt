@@ -9,7 +9,7 @@ use borrow.Author.Tests.{le-leb}
 use lib.Dec.{leb}
 use lib.IntN.{ℤ}
 use lib.ListN.{length, length-append}
-use Rattle.form.specs.Answer.{Out, got, no, _>>=_, _>>_, outputFull}
+use Rattle.form.specs.Answer.{Out, got, no, _>>=_, outputFull}
 use Rattle.form.specs.Numbers.{bytesOf, bitsOf}
 use Rattle.form.specs.Spans.{over}
 use Rattle.form.specs.Tree.{kindOf}
@@ -18,8 +18,7 @@ use Rattle.form.proofs.Digits.{digits-length}
 use Rattle.form.proofs.Table.{over-none, over-length, over-over, over-before}
 use Rattle.text_form.specs.Text.{Ints, Last, otherwise, afterComma, arrayTag, intsBy, arrayAt}
 use Rattle.arrays.specs.declared.elements.ElementTurn.the-variants.{Comma, Element, End}
-use Rattle.placing.specs.Done.{Did}
-use Rattle.placing.specs.Done.{Wide, bytes, ints, longs}
+use Rattle.placing.specs.Done.{Did, Wide, bytes, ints, longs}
 use Rattle.tokens.specs.declared.Index.{Index}
 use Rattle.arrays.specs.Turns.{behindAll, OneTurn, TurnIs, Gathering}
 use Rattle.arrays.proofs.Turning.{wide-range}

@@ -12,7 +12,6 @@ use lib.ListN.{length}
 use Rattle.form.specs.Answer.{Out, got, no, _>>=_, _>>_, guard, mixedList, outputFull, unmatchedBrace}
 use Rattle.form.specs.Spans.{over}
 use Rattle.form.specs.Layout.{intBytes}
-use Rattle.form.proofs.Answer.{got-no}
 use Rattle.text_form.specs.Numbers.{Number, short, float, double}
 use Rattle.text_form.specs.Lexing.{Token, numeral, TokenData, found, ended, later, tokenAt}
 use Rattle.text_form.proofs.Moves.{token-moves}
@@ -29,7 +28,7 @@ use Rattle.arrays.specs.declared.elements.ElementTurn.{ElementTurn}
 use Rattle.arrays.specs.declared.elements.ElementTurn.the-variants.{Comma, Element, End, No}
 use Rattle.placing.specs.Done.{Wide, bytes, ints, longs}
 use Rattle.arrays.specs.Turns.{FittingIs, WholeIs, elementFits, PutIs, behindAll, ClosedIs, TurnIs}
-use Rattle.placing.proofs.Rooms.{range-fits, got-same, no-same}
+use Rattle.placing.proofs.Rooms.{range-fits}
 
 -- ---- widths
 
@@ -116,65 +115,43 @@ module _ (t : List ℕ) (room w brace : ℕ) (last : Last) (p u : ℕ) where
   turn-ended q e f = rw e refl
 
   module _ (d : TokenData) (n : ℕ) (e : tokenAt later t p ≡ got (found d n)) where
-    -- The definition at a token: a comma, the closing brace, or an element.
+    -- The rest of the array behind an element.
+    abbrev rest-of : ℕ → ℤ → Out Ints
+    rest-of f z = intsBy t room f w brace otherwise n (u + w) >>= behindAll (z ∷ [])
+
+    -- The definition by the two tests of the token's sign.
     abbrev step : Bool → Bool → ℕ → Out Ints
-    step true b f = intsBy t room f w brace (afterComma (d .index)) n u
-    step false true f = noComma last >> got (record { values = []; next = n; used = u })
-    step false false f = elementInt w (d .token) (d .index)
-        >>= (λ (z : ℤ). guard (leb (u + w) room) outputFull (d .index) >> (intsBy t room f w brace otherwise n (u + w) >>= (λ (r : Ints). got (record { values = z ∷ r .values; next = r .next; used = r .used }))))
+    step isComma isBrace f = elim isComma [
+      | true ↦ intsBy t room f w brace (afterComma (d .index)) n u
+      | false ↦ elim isBrace [
+        | true ↦ noComma last >> got (record { values = []; next = n; used = u })
+        | false ↦ elementInt w (d .token) (d .index) >>= (λ z. guard (leb (u + w) room) outputFull (d .index) >> rest-of f z)
+      ]
+    ]
 
     stepped : (f : ℕ) → intsBy t room (suc f) w brace last p u ≡ step (eqb (signOf (d .token)) 44) (eqb (signOf (d .token)) 93) f
     unfolding intsBy due
-    stepped f = rw e (go (eqb (signOf (d .token)) 44) (eqb (signOf (d .token)) 93))
-      where
-        go : (x y : Bool) → elim x as (λ (b : Bool). Out Ints) [
-          | true ↦ intsBy t room f w brace (afterComma (d .index)) n u
-          | false ↦ elim y as (λ (b : Bool). Out Ints) [
-            | true ↦ noComma last >> got (record { values = []; next = n; used = u })
-            | false ↦ elementInt w (d .token) (d .index)
-                >>= (λ (z : ℤ). guard (leb (u + w) room) outputFull (d .index) >> (intsBy t room f w brace otherwise n (u + w) >>= (λ (r : Ints). got (record { values = z ∷ r .values; next = r .next; used = r .used }))))
-          ]
-        ] ≡ step x y f
-        go true y = refl
-        go false true = refl
-        go false false = refl
+    stepped f = rw e refl
 
     -- A comma is taken.
     comma-next : signOf (d .token) ≡ 44 → (f : ℕ) → intsBy t room (suc f) w brace last p u ≡ intsBy t room f w brace (afterComma (d .index)) n u
     comma-next s f = stepped f ∙ rw s refl
 
-    -- The closing brace ends the array.
-    closed-next : signOf (d .token) ≡ 93 → noComma last ≡ got tt → (f : ℕ) → intsBy t room (suc f) w brace last p u ≡ got (record { values = []; next = n; used = u })
-    closed-next s z f = stepped f ∙ rw (s, z) refl
+    -- The closing brace ends the array, or is refused (21).
+    closed-next : signOf (d .token) ≡ 93 → (f : ℕ) → intsBy t room (suc f) w brace last p u ≡ (noComma last >> got (record { values = []; next = n; used = u }))
+    closed-next s f = stepped f ∙ rw s refl
 
-    -- A comma before the closing brace is 21.
-    trailing-next : (a b : ℕ) → signOf (d .token) ≡ 93 → noComma last ≡ no a b → (f : ℕ) → intsBy t room (suc f) w brace last p u ≡ no a b
-    trailing-next a b s z f = stepped f ∙ rw (s, z) refl
-
-    module _ (c : signOf (d .token) ≡ 44 → ⊥) (b : signOf (d .token) ≡ 93 → ⊥) where
-      -- Any other token by the value that it has as an element.
-      at-element : (f : ℕ) → intsBy t room (suc f) w brace last p u ≡ step false false f
-      at-element f = stepped f ∙ rw (ne-eqb (signOf (d .token)) 44 c, ne-eqb (signOf (d .token)) 93 b) refl
-
-      element-next : (z : ℤ) → elementFits room w d u ≡ got z → (f : ℕ) → intsBy t room (suc f) w brace last p u ≡ (intsBy t room f w brace otherwise n (u + w) >>= behindAll (z ∷ []))
-      element-next z g f = at-element f ∙ chained (elementInt w (d .token) (d .index)) (leb (u + w) room) g
-        where
-          chained : (x : Out ℤ) (r : Bool) → (x >>= (λ z. guard r outputFull (d .index) >> got z)) ≡ got z
-              → (x >>= (λ (z : ℤ). guard r outputFull (d .index) >> (intsBy t room f w brace otherwise n (u + w) >>= (λ (k : Ints). got (record { values = z ∷ k .values; next = k .next; used = k .used })))))
-              ≡ (intsBy t room f w brace otherwise n (u + w) >>= behindAll (z ∷ []))
-          chained (got y) true h = ap (λ (v : ℤ). intsBy t room f w brace otherwise n (u + w) >>= behindAll (v ∷ [])) (got-same h)
-          chained (got y) false h = absurd (got-no (sym h))
-          chained (no a k) r h = absurd (got-no (sym h))
-
-      -- A refusal of it.
-      pub turn-barred : (a k : ℕ) → elementFits room w d u ≡ no a k → (f : ℕ) → intsBy t room (suc f) w brace last p u ≡ no a k
-      turn-barred a k g f = at-element f ∙ chained (elementInt w (d .token) (d .index)) (leb (u + w) room) (λ (z : ℤ). intsBy t room f w brace otherwise n (u + w) >>= behindAll (z ∷ [])) g
-        where
-          chained : (x : Out ℤ) (r : Bool) (rest : ℤ → Out Ints) → (x >>= (λ z. guard r outputFull (d .index) >> got z)) ≡ no a k
-              → (x >>= (λ (z : ℤ). guard r outputFull (d .index) >> rest z)) ≡ no a k
-          chained (got y) true rest h = absurd (got-no h)
-          chained (got y) false rest h = no-same h
-          chained (no x y) r rest h = no-same h
+    -- Any other token is an element, or is refused as one.
+    element-next : (signOf (d .token) ≡ 44 → ⊥) → (signOf (d .token) ≡ 93 → ⊥) → (f : ℕ)
+        → intsBy t room (suc f) w brace last p u ≡ (elementFits room w d u >>= rest-of f)
+    element-next c b f =
+        stepped f ∙ rw (ne-eqb (signOf (d .token)) 44 c, ne-eqb (signOf (d .token)) 93 b) (fits-first (elementInt w (d .token) (d .index)) (leb (u + w) room) (rest-of f))
+      where
+        fits-first : (x : Out ℤ) (r : Bool) (rest : ℤ → Out Ints)
+            → (x >>= (λ z. guard r outputFull (d .index) >> rest z)) ≡ ((x >>= (λ z. guard r outputFull (d .index) >> got z)) >>= rest)
+        fits-first (got z) true rest = refl
+        fits-first (got z) false rest = refl
+        fits-first (no a k) r rest = refl
 
 -- What one turn answers, by its token and in the output's length.
 module _ (t : List ℕ) (w brace : ℕ) (last : Last) (p u : ℕ) (o : List ℕ) (inside : p ≤ length t) (d : TokenData) (n : ℕ) (e : tokenAt later t p ≡ got (found d n)) where
@@ -191,13 +168,13 @@ module _ (t : List ℕ) (w brace : ℕ) (last : Last) (p u : ℕ) (o : List ℕ)
   turn-closed s (Element m) x c = absurd c
   turn-closed s (End m) {o′} x c =
       subst (λ (m : ℕ). TurnIs t w brace last p u o (End m) o′) (sym (c .1))
-      (record { on = moves .0; within = moves .1; is = closed-next t (length o) w brace last p u d n e s (c .0) }, x)
-  turn-closed s (No a b) x c = trailing-next t (length o) w brace last p u d n e a b s c
+      (record { on = moves .0; within = moves .1; is = λ f. closed-next t (length o) w brace last p u d n e s f ∙ rw (c .0) refl }, x)
+  turn-closed s (No a b) x c = λ f. closed-next t (length o) w brace last p u d n e s f ∙ rw c refl
 
   pub turn-put : (signOf (d .token) ≡ 44 → ⊥) → (signOf (d .token) ≡ 93 → ⊥) → (r : ElementTurn) (o′ : List ℕ) → PutIs w d n u o r o′ → TurnIs t w brace last p u o r o′
   turn-put c b (Comma i m) o′ x = absurd x
   turn-put c b (Element m) o′ (z, g, s, h, x) =
       subst (λ (m : ℕ). TurnIs t w brace last p u o (Element m) o′) (sym s)
-      (z, record { on = moves .0; within = moves .1; is = element-next t (length o) w brace last p u d n e c b z g }, h, x)
+      (z, record { on = moves .0; within = moves .1; is = λ f. element-next t (length o) w brace last p u d n e c b f ∙ rw g refl }, h, x)
   turn-put c b (End m) o′ x = absurd x
-  turn-put c b (No a k) o′ x = turn-barred t (length o) w brace last p u d n e c b a k x
+  turn-put c b (No a k) o′ x = λ f. element-next t (length o) w brace last p u d n e c b f ∙ rw x refl

@@ -11,7 +11,7 @@ use Rattle.form.specs.Decoding.{utf8Of}
 use Rattle.chars.specs.declared.Front.{Front as Utf8Front}
 use Rattle.chars.specs.Answers.{sequenceOf}
 use Rattle.text_form.specs.Lexing as rule
-use Rattle.text_form.specs.Lexing.{escapeOf, escaped, written, frontOf}
+use Rattle.text_form.specs.Lexing.{escapeOf, escaped, characterOf, frontOf}
 use Rattle.quotes.specs.declared.escapes.Escape.{Escape}
 use Rattle.quotes.specs.Answers.{escapeIs}
 use Rattle.quotes.proofs.Parts.{part-first, part-front}
@@ -20,8 +20,8 @@ pub escaped-told : {x : rule.Escape} (r v : Escape) (p : ℕ) → escapeIs r ≡
 escaped-told r v p e d = ap (λ (y : rule.Escape). escaped y p) (sym (ap escapeIs d) ∙ e)
 
 pub written-told : (t : List ℕ) (i e : ℕ) (r v : Utf8Front) → sequenceOf r ≡ utf8Of (drop i (take e t)) → r ≡ v
-    → written (sequenceOf v) ≡ written (utf8Of (part t i (e - i)))
-written-told t i e r v p d = ap written (sym (ap sequenceOf d) ∙ p ∙ ap utf8Of (part-front t i e))
+    → characterOf (sequenceOf v) ≡ characterOf (utf8Of (part t i (e - i)))
+written-told t i e r v p d = ap characterOf (sym (ap sequenceOf d) ∙ p ∙ ap utf8Of (part-front t i e))
 
 module _ (t : List ℕ) (i e : ℕ) (h : i < e) (k : e ≤ length t) where
   -- a backslash within quotes
@@ -30,6 +30,6 @@ module _ (t : List ℕ) (i e : ℕ) (h : i < e) (k : e ≤ length t) where
   front-escape q z = rw (part-first t i e h k, z) refl
 
   -- anything else
-  pub front-other : (q : Bool) → (q && eqb (getD t i 0) 92) ≡ false → written (utf8Of (part t i (e - i))) ≡ frontOf q (part t i (e - i)) i
+  pub front-other : (q : Bool) → (q && eqb (getD t i 0) 92) ≡ false → characterOf (utf8Of (part t i (e - i))) ≡ frontOf q (part t i (e - i)) i
   unfolding frontOf
   front-other q z = rw (part-first t i e h k, z) refl

@@ -22,7 +22,7 @@ use Rattle.form.proofs.Units.{ub-one, ub-nul, ub-two, ub-three}
 use Rattle.form.proofs.Coding.{SoundBy}
 use Rattle.form.proofs.Utf8.{utf8, sound}
 use Rattle.form.proofs.Walks as W
-use Rattle.text_form.specs.Lexing.{Front, Escape, stands, bad, cut, escapeOf, escaped, written, frontOf, scalarsBy, contentOf}
+use Rattle.text_form.specs.Lexing.{Front, Escape, stands, bad, cut, escapeOf, escaped, characterOf, frontOf, scalarsBy, contentOf}
 use Rattle.contents.specs.declared.Decoded.{Decoded as Told}
 use Rattle.contents.specs.declared.Decoded.the-variants.{Is, Refused}
 use Rattle.contents.specs.Answers.{decodedOut}
@@ -73,7 +73,7 @@ abbrev Fits : List ℕ → Out Front → Type 0
 Fits l (got x) = FrontFits l x
 Fits l (no n p) = Unit {0}
 
-written-fits : (l : List ℕ) (s : Sequence) → utf8Of l ≡ s → SoundBy utf8Bytes l s → Fits l (written s)
+written-fits : (l : List ℕ) (s : Sequence) → utf8Of l ≡ s → SoundBy utf8Bytes l s → Fits l (characterOf s)
 written-fits l stuck e s = tt
 written-fits l (is c n) e s =
     let f = W.fits utf8 l c n e in
@@ -94,7 +94,7 @@ unfolding frontOf
 front-fits quoted [] p = tt
 front-fits quoted (b ∷ l) p = go (quoted && eqb b 92)
   where
-    go : (t : Bool) → Fits (b ∷ l) (pick t (escaped (escapeOf l p) p) (written (utf8Of (b ∷ l))))
+    go : (t : Bool) → Fits (b ∷ l) (pick t (escaped (escapeOf l p) p) (characterOf (utf8Of (b ∷ l))))
     go true = escaped-fits b l p (escapeOf l p) (escape-fits l p)
     go false = written-fits (b ∷ l) (utf8Of (b ∷ l)) refl (sound (b ∷ l))
 

@@ -12,7 +12,7 @@ ghost use Rattle.form.specs.Spans.{part, over};
 ghost use Rattle.form.specs.Strings.{scalarBytes};
 ghost use Rattle.form.specs.Decoding.{utf8Of};
 ghost use Rattle.form.specs.Writing.{lengthOf, Gives};
-ghost use Rattle.text_form.specs.Lexing.{escapeOf, escaped, written, frontOf, contentOf, content as single};
+ghost use Rattle.text_form.specs.Lexing.{escapeOf, escaped, characterOf, frontOf, contentOf, content as single};
 ghost use Rattle.contents.specs.Answers.{decodedOut, contentOut};
 ghost use Rattle.contents.specs.Puts.{Ready, PutIs, fitted};
 
@@ -46,7 +46,7 @@ fn escaped_at(text: &[u8], at: usize, end: usize) -> Decoded
 // A character as the front of a content, in the bytes before an end.
 fn written_at(text: &[u8], at: usize, end: usize) -> Decoded
     requires { ⌜ (at < end) × (end ≤ length (now text)) ⌝ }
-    ensures { λ r. ⌜ decodedOut r ≡ written (utf8Of (part (now (text .entry)) at (end - at))) ⌝ }
+    ensures { λ r. ⌜ decodedOut r ≡ characterOf (utf8Of (part (now (text .entry)) at (end - at))) ⌝ }
 {
     match chars::utf8_at(&text[..end], at) {
         chars::Front::Is(scalar, bytes) => Decoded::Is { scalar, bytes },

@@ -27,7 +27,9 @@ single s a = toBits binary32 (round binary32 s a (2 ^ 1074))
 tiny : (s : Bool) (a : ℕ) → a < 2 ^ 924 → single s a ≡ cond s (2 ^ 31) 0 + 0
 tiny s a h =
     rounded-to binary32 s a (2 ^ 1074) 0 0 (small-drop binary32 925 a (lt-of-lt-of-le h (lit≤ tt)))
-    (small-kept binary32 925 a (lt-of-lt-of-le h (lit≤ tt)) ∙ rounds-down a (2 ^ 925) (lower a (a % 2 ^ 925) (2 ^ 924) (2 ^ 925) h (mod-le a (2 ^ 925)) refl) ∙ div-eq-of-lt (lt-of-lt-of-le h (lit≤ tt)))
+    (small-kept binary32 925 a (lt-of-lt-of-le h (lit≤ tt))
+    ∙ rounds-down a (2 ^ 925) (lower a (a % 2 ^ 925) (2 ^ 924) (2 ^ 925) h (mod-le a (2 ^ 925)) refl)
+    ∙ div-eq-of-lt (lt-of-lt-of-le h (lit≤ tt)))
     (lit≤ tt)
   where
     lower : (a r x y : ℕ) → a < x → r ≤ a → y ≡ 2 * x → r * 2 < y

@@ -82,6 +82,7 @@ pub data Answered : Type 0 where
   matched : List ℕ → Answered
   refused : ℕ → ℕ → ℕ → Answered
 
+-- What a list with so much room makes of the matches: 24 with their true count where it is too short.
 abbrev pub within : ℕ → Out (List ℕ) → Answered
 within room (got ms) = pick (leb (length ms) room) (matched ms) (refused moreMatches 0 (length ms))
 within room (no n p) = refused n p 0

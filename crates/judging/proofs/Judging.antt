@@ -15,7 +15,7 @@ use Rattle.form.specs.Tables.{Within}
 use Rattle.form.specs.Reading.{hasName}
 use Rattle.form.specs.Writing.{judged}
 use Rattle.form.proofs.Leaves.{held-kind}
-use Rattle.siblings.specs.declared.Found.{Found}
+use Rattle.siblings.specs.declared.Repeat.{Repeat}
 use Rattle.siblings.specs.Forests.{repeatIn}
 use Rattle.judging.specs.declared.Size.{Size}
 use Rattle.judging.specs.Pieces.{headOf, isAt, firstTwice, ownFine, oneJudged, laid, ownSize}
@@ -95,26 +95,26 @@ rows-bound doc t l n end f w r =
 -- ---- how far a walk over records side by side has come
 
 -- The records so far are done, those left are judged as the whole is, and the first repeat is still to come.
-pub record Walk (doc t : List ℕ) (left : ℕ) (list : Bool) (k n end : ℕ) (found : Found) (f : Forest) (i total : ℕ) : Type 0 where
+pub record Walk (doc t : List ℕ) (left : ℕ) (list : Bool) (k n end : ℕ) (found : Repeat) (f : Forest) (i total : ℕ) : Type 0 where
   pub done : Forest
   pub rest : Forest
   pub split : f ≡ done ⊕ rest
   pub rows : Rows doc t list i end rest
   pub is : judged doc left list k none n f ≡ judged doc left list k done i rest
   pub total-is : total ≡ length (laid doc list done)
-  pub none-is : list ≡ true → found ≡ Found.Nothing
+  pub none-is : list ≡ true → found ≡ Repeat.Nothing
   pub repeat-is : list ≡ false → repeatIn doc i done rest ≡ found
 
 -- Whether the record is the first repeat decides its name's test.
-twice-is : (doc : List ℕ) (list : Bool) (i : ℕ) (done : Forest) (h : Head) (inner later : Forest) (found : Found)
-    → (list ≡ true → found ≡ Found.Nothing) → (list ≡ false → repeatIn doc i done (node h inner later) ≡ found)
+twice-is : (doc : List ℕ) (list : Bool) (i : ℕ) (done : Forest) (h : Head) (inner later : Forest) (found : Repeat)
+    → (list ≡ true → found ≡ Repeat.Nothing) → (list ≡ false → repeatIn doc i done (node h inner later) ≡ found)
     → not (isAt found i) ≡ (list || not (hasName doc (part doc (h .name) (h .name-length)) done))
 twice-is doc true i done h inner later found a b = ap (λ x. not (isAt x i)) (a refl)
 twice-is doc false i done h inner later found a b = ap not (repeat-here doc i done h inner later found (b refl))
 
 module _ (doc t : List ℕ) (left : ℕ) (list : Bool) (k n end : ℕ) where
   -- At the start nothing is done.
-  pub walk-start : (p : Some doc t list n end) {found : Found} → found ≡ firstTwice doc t n end list → Walk doc t left list k n end found (p .forest) n 0
+  pub walk-start : (p : Some doc t list n end) {found : Repeat} → found ≡ firstTwice doc t n end list → Walk doc t left list k n end found (p .forest) n 0
   unfolding _⊕_
   walk-start p e = record {
     done = none;
@@ -127,7 +127,7 @@ module _ (doc t : List ℕ) (left : ℕ) (list : Bool) (k n end : ℕ) where
     repeat-is = λ l. sym (rows-repeat doc t list n end (p .forest) (p .rows)) ∙ sym (twice-entries doc t n end list l) ∙ sym e;
   }
 
-  module _ {found : Found} {f : Forest} {i total : ℕ} (w : Walk doc t left list k n end found f i total) where
+  module _ {found : Repeat} {f : Forest} {i total : ℕ} (w : Walk doc t left list k n end found f i total) where
     -- What is done is a part of the whole.
     pub walk-le : total ≤ length (laid doc list f)
     walk-le =

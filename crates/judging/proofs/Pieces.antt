@@ -14,7 +14,7 @@ use Rattle.form.specs.Reading.{hasName}
 use Rattle.form.specs.Writing.{stringFine, payloadFine, judged}
 use Rattle.form.specs.Records.{Stands}
 use Rattle.form.proofs.Answer.{got-no}
-use Rattle.siblings.specs.declared.Found.{Found}
+use Rattle.siblings.specs.declared.Repeat.{Repeat}
 use Rattle.siblings.specs.Names.{firstRepeat}
 use Rattle.siblings.specs.Forests.{repeatIn}
 use Rattle.judging.specs.Pieces.{headOf, deep, mixed, isAt, firstTwice, restFine, ownFine, oneJudged}
@@ -150,29 +150,29 @@ judged-node doc left list k earlier n h inner later twice e =
 -- ---- the first repeat
 
 -- It does not stand before where it is looked for.
-repeat-from : (doc : List ℕ) (f seen : Forest) (n r : ℕ) → repeatIn doc n seen f ≡ Found.At r → n ≤ r
+repeat-from : (doc : List ℕ) (f seen : Forest) (n r : ℕ) → repeatIn doc n seen f ≡ Repeat.At r → n ≤ r
 unfolding repeatIn
 repeat-from doc none seen n r e = let z : _≡_ {A = ℕ} 0 1 = cc in absurd (omega arith)
 repeat-from doc (node h inner later) seen n r e =
     go (hasName doc (part doc (h .name) (h .name-length)) seen) (repeat-from doc later (seen ⊕ node h inner none) (n + 1 + size inner) r) e
   where
-    go : (b : Bool) → (repeatIn doc (n + 1 + size inner) (seen ⊕ node h inner none) later ≡ Found.At r → n + 1 + size inner ≤ r)
-        → elim b [ true ↦ Found.At n | false ↦ repeatIn doc (n + 1 + size inner) (seen ⊕ node h inner none) later ] ≡ Found.At r → n ≤ r
+    go : (b : Bool) → (repeatIn doc (n + 1 + size inner) (seen ⊕ node h inner none) later ≡ Repeat.At r → n + 1 + size inner ≤ r)
+        → elim b [ true ↦ Repeat.At n | false ↦ repeatIn doc (n + 1 + size inner) (seen ⊕ node h inner none) later ] ≡ Repeat.At r → n ≤ r
     go true ih p = let q : n ≡ r = cc in omega arith
     go false ih p = omega (arith, ih p)
 
-module _ (doc : List ℕ) (n : ℕ) (seen : Forest) (h : Head) (inner later : Forest) (found : Found) (e : repeatIn doc n seen (node h inner later) ≡ found) where
+module _ (doc : List ℕ) (n : ℕ) (seen : Forest) (h : Head) (inner later : Forest) (found : Repeat) (e : repeatIn doc n seen (node h inner later) ≡ found) where
   -- A repeat among those after it is not this one.
-  later-one : (f : Found) → repeatIn doc (n + 1 + size inner) (seen ⊕ node h inner none) later ≡ f → isAt f n ≡ false
-  later-one (Found.At r) p = ne-eqb r n (λ q. omega (arith, repeat-from doc later (seen ⊕ node h inner none) (n + 1 + size inner) r p))
-  later-one Found.Nothing p = refl
+  later-one : (f : Repeat) → repeatIn doc (n + 1 + size inner) (seen ⊕ node h inner none) later ≡ f → isAt f n ≡ false
+  later-one (Repeat.At r) p = ne-eqb r n (λ q. omega (arith, repeat-from doc later (seen ⊕ node h inner none) (n + 1 + size inner) r p))
+  later-one Repeat.Nothing p = refl
 
   -- The record is the first repeat exactly where an earlier one has its name.
   pub repeat-here : isAt found n ≡ hasName doc (part doc (h .name) (h .name-length)) seen
   unfolding repeatIn
   repeat-here = go (hasName doc (part doc (h .name) (h .name-length)) seen) e
     where
-      go : (b : Bool) → elim b [ true ↦ Found.At n | false ↦ repeatIn doc (n + 1 + size inner) (seen ⊕ node h inner none) later ] ≡ found → isAt found n ≡ b
+      go : (b : Bool) → elim b [ true ↦ Repeat.At n | false ↦ repeatIn doc (n + 1 + size inner) (seen ⊕ node h inner none) later ] ≡ found → isAt found n ≡ b
       go true p = rw (← p) (eq-eqb n n refl)
       go false p = later-one found p
 
@@ -188,5 +188,5 @@ pub twice-entries : (doc t : List ℕ) (n end : ℕ) (list : Bool) → list ≡ 
 twice-entries doc t n end list e = rw e refl
 
 -- Among the elements of a list there is none.
-pub twice-elements : (doc t : List ℕ) (n end : ℕ) (list : Bool) → list ≡ true → firstTwice doc t n end list ≡ Found.Nothing
+pub twice-elements : (doc t : List ℕ) (n end : ℕ) (list : Bool) → list ≡ true → firstTwice doc t n end list ≡ Repeat.Nothing
 twice-elements doc t n end list e = rw e refl

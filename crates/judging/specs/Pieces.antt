@@ -10,7 +10,7 @@ use Rattle.form.specs.Numbers.{bytesOf}
 use Rattle.form.specs.Spans.{part}
 use Rattle.form.specs.Table.{Head, Forest, none, node, word, holds}
 use Rattle.form.specs.Writing.{stringFine, payloadFine, judged}
-use Rattle.siblings.specs.declared.Found.{Found}
+use Rattle.siblings.specs.declared.Repeat.{Repeat}
 use Rattle.siblings.specs.Names.{firstRepeat}
 
 -- The words of record n but the last.
@@ -36,14 +36,14 @@ abbrev pub mixed : Bool → ℕ → ℕ → Bool
 mixed list kind k = not (not list || eqb kind k)
 
 -- The first record from n up to `end` whose name an earlier one has; elements of a list have no names.
-abbrev pub firstTwice : List ℕ → List ℕ → ℕ → ℕ → Bool → Found
-firstTwice doc t n end true = Found.Nothing
+abbrev pub firstTwice : List ℕ → List ℕ → ℕ → ℕ → Bool → Repeat
+firstTwice doc t n end true = Repeat.Nothing
 firstTwice doc t n end false = firstRepeat doc t n end
 
 -- Whether the answer to `first_repeat` is record i.
-abbrev pub isAt : Found → ℕ → Bool
-isAt (Found.At r) i = eqb r i
-isAt Found.Nothing i = false
+abbrev pub isAt : Repeat → ℕ → Bool
+isAt (Repeat.At r) i = eqb r i
+isAt Repeat.Nothing i = false
 
 -- What stands before the bytes of a payload: a string's length, an array's count.
 unfoldable pub lengthBytes : Head → List ℕ

@@ -9,7 +9,7 @@ ghost use Rattle.form.specs.Writing.{stringFine, payloadFine};
 ghost use Rattle.siblings.specs.Lists.{Family};
 ghost use Rattle.judging.specs.Pieces.{headOf, deep as deepOf, mixed as mixedOf, isAt, firstTwice, restFine, ownFine, bodySize, ownSize};
 ghost use Rattle.judging.specs.Steps.{fineOut, Placed, Some, One, JudgedIs, OneJudgedIs};
-use siblings::Found;
+use siblings::Repeat;
 use table::kinds;
 
 // A record passes, or its refusal.
@@ -43,12 +43,12 @@ fn mixed(list: bool, kind: usize, k: usize) -> bool
 }
 
 // Whether the answer to `first_repeat` is record i.
-fn is_at(found: Found, i: usize) -> bool
+fn is_at(found: Repeat, i: usize) -> bool
     ensures { λ r. ⌜ r ≡ isAt found i ⌝ }
 {
     match found {
-        Found::At(r) => r == i,
-        Found::Nothing => false,
+        Repeat::At(r) => r == i,
+        Repeat::Nothing => false,
     }
 }
 
@@ -164,12 +164,12 @@ fn own_size(table: &[u32], n: usize, list: bool) -> usize
 }
 
 // The first record from n up to `end` whose name an earlier one has; elements of a list have no names.
-fn first_twice(doc: &[u8], table: &mut [u32], n: usize, end: usize, list: bool) -> Found
+fn first_twice(doc: &[u8], table: &mut [u32], n: usize, end: usize, list: bool) -> Repeat
     requires { ⌜ (list ≡ false → Family (now doc) (now table) n end) ⌝ }
     ensures { λ r. ⌜ (r ≡ firstTwice (now (doc .entry)) (now (table .entry)) n end list) × (now (table .exit) ≡ now (table .entry)) ⌝ }
 {
     if list {
-        return Found::Nothing;
+        return Repeat::Nothing;
     }
     siblings::first_repeat(doc, table, n, end)
 }

@@ -6,13 +6,12 @@ use mathlib.Core.Bool.{Bool, true, false, _||_}
 use mathlib.Core.Logic.{_⊎_, inl, inr}
 use mathlib.Core.Path.{_≡_, refl, sym, ap, _∙_}
 use native.Mathlib.Omega.{arith}
-use lib.ListN.{length, getD, take, drop, length-take, length-append}
+use lib.ListN.{length, getD, take, drop, length-take}
 use lib.Seq.{take-take, take-add, drop-drop, take-at, drop-at}
 use Rattle.form.specs.Numbers.{bytesOf, bigEndian}
-use Rattle.form.specs.Spans.{part, over, same}
+use Rattle.form.specs.Spans.{part, same}
 use Rattle.form.proofs.Digits.{digits-length, value-digits-below}
 use Rattle.form.proofs.Picks.{lt-or}
-use Rattle.form.proofs.Places.{part-over}
 use Rattle.text_form.specs.Text.{known}
 use Rattle.keys.proofs.Shifts.{place-front, put-before, put-here, put-behind, put-length}
 use Rattle.keys.proofs.Names.{names-alike, names-parts, names-first, known-parts, known-first}
@@ -92,12 +91,6 @@ named-put o p at s h e l =
       is = sym (drop-at (part o p 2) (part o (p + 2) (length s)) 2 (ap length first ∙ long)) ∙ ap (drop 2) (sym parts ∙ e) ∙ drop-at (bytesOf 2 (length s)) s 2 long;
       ends = l;
     }
-
--- the same, where it was written over what stood there
-pub named-over : (o : List ℕ) (p : ℕ) (s : List ℕ) → length s < 65536 → p ≤ length o → Named (over o p (bytesOf 2 (length s) ++ s)) p (p + (2 + length s)) s
-named-over o p s h l =
-    let long : length (bytesOf 2 (length s) ++ s) ≡ 2 + length s = length-append (bytesOf 2 (length s)) s ∙ ap (λ n. n + length s) (digits-length 2 (length s)) in
-    named-put (over o p (bytesOf 2 (length s) ++ s)) p (p + (2 + length s)) s h (rw long at (part-over o p (bytesOf 2 (length s) ++ s) l)) (omega arith)
 
 -- what stands there
 pub named-name : {o : List ℕ} {p at : ℕ} {s : List ℕ} → Named o p at s → nameAt o p ≡ s

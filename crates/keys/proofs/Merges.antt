@@ -54,10 +54,11 @@ module _ {o k : List ℕ} {base mid : ℕ} (runs : Runs o k base mid (mid + 512)
         rise = λ i j h l m. absurd (omega (arith, e));
         above = λ i j h l m q. absurd (omega (arith, e));
         over = λ i j h l m q. absurd (omega (arith, e));
-        alike = λ x. go x;
+        alike = go;
       }
     where
-      go : (x : List ℕ) → (known x (namesIn o k base (mid - base)) || (known x (namesIn o k mid n) || known x (namesIn o k (mid + n) (mid + 512 - (mid + n))))) ≡ known x (namesIn o k base (mid + 512 - base))
+      go : (x : List ℕ) → (known x (namesIn o k base (mid - base)) || (known x (namesIn o k mid n) || known x (namesIn o k (mid + n) (mid + 512 - (mid + n)))))
+          ≡ known x (namesIn o k base (mid + 512 - base))
       go x =
           let f : mid + 512 - mid ≡ n = omega (arith, e) in
           let g : mid + 512 - (mid + n) ≡ 0 = omega (arith, e) in
@@ -160,17 +161,22 @@ module _ {o k : List ℕ} {base mid : ℕ} (runs : Runs o k base mid (mid + 512)
           j r s
 
       -- the names from its index on: it, those moved, and those merged before
-      names₃ : (x : List ℕ) → known x (namesIn o k₃ (index + n) (mid + 512 - (index + n)))
-          ≡ (same (nameAt o p) x || (known x (namesIn o k index (high - index)) || known x (namesIn o k₁ (high + (n + 1)) (mid + 512 - (high + (n + 1))))))
+      abbrev moved-names : List (List ℕ)
+      moved-names = namesIn o k index (high - index)
+
+      abbrev merged-names : List (List ℕ)
+      merged-names = namesIn o k₁ (high + (n + 1)) (mid + 512 - (high + (n + 1)))
+
+      names₃ : (x : List ℕ) → known x (namesIn o k₃ (index + n) (mid + 512 - (index + n))) ≡ (same (nameAt o p) x || (known x moved-names || known x merged-names))
       names₃ x =
           let hi = free .sides .high in
           let to = m .to in
           let e : mid + 512 - (index + n) ≡ 1 + ((high - index) + (mid + 512 - (high + (n + 1)))) = omega arith in
           let f : index + n + 1 + (high - index) ≡ high + (n + 1) = omega arith in
-          let one : namesIn o k₃ (index + n + 1) (high - index) ≡ namesIn o k index (high - index) =
+          let one : namesIn o k₃ (index + n + 1) (high - index) ≡ moved-names =
           names-alike o k₃ (index + n + 1) o k index (high - index)
           (λ j h. let g : index + n + 1 + j ≡ index + j + (n + 1) = omega arith in rw (g, moved (index + j) (omega arith) (omega arith)) refl) in
-          let two : namesIn o k₃ (high + (n + 1)) (mid + 512 - (high + (n + 1))) ≡ namesIn o k₁ (high + (n + 1)) (mid + 512 - (high + (n + 1))) =
+          let two : namesIn o k₃ (high + (n + 1)) (mid + 512 - (high + (n + 1))) ≡ merged-names =
           names-alike o k₃ (high + (n + 1)) o k₁ (high + (n + 1)) (mid + 512 - (high + (n + 1))) (λ j h. rw (rest (high + (n + 1) + j) (omega arith)) refl) in
           rw (
             e,
@@ -180,8 +186,8 @@ module _ {o k : List ℕ} {base mid : ℕ} (runs : Runs o k base mid (mid + 512)
             f,
             one,
             two,
-            known-first x (nameAt o p) (namesIn o k index (high - index) ++ namesIn o k₁ (high + (n + 1)) (mid + 512 - (high + (n + 1)))),
-            known-parts x (namesIn o k index (high - index)) (namesIn o k₁ (high + (n + 1)) (mid + 512 - (high + (n + 1)))),
+            known-first x (nameAt o p) (moved-names ++ merged-names),
+            known-parts x moved-names merged-names,
           )
           refl
 
@@ -189,7 +195,7 @@ module _ {o k : List ℕ} {base mid : ℕ} (runs : Runs o k base mid (mid + 512)
           ≡ known x (namesIn o k base (mid + 512 - base))
       alike₃ x =
           rw (names₃ x)
-          (or-merge (known x (namesIn o k base (index - base))) (known x (namesIn o k index (high - index))) (known x (namesIn o k mid n)) (same (nameAt o p) x) (known x (namesIn o k₁ (high + (n + 1)) (mid + 512 - (high + (n + 1)))))
+          (or-merge (known x (namesIn o k base (index - base))) (known x moved-names) (known x (namesIn o k mid n)) (same (nameAt o p) x) (known x merged-names)
           ∙ rw (← known-split o k base index high x (free .sides .low) (free .sides .high), ← known-one o k mid n x) (m .alike x))
 
       pub merging-next : Merging o k base mid n index k₃

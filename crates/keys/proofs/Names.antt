@@ -10,7 +10,7 @@ use lib.ListN.{length, getD, take, drop, length-take, length-drop}
 use lib.Seq.{take-take}
 use Rattle.form.specs.Spans.{part, same}
 use Rattle.text_form.specs.Text.{known}
-use Rattle.keys.proofs.Orders.{true-false, same-self}
+use Rattle.keys.proofs.Orders.{true-false, not-true, same-self}
 use Rattle.form.proofs.Spans.{same-true}
 use Rattle.keys.specs.declared.Order.{Order}
 use Rattle.keys.specs.Keys.{sizeAt, nameAt, namesIn, OrderIs}
@@ -85,6 +85,10 @@ pub known-first : (x n : List ℕ) (ns : List (List ℕ)) → known x (n ∷ ns)
 unfolding known
 known-first x n ns = refl
 
+pub or-true : (a : Bool) → (a || true) ≡ true
+or-true true = refl
+or-true false = refl
+
 -- it stands at one of the places
 pub known-here : (o k : List ℕ) (a n : ℕ) (x : List ℕ) (i : ℕ) → i < n → nameAt o (getD k (a + i) 0) ≡ x → known x (namesIn o k a n) ≡ true
 unfolding namesIn known
@@ -94,11 +98,7 @@ known-here o k a (suc n) x zero l e =
     rw (rw f at e, same-self x) refl
 known-here o k a (suc n) x (suc i) l e =
     let f : a + suc i ≡ suc a + i = omega arith in
-    rw (known-here o k (suc a) n x i (omega arith) (rw f at e)) (go (same (nameAt o (getD k a 0)) x))
-  where
-    go : (t : Bool) → (t || true) ≡ true
-    go true = refl
-    go false = refl
+    rw (known-here o k (suc a) n x i (omega arith) (rw f at e)) (or-true (same (nameAt o (getD k a 0)) x))
 
 -- it stands at none of them
 pub known-not : (o k : List ℕ) (a n : ℕ) (x : List ℕ) → ((i : ℕ) → a ≤ i → i < a + n → same (nameAt o (getD k i 0)) x ≡ false)
@@ -110,13 +110,10 @@ known-not o k a (suc n) x h =
 
 -- where it is not known, none of them is it
 pub known-each : (o k : List ℕ) (a b : ℕ) (x : List ℕ) → known x (namesIn o k a (b - a)) ≡ false → (i : ℕ) → a ≤ i → i < b → same (nameAt o (getD k i 0)) x ≡ false
-known-each o k a b x e i h l = go (same (nameAt o (getD k i 0)) x) refl
-  where
-    go : (t : Bool) → same (nameAt o (getD k i 0)) x ≡ t → t ≡ false
-    go false p = refl
-    go true p =
-        let f : a + (i - a) ≡ i = omega arith in
-        true-false (sym (known-here o k a (b - a) x (i - a) (omega arith) (rw f (same-true (nameAt o (getD k i 0)) x p))) ∙ e)
+known-each o k a b x e i h l =
+    let f : a + (i - a) ≡ i = omega arith in
+    not-true (same (nameAt o (getD k i 0)) x)
+    (λ p. true-false (sym (known-here o k a (b - a) x (i - a) (omega arith) (rw f (same-true (nameAt o (getD k i 0)) x p))) ∙ e))
 
 -- in two parts, which meet at an index
 pub known-split : (o k : List ℕ) (a m b : ℕ) (x : List ℕ) → a ≤ m → m ≤ b → known x (namesIn o k a (b - a)) ≡ (known x (namesIn o k a (m - a)) || known x (namesIn o k m (b - m)))

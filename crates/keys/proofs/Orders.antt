@@ -19,6 +19,10 @@ use Rattle.form.proofs.Spans.{same-true}
 pub true-false : {A : Type 0} → true ≡ false → A
 true-false e = let z : _≡_ {A = ℕ} 0 1 = cc in absurd (omega arith)
 
+pub not-true : (t : Bool) → (t ≡ true → ⊥) → t ≡ false
+not-true true h = absurd (h refl)
+not-true false h = refl
+
 -- ---- below
 
 -- by the first byte
@@ -50,7 +54,8 @@ below-trans (x ∷ xs) [] zs e f = true-false (sym e)
 below-trans (x ∷ xs) (y ∷ ys) [] e f = true-false (sym f)
 below-trans (x ∷ xs) (y ∷ ys) (z ∷ zs) e f = go (below-trans xs ys zs) (below-cases x y xs ys e) (below-cases y z ys zs f)
   where
-    go : (below xs ys ≡ true → below ys zs ≡ true → below xs zs ≡ true) → (x < y) ⊎ ((x ≡ y) × (below xs ys ≡ true)) → (y < z) ⊎ ((y ≡ z) × (below ys zs ≡ true)) → below (x ∷ xs) (z ∷ zs) ≡ true
+    go : (below xs ys ≡ true → below ys zs ≡ true → below xs zs ≡ true)
+        → (x < y) ⊎ ((x ≡ y) × (below xs ys ≡ true)) → (y < z) ⊎ ((y ≡ z) × (below ys zs ≡ true)) → below (x ∷ xs) (z ∷ zs) ≡ true
     go ih (inl h) (inl k) = below-head x z xs zs (omega arith)
     go ih (inl h) (inr k) = below-head x z xs zs (omega (arith, k .0))
     go ih (inr h) (inl k) = below-head x z xs zs (omega (arith, h .0))
@@ -59,7 +64,7 @@ below-trans (x ∷ xs) (y ∷ ys) (z ∷ zs) e f = go (below-trans xs ys zs) (be
 pub below-self : (xs : List ℕ) → below xs xs ≡ false
 unfolding below
 below-self [] = refl
-below-self (x ∷ xs) = rw (le-ltb x x (omega arith), eq-eqb x x refl) (below-self xs)
+below-self (x ∷ xs) = below-tail x xs xs ∙ below-self xs
 
 -- ---- the same
 
@@ -70,18 +75,10 @@ same-self (x ∷ xs) = rw (eq-eqb x x refl) (same-self xs)
 
 -- what is below another is not the same, either way
 pub below-apart : (xs ys : List ℕ) → below xs ys ≡ true → same xs ys ≡ false
-below-apart xs ys e = go (same xs ys) refl
-  where
-    go : (t : Bool) → same xs ys ≡ t → t ≡ false
-    go false p = refl
-    go true p = true-false (sym e ∙ rw (same-true xs ys p) (below-self ys))
+below-apart xs ys e = not-true (same xs ys) (λ p. true-false (sym e ∙ rw (same-true xs ys p) (below-self ys)))
 
 pub above-apart : (xs ys : List ℕ) → below xs ys ≡ true → same ys xs ≡ false
-above-apart xs ys e = go (same ys xs) refl
-  where
-    go : (t : Bool) → same ys xs ≡ t → t ≡ false
-    go false p = refl
-    go true p = true-false (sym e ∙ rw (same-true ys xs p) (below-self xs))
+above-apart xs ys e = not-true (same ys xs) (λ p. true-false (sym e ∙ rw (same-true ys xs p) (below-self xs)))
 
 -- ---- two spans from the front
 

@@ -12,7 +12,7 @@ use Rattle.form.specs.Spans.{part, same}
 use Rattle.form.proofs.Picks.{lt-or}
 use Rattle.text_form.specs.Text.{known}
 use Rattle.keys.proofs.Shifts.{take-less, put-front, put-beyond}
-use Rattle.keys.proofs.Names.{names-alike, known-each, known-split, unknown-left, unknown-right}
+use Rattle.keys.proofs.Names.{names-alike, or-true, known-each, known-split, unknown-left, unknown-right}
 use Rattle.keys.proofs.Keys.{rising-none, rising-same, rising-more, same-name, names-same, known-more, name-before, name-here, name-behind, each, or-moved}
 use Rattle.keys.specs.Keys.{sizeAt, nameAt, namesIn, Rising, FreeIn, SpotIn, jointOf, Runs, Kept, FreeAt, SpotIs, putIn, Named, Comes, Added}
 use Rattle.keys.specs.declared.Spot.{Spot}
@@ -105,29 +105,24 @@ free-same {o} {k} {base} {top} {i = i} kept o′ k′ front places free =
 
 -- ---- in both runs
 
--- a key that is in neither run, and belongs at an index of the second
-pub free-both : {o k : List ℕ} {base top at : ℕ} {s : List ℕ} {i : ℕ} → Kept o k base top at → known s (namesIn o k base (jointOf base top - base)) ≡ false
-    → FreeIn o k (jointOf base top) top s i → FreeAt o k base top s i
-free-both {o} {k} {base} {top} {s = s} kept e free =
-    record { new = known-split o k base (jointOf base top) top s (kept .first .low) (kept .second .low) ∙ rw (e, free .new) refl; sides = free .sides }
-
-or-true : (a : Bool) → (a || true) ≡ true
-or-true true = refl
-or-true false = refl
-
--- a key that is in one of them
 module _ {o k : List ℕ} {base top at : ℕ} (kept : Kept o k base top at) (s : List ℕ) where
-  pub taken-first : known s (namesIn o k base (jointOf base top - base)) ≡ true → known s (namesIn o k base (top - base)) ≡ true
-  taken-first e = known-split o k base (jointOf base top) top s (kept .first .low) (kept .second .low) ∙ rw e refl
+  abbrev first-known : Bool
+  first-known = known s (namesIn o k base (jointOf base top - base))
 
-  pub taken-second : known s (namesIn o k (jointOf base top) (top - jointOf base top)) ≡ true → known s (namesIn o k base (top - base)) ≡ true
-  taken-second e = known-split o k base (jointOf base top) top s (kept .first .low) (kept .second .low) ∙ rw e (or-true (known s (namesIn o k base (jointOf base top - base))))
+  abbrev second-known : Bool
+  second-known = known s (namesIn o k (jointOf base top) (top - jointOf base top))
 
--- by the second run's answer, where the first has not the key
-pub spot-second : {o k : List ℕ} {base top at : ℕ} (s : List ℕ) (r : Spot) → Kept o k base top at → known s (namesIn o k base (jointOf base top - base)) ≡ false
-    → SpotIn o k (jointOf base top) top s r → SpotIs o k base top s r
-spot-second s Spot.Taken kept e h = taken-second kept s h
-spot-second s (Spot.Free i) kept e h = free-both kept e h
+  known-both : known s (namesIn o k base (top - base)) ≡ (first-known || second-known)
+  known-both = known-split o k base (jointOf base top) top s (kept .first .low) (kept .second .low)
+
+  -- a key that the first run has
+  pub taken-first : first-known ≡ true → known s (namesIn o k base (top - base)) ≡ true
+  taken-first e = known-both ∙ rw e refl
+
+  -- one that it has not, by the second run's answer
+  pub spot-second : (r : Spot) → first-known ≡ false → SpotIn o k (jointOf base top) top s r → SpotIs o k base top s r
+  spot-second Spot.Taken e h = known-both ∙ rw h (or-true first-known)
+  spot-second (Spot.Free i) e h = record { new = known-both ∙ rw (e, h .new) refl; sides = h .sides }
 
 -- ---- one key more
 
@@ -171,7 +166,8 @@ module _ {o k : List ℕ} {base top i p : ℕ} (c : Comes o k base top i p) (k�
       rw (← same-name (c .kept .first) o k′ refl places a h l)
       (each (λ j. same (nameAt o (getD k a 0)) (nameAt o (getD k′ j 0)) ≡ false) mid i top
       (λ j q r. rw (name-before (c .kept .second) free-second (c .room) put refl named (omega arith) (c .ends) j q r) (c .kept .apart a j h l q (omega (arith, c .free .sides .high))))
-      (rw (name-here (c .kept .second) free-second (c .room) put refl named (omega arith) (c .ends)) (known-each o k base mid (nameAt o p) (unknown-left o k base mid top (nameAt o p) low high (c .free .new)) a h l))
+      (rw (name-here (c .kept .second) free-second (c .room) put refl named (omega arith) (c .ends))
+      (known-each o k base mid (nameAt o p) (unknown-left o k base mid top (nameAt o p) low high (c .free .new)) a h l))
       (λ j q r. rw (name-behind (c .kept .second) free-second (c .room) put refl named (omega arith) (c .ends) j q r) (c .kept .apart a j h l (omega (arith, c .free .sides .low)) r))
       j m n)
 
@@ -198,7 +194,8 @@ module _ {o k : List ℕ} {base top i p : ℕ} (c : Comes o k base top i p) (k�
       record { kept = rw e runs-more; alike = alike-more; around = around-more; beyond = beyond-more }
 
   -- and is merged into the first
-  pub added-merged : (k″ : List ℕ) → top + 1 ≡ mid + 512 → Rising o k″ base (top + 1) at′ → ((x : List ℕ) → known x (namesIn o k″ base (top + 1 - base)) ≡ known x (namesIn o k′ base (top + 1 - base)))
+  pub added-merged : (k″ : List ℕ) → top + 1 ≡ mid + 512 → Rising o k″ base (top + 1) at′
+      → ((x : List ℕ) → known x (namesIn o k″ base (top + 1 - base)) ≡ known x (namesIn o k′ base (top + 1 - base)))
       → take base k″ ≡ take base k′ → ((j : ℕ) → top + 1 ≤ j → getD k″ j 0 ≡ getD k′ j 0) → Added o k base top p k″
   added-merged k″ full run alike around beyond =
       let e : jointOf base (top + 1) ≡ top + 1 = joint-full base top (omega (arith, low, high)) full in

@@ -3,7 +3,7 @@
 use Prim.Native.Nat.{ℕ, _+_, _≤_, _<_}
 use mathlib.Core.Path.{_≡_, refl}
 use mathlib.Core.Bool.{Bool, true, false}
-use mathlib.Core.Logic.{_⊎_, inl, inr}
+use mathlib.Core.Logic.{⊎-elim, _⊎_, inl, inr}
 use mathlib.Core.List.{List, [], _∷_}
 use native.Mathlib.Nat.{eq-or-lt-of-le}
 use native.Mathlib.Omega.{arith}
@@ -54,11 +54,7 @@ blank-out b x₁ x₂ x₃ x₄ x₅ = rw (ne-eqb b 9 x₁, ne-eqb b 10 x₂, ne
 
 -- one of two neighbours, which an arm knows as a range
 pub two-blanks : (b n : ℕ) → true ≡ blank n → true ≡ blank (n + 1) → n ≤ b → b < n + 2 → true ≡ blank b
-two-blanks b n p q h k = go (eq-or-lt-of-le h)
-  where
-    go : (n ≡ b) ⊎ (n < b) → true ≡ blank b
-    go (inl e) = rw (← e) p
-    go (inr l) = let e : b ≡ n + 1 = omega arith in rw e q
+two-blanks b n p q h k = ⊎-elim (λ e. rw (← e) p) (λ l. let e : b ≡ n + 1 = omega arith in rw e q) (eq-or-lt-of-le h)
 
 -- ---- a set of stop characters
 

@@ -2,7 +2,7 @@
 -- Assumes nothing.
 use Prim.Native.Nat.{ℕ, _+_, _-_, _≤_, _<_}
 use mathlib.Core.Path.{_≡_, refl, sym, ap, _∙_}
-use mathlib.Core.Bool.{Bool, true, false, _&&_, _||_}
+use mathlib.Core.Bool.{Bool, true, false, _||_}
 use mathlib.Core.Logic.{_⊎_, inl, inr}
 use mathlib.Core.List.{List}
 use native.Mathlib.Omega.{arith}
@@ -15,6 +15,7 @@ use mir.Val.{toZ, ofZ, SFits}
 use mir.ValLaws.{toZ-ofZ}
 use Rattle.form.specs.Answer.{Out, got, no, _>>=_, badText}
 use Rattle.form.specs.Spans.{part}
+use Rattle.form.proofs.Picks.{and-left}
 use Rattle.text_form.specs.Numbers.{Number, isDigit, number}
 use Rattle.text_form.specs.Lexing.{Stops, Token, string, numeral, Lexed, ended, Word, word, quoted, made, unquotedAt, quotedAt, tokenBy, skip, tokenAt, begins, onCharacter, judgedText, lexed}
 use Rattle.text_form.proofs.Moves.{word-reach, EndsIn, quoted-ends, from-got}
@@ -117,8 +118,4 @@ module _ (set : Stops) (t : List ℕ) (p : ℕ) (j : Out (Unit {0})) (is : j ≡
 
 -- a place on a character lies in the text
 pub place-within : (t : List ℕ) (p : ℕ) (o : Bool) → o ≡ onCharacter t p → o ≡ true → p ≤ length t
-place-within t p o on e = leb-true p (length t) (go (leb p (length t)) (eqb (begins (getD t p 0)) 1) (sym on ∙ e))
-  where
-    go : (x y : Bool) → (x && y) ≡ true → x ≡ true
-    go true y h = refl
-    go false y h = h
+place-within t p o on e = leb-true p (length t) (and-left (leb p (length t)) (eqb (begins (getD t p 0)) 1) (sym on ∙ e))

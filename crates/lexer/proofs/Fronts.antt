@@ -1,9 +1,9 @@
 -- What stands in front of a token: its index, and a sign's character where it is a sign (rule 10).
 -- Assumes nothing.
-use Prim.Native.Nat.{ℕ, _-_, _≤_, _<_}
+use Prim.Native.Nat.{ℕ, _-_, _<_}
 use mathlib.Core.Path.{_≡_, refl, sym, ap, _∙_}
 use mathlib.Core.Bool.{_||_}
-use mathlib.Core.Logic.{_⊎_, inl, inr}
+use mathlib.Core.Logic.{⊎-elim}
 use mathlib.Core.List.{List}
 use native.Mathlib.Omega.{arith}
 use lib.Dec.{leb, eqb}
@@ -87,11 +87,7 @@ module _ (t : List ℕ) (p : ℕ) (f : Peeked) (is : PeekedIs t p f) where
 
   -- 0 is what the end has
   before-end : 0 < f .byte → f .index .0 < length t
-  before-end z = go (lt-or (f .index .0) (length t))
-    where
-      go : (f .index .0 < length t) ⊎ (length t ≤ f .index .0) → f .index .0 < length t
-      go (inl h) = h
-      go (inr h) = absurd (omega (arith, z, byte-there, List·getD-eq-default t 0 h))
+  before-end z = ⊎-elim (λ h. h) (λ h. absurd (omega (arith, z, byte-there, List·getD-eq-default t 0 h))) (lt-or (f .index .0) (length t))
 
   -- a sign's character in front: the token is that sign
   pub front-sign : (set : Stops) (k : Token) → 0 < signOf k → f .byte ≡ signOf k → tokenAt set t p ≡ sign k (f .index .0)

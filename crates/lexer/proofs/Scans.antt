@@ -7,17 +7,17 @@ use native.Mathlib.Omega.{arith}
 use borrow.Author.Tests.{eq-eqb, ne-eqb}
 use lib.Dec.{eqb}
 use Rattle.form.specs.Answer.{pick}
-use Rattle.text_form.specs.Lexing.{Stops, Scan, among, blank, begins, stopSet, within, stops, marked, grown, after}
+use Rattle.text_form.specs.Lexing.{Stops, Scan, among, blank, begins, stopSet, withinQuotes, stops, marked, grown, after}
 
 -- ---- a quote is open, or not
 
-pub in-single : (s : Scan) → s .single ≡ true → true ≡ within s
+pub in-single : (s : Scan) → s .single ≡ true → true ≡ withinQuotes s
 in-single s e = rw e refl
 
-pub in-double : (s : Scan) → s .single ≡ false → s .double ≡ within s
+pub in-double : (s : Scan) → s .single ≡ false → s .double ≡ withinQuotes s
 in-double s e = rw e refl
 
-module _ (set : Stops) (s : Scan) (b : ℕ) (w : Bool) (is : w ≡ within s) where
+module _ (set : Stops) (s : Scan) (b : ℕ) (w : Bool) (is : w ≡ withinQuotes s) where
   pub stops-quoted : w ≡ true → false ≡ stops set s b
   stops-quoted e = rw (sym is ∙ e) refl
 
@@ -50,12 +50,16 @@ module _ (s : Scan) (b i : ℕ) where
   unfolding after
   after-other s′ n m o is = rw (ne-eqb b 92 n, ne-eqb b 39 m, ne-eqb b 34 o) is
 
-  module _ (w k : Bool) (x y : ℕ) (quotes : w ≡ within s)
+  module _ (w k : Bool) (x y : ℕ) (quotes : w ≡ withinQuotes s)
       (curly : x ≡ pick w (s .curly) (pick (eqb b 123) (s .curly + 1) (pick (eqb b 125) (s .curly - 1) (s .curly))))
       (square : y ≡ pick w (s .square) (pick (eqb b 91) (s .square + 1) (pick (eqb b 93) (s .square - 1) (s .square))))
       (is : k ≡ blank b) where
-    pub grown-blank : k ≡ true → _≡_ {A = Scan} (record { curly = x; square = y; single = s .single; double = s .double; escape = false; end = s .end; width = s .width }) (grown s b i)
+    -- up to an end, of a width
+    abbrev scan : ℕ → ℕ → Scan
+    scan end width = record { curly = x; square = y; single = s .single; double = s .double; escape = false; end = end; width = width }
+
+    pub grown-blank : k ≡ true → scan (s .end) (s .width) ≡ grown s b i
     grown-blank e = rw (curly, square, quotes, sym is ∙ e) refl
 
-    pub grown-more : (n : ℕ) → k ≡ false → n ≡ begins b → _≡_ {A = Scan} (record { curly = x; square = y; single = s .single; double = s .double; escape = false; end = i + 1; width = s .width + n }) (grown s b i)
+    pub grown-more : (n : ℕ) → k ≡ false → n ≡ begins b → scan (i + 1) (s .width + n) ≡ grown s b i
     grown-more n e f = rw (curly, square, quotes, sym is ∙ e, f) refl

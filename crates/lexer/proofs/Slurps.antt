@@ -4,7 +4,7 @@ use Prim.Native.Nat.{ℕ, zero, suc, _+_, _-_, _≤_, _<_}
 use mathlib.Core.Path.{_≡_, refl, sym, ap, _∙_}
 use mathlib.Core.Bool.{Bool, true, false, not, _&&_, _||_}
 use mathlib.Core.List.{List}
-use mathlib.Core.Logic.{_⊎_, inl, inr}
+use mathlib.Core.Logic.{⊎-elim, _⊎_, inl, inr}
 use native.Mathlib.Nat.{eq-or-lt-of-le}
 use native.Mathlib.Omega.{arith}
 use borrow.Author.Tests.{leb-true, lt-ltb, ne-eqb}
@@ -12,7 +12,8 @@ use lib.Dec.{leb, eqb}
 use lib.ListN.{length, getD, drop, drop-of-length-le}
 use Rattle.form.specs.Answer.{pick}
 use Rattle.form.proofs.Drops.{drop1}
-use Rattle.text_form.specs.Lexing.{Stops, default, key, value, first, later, Scan, among, blank, stopSet, within, stops, level, grown, after, Word, wordOf, slurp, begun, word, skipBy, skip}
+use Rattle.form.proofs.Picks.{and-left, and-right}
+use Rattle.text_form.specs.Lexing.{Stops, default, key, value, first, later, Scan, among, blank, stopSet, withinQuotes, stops, level, grown, after, Word, wordOf, slurp, begun, word, skipBy, skip}
 use Rattle.text_form.proofs.Moves.{either-way}
 use Rattle.texts.proofs.Texts.{begins-le}
 use Rattle.lexer.specs.Runs.{between, ordinary, runBy, runEnd, Bounded, extended}
@@ -25,7 +26,7 @@ module _ (i : ℕ) where
 
   level-kept : (s : Scan) (opening closing b n : ℕ) → n ≤ i → Below (level s opening closing b n)
   level-kept s opening closing b n h =
-      either-way Below (within s) (omega arith) (either-way Below (eqb b opening) (omega arith) (either-way Below (eqb b closing) (omega arith) (omega arith)))
+      either-way Below (withinQuotes s) (omega arith) (either-way Below (eqb b opening) (omega arith) (either-way Below (eqb b closing) (omega arith) (omega arith)))
 
   grown-kept : (s : Scan) (b : ℕ) → Bounded s i → Bounded (grown s b i) (i + 1)
   grown-kept s b h = record {
@@ -67,82 +68,56 @@ pub record Ordinary (b : ℕ) : Type 0 where
   pub backslash : b ≡ 92 → ⊥
   pub closing : b ≡ 93 → ⊥
 
-unlike : _≡_ {A = Bool} false true → ⊥
-unlike e = let z : _≡_ {A = ℕ} 0 1 = cc in omega arith
-
 -- a byte between two
 both : (a z b : ℕ) → between a z b ≡ true → (a ≤ b) × (b ≤ z)
-both a z b e = go (leb a b) (leb b z) refl refl e
-  where
-    go : (x y : Bool) → leb a b ≡ x → leb b z ≡ y → (x && y) ≡ true → (a ≤ b) × (b ≤ z)
-    go true true p q h = (leb-true a b p, leb-true b z q)
-    go true false p q h = absurd (unlike h)
-    go false y p q h = absurd (unlike h)
+both a z b e = (leb-true a b (and-left (leb a b) (leb b z) e), leb-true b z (and-right (leb a b) (leb b z) e))
 
--- none of its three ranges has a byte that rule 11 names
+-- it lies in one of three ranges, and is no byte that lies in none
 pub ordinary-is : (b : ℕ) → ordinary b ≡ true → Ordinary b
-ordinary-is b e = go (between 45 57 b) (between 60 90 b) refl refl e
+ordinary-is b e = record {
+  low = bounds .0;
+  high = bounds .1;
+  colon = not-it 58 refl;
+  semicolon = not-it 59 refl;
+  opening = not-it 91 refl;
+  backslash = not-it 92 refl;
+  closing = not-it 93 refl;
+}
   where
-    go : (x y : Bool) → between 45 57 b ≡ x → between 60 90 b ≡ y → (x || (y || between 94 122 b)) ≡ true → Ordinary b
-    go true y p q h = let k = both 45 57 b p in record {
-      low = omega (arith, k);
-      high = omega (arith, k);
-      colon = λ z. omega (arith, k, z);
-      semicolon = λ z. omega (arith, k, z);
-      opening = λ z. omega (arith, k, z);
-      backslash = λ z. omega (arith, k, z);
-      closing = λ z. omega (arith, k, z);
-    }
-    go false true p q h = let k = both 60 90 b q in record {
-      low = omega (arith, k);
-      high = omega (arith, k);
-      colon = λ z. omega (arith, k, z);
-      semicolon = λ z. omega (arith, k, z);
-      opening = λ z. omega (arith, k, z);
-      backslash = λ z. omega (arith, k, z);
-      closing = λ z. omega (arith, k, z);
-    }
-    go false false p q h = let k = both 94 122 b h in record {
-      low = omega (arith, k);
-      high = omega (arith, k);
-      colon = λ z. omega (arith, k, z);
-      semicolon = λ z. omega (arith, k, z);
-      opening = λ z. omega (arith, k, z);
-      backslash = λ z. omega (arith, k, z);
-      closing = λ z. omega (arith, k, z);
-    }
+    bounds : (44 < b) × (b < 123)
+    bounds = go (between 45 57 b) (between 60 90 b) refl refl e
+      where
+        go : (x y : Bool) → between 45 57 b ≡ x → between 60 90 b ≡ y → (x || (y || between 94 122 b)) ≡ true → (44 < b) × (b < 123)
+        go true y p q h = let k = both 45 57 b p in (omega (arith, k), omega (arith, k))
+        go false true p q h = let k = both 60 90 b q in (omega (arith, k), omega (arith, k))
+        go false false p q h = let k = both 94 122 b h in (omega (arith, k), omega (arith, k))
+
+    not-it : (n : ℕ) → ordinary n ≡ false → b ≡ n → ⊥
+    not-it n f z = let w : true ≡ false = sym e ∙ ap ordinary z ∙ f in let u : _≡_ {A = ℕ} 0 1 = cc in omega arith
 
 module _ (b : ℕ) (o : Ordinary b) where
+  below : (n : ℕ) → n ≤ 44 → eqb b n ≡ false
+  below n h = ne-eqb b n (λ e. omega (arith, o .low, e))
+
+  above : (n : ℕ) → 123 ≤ n → eqb b n ≡ false
+  above n h = ne-eqb b n (λ e. omega (arith, o .high, e))
+
   no-stop : (set : Stops) → among (stopSet set) b ≡ false
   unfolding among
   no-stop default =
-      simp (
-        ne-eqb b 44 (λ e. omega (arith, o .low, e)),
-        ne-eqb b 59 (o .semicolon),
-        ne-eqb b 91 (o .opening),
-        ne-eqb b 93 (o .closing),
-        ne-eqb b 123 (λ e. omega (arith, o .high, e)),
-        ne-eqb b 125 (λ e. omega (arith, o .high, e)),
-      )
+      simp (below 44 (omega arith), ne-eqb b 59 (o .semicolon), ne-eqb b 91 (o .opening), ne-eqb b 93 (o .closing), above 123 (omega arith), above 125 (omega arith))
   no-stop key = simp (ne-eqb b 58 (o .colon))
-  no-stop value = simp (ne-eqb b 44 (λ e. omega (arith, o .low, e)), ne-eqb b 125 (λ e. omega (arith, o .high, e)))
-  no-stop first = simp (ne-eqb b 44 (λ e. omega (arith, o .low, e)), ne-eqb b 59 (o .semicolon), ne-eqb b 93 (o .closing))
-  no-stop later = simp (ne-eqb b 44 (λ e. omega (arith, o .low, e)), ne-eqb b 93 (o .closing))
+  no-stop value = simp (below 44 (omega arith), above 125 (omega arith))
+  no-stop first = simp (below 44 (omega arith), ne-eqb b 59 (o .semicolon), ne-eqb b 93 (o .closing))
+  no-stop later = simp (below 44 (omega arith), ne-eqb b 93 (o .closing))
 
   not-blank : blank b ≡ false
   unfolding among
-  not-blank =
-      simp (
-        ne-eqb b 9 (λ e. omega (arith, o .low, e)),
-        ne-eqb b 10 (λ e. omega (arith, o .low, e)),
-        ne-eqb b 12 (λ e. omega (arith, o .low, e)),
-        ne-eqb b 13 (λ e. omega (arith, o .low, e)),
-        ne-eqb b 32 (λ e. omega (arith, o .low, e)),
-      )
+  not-blank = simp (below 9 (omega arith), below 10 (omega arith), below 12 (omega arith), below 13 (omega arith), below 32 (omega arith))
 
   -- it ends no token
   ordinary-passes : (set : Stops) (s : Scan) → stops set s b ≡ false
-  ordinary-passes set s = rw (no-stop set) (go (not (within s)) (eqb (s .curly) 0) (eqb (s .square) 0))
+  ordinary-passes set s = rw (no-stop set) (go (not (withinQuotes s)) (eqb (s .curly) 0) (eqb (s .square) 0))
     where
       go : (x y z : Bool) → (x && (y && (z && false))) ≡ false
       go true true true = refl
@@ -151,8 +126,8 @@ module _ (b : ℕ) (o : Ordinary b) where
       go false y z = refl
 
   -- it changes no level
-  no-brace : (s : Scan) (opening closing n : ℕ) → (b ≡ opening → ⊥) → (b ≡ closing → ⊥) → level s opening closing b n ≡ n
-  no-brace s opening closing n x y = rw (ne-eqb b opening x, ne-eqb b closing y) (go (within s))
+  no-brace : (s : Scan) (opening closing n : ℕ) → eqb b opening ≡ false → eqb b closing ≡ false → level s opening closing b n ≡ n
+  no-brace s opening closing n x y = rw (x, y) (go (withinQuotes s))
     where
       go : (t : Bool) → pick t n n ≡ n
       go true = refl
@@ -164,10 +139,10 @@ module _ (b : ℕ) (o : Ordinary b) where
   ordinary-grows s i =
       rw (
         ne-eqb b 92 (o .backslash),
-        ne-eqb b 39 (λ e. omega (arith, o .low, e)),
-        ne-eqb b 34 (λ e. omega (arith, o .low, e)),
-        no-brace s 123 125 (s .curly) (λ e. omega (arith, o .high, e)) (λ e. omega (arith, o .high, e)),
-        no-brace s 91 93 (s .square) (o .opening) (o .closing),
+        below 39 (omega arith),
+        below 34 (omega arith),
+        no-brace s 123 125 (s .curly) (above 123 (omega arith)) (above 125 (omega arith)),
+        no-brace s 91 93 (s .square) (ne-eqb b 91 (o .opening)) (ne-eqb b 93 (o .closing)),
         not-blank,
         lt-ltb b 128 (omega (arith, o .high)),
       ) refl
@@ -201,11 +176,7 @@ run-is t i h = walk (length t - i) i (omega arith)
     nothing i h = record { low = omega arith; high = h; each = λ k x y. absurd (omega (arith, x, y)) }
 
     behind : (i r : ℕ) → Ordinary (getD t i 0) → Run t (i + 1) r → Run t i r
-    behind i r o s = record { low = omega (arith, s .low); high = s .high; each = λ k x y. go k y (eq-or-lt-of-le x) }
-      where
-        go : (k : ℕ) → k < r → (i ≡ k) ⊎ (i < k) → Ordinary (getD t k 0)
-        go k y (inl e) = rw (← e) o
-        go k y (inr x) = s .each k (omega arith) y
+    behind i r o s = record { low = omega (arith, s .low); high = s .high; each = λ k x y. ⊎-elim (λ e. rw (← e) o) (λ l. s .each k (omega arith) y) (eq-or-lt-of-le x) }
 
     walk : (n i : ℕ) → i + n ≡ length t → Run t i (runEnd t i)
     walk zero i e = rw (run-whole t i (omega (arith, e))) (nothing i (omega (arith, e)))
@@ -276,8 +247,12 @@ module _ (set : Stops) (t : List ℕ) where
         widths m n z = ap (λ (w : ℕ). record { end = j; width = w; next = j }) z
 
         go : (start + 1 ≡ j) ⊎ (start + 1 < j) → _≡_ {A = Word} (record { end = j; width = j - start; next = j }) (word set t start)
-        go (inl z) = widths (j - start) 1 (omega (arith, z)) ∙ going-stop j (record { curly = 0; square = 0; single = false; double = false; escape = false; end = j; width = 1 }) h e (rw (← z) going-start)
-        go (inr z) = widths (j - start) (1 + (j - (start + 1))) (omega (arith, z)) ∙ going-stop j (extended (begun start) (j - (start + 1)) j) h e (going-run (start + 1) j (begun start) z r going-start)
+        go (inl z) =
+            widths (j - start) 1 (omega (arith, z))
+            ∙ going-stop j (record { curly = 0; square = 0; single = false; double = false; escape = false; end = j; width = 1 }) h e (rw (← z) going-start)
+        go (inr z) =
+            widths (j - start) (1 + (j - (start + 1))) (omega (arith, z))
+            ∙ going-stop j (extended (begun start) (j - (start + 1)) j) h e (going-run (start + 1) j (begun start) z r going-start)
 
 -- ---- blanks
 

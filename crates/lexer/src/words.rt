@@ -12,7 +12,7 @@ ghost use Prim.Native.Nat.{_+_, _-_, _≤_, _<_, _^_};
 ghost use lib.Dec.{eqb};
 ghost use lib.ListN.{length};
 ghost use Rattle.form.specs.Answer.{pick};
-ghost use Rattle.text_form.specs.Lexing.{within, stops, grown, after, wordOf, word};
+ghost use Rattle.text_form.specs.Lexing.{withinQuotes, stops, grown, after, wordOf, word};
 ghost use Rattle.tokens.specs.Answers.{stopsIs};
 ghost use Rattle.lexer.specs.Answers.{scanOf, wordIs};
 ghost use Rattle.lexer.specs.Runs.{Bounded, extended};
@@ -37,7 +37,7 @@ pub struct Word {
 
 // Whether a quote is open (rule 11).
 fn in_quotes(st: State) -> bool
-    ensures { λ r. ⌜ r ≡ within (scanOf st) ⌝ }
+    ensures { λ r. ⌜ r ≡ withinQuotes (scanOf st) ⌝ }
 {
     if st.single {
         return true;

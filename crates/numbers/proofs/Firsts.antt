@@ -11,17 +11,16 @@ use lib.Dec.{eqb}
 use lib.ListN.{length, take, drop, getD}
 use lib.Seq.{slice, length-slice}
 use Rattle.form.specs.Answer.{pick}
+use Rattle.form.proofs.Picks.{or-assoc}
 use Rattle.text_form.specs.Numbers.{has, before, behind, isPoint}
 use Rattle.numbers.specs.Rows.{either, FirstAt}
+use Rattle.numbers.proofs.Rows.{true-false}
 use Rattle.numbers.proofs.Slices.{slice-first, slice-take, slice-drop, slice-split}
 
 -- ---- lists
 
 or-both : (x y : Bool) → (x || y) ≡ false → (x ≡ false) × (y ≡ false)
-or-both true y e = absurd (unlike e)
-  where
-    unlike : _≡_ {A = Bool} true false → ⊥
-    unlike e = let z : _≡_ {A = ℕ} 0 1 = cc in omega arith
+or-both true y e = true-false e
 or-both false y e = (refl, e)
 
 module _ (t : ℕ → Bool) where
@@ -98,11 +97,7 @@ module _ (t : ℕ → Bool) where
   pub has-append : (a b : List ℕ) → has t (a ++ b) ≡ (has t a || has t b)
   unfolding has
   has-append [] b = refl
-  has-append (x ∷ a) b = ap (λ (y : Bool). t x || y) (has-append a b) ∙ or-assoc (t x) (has t a) (has t b)
-    where
-      or-assoc : (x y z : Bool) → (x || (y || z)) ≡ ((x || y) || z)
-      or-assoc true y z = refl
-      or-assoc false y z = refl
+  has-append (x ∷ a) b = ap (λ (y : Bool). t x || y) (has-append a b) ∙ sym (or-assoc (t x) (has t a) (has t b))
 
   -- behind bytes none of which passes
   pub has-behind : (f m e : ℕ) (b : Bool) (s : List ℕ) → f ≤ m → m ≤ e → e ≤ length s → has t (slice f m s) ≡ false → has t (slice m e s) ≡ b → has t (slice f e s) ≡ b
@@ -111,7 +106,7 @@ module _ (t : ℕ → Bool) where
 
 -- ---- parts of a text
 
-module _ (x y : ℕ) (s : List ℕ) (at to r : ℕ) (f : FirstAt x y s at to r) (k : to ≤ length s) where
+module _ {x y : ℕ} {s : List ℕ} {at to r : ℕ} (f : FirstAt x y s at to r) (k : to ≤ length s) where
   pub part-before : slice at r s ≡ before (either x y) (slice at to s)
   part-before =
       let n = length (before (either x y) (slice at to s)) in
@@ -122,10 +117,8 @@ module _ (x y : ℕ) (s : List ℕ) (at to r : ℕ) (f : FirstAt x y s at to r) 
   pub part-behind : slice (r + 1) to s ≡ behind (either x y) (slice at to s)
   part-behind =
       let n = length (before (either x y) (slice at to s)) in
-      ap (λ (e : ℕ). slice e to s) (next r at n (f .is)) ∙ sym (slice-drop at to (suc n) s) ∙ drop-before (either x y) (slice at to s)
-    where
-      next : (r at n : ℕ) → r ≡ at + n → r + 1 ≡ at + suc n
-      next r at n e = omega arith
+      let next : r + 1 ≡ at + suc n = omega (arith, f .is) in
+      ap (λ (e : ℕ). slice e to s) next ∙ sym (slice-drop at to (suc n) s) ∙ drop-before (either x y) (slice at to s)
 
   pub part-has : r < to → has (either x y) (slice at to s) ≡ true
   part-has h = has-one (either x y) (slice at to s) (omega (arith, length-slice at to s k, f .is, f .low))

@@ -11,29 +11,25 @@ use lib.Dec.{eqb}
 use lib.IntN.{ℤ, pos, _-ℤ_}
 use lib.ListN.{length, getD}
 use lib.Seq.{slice}
-use Rattle.form.specs.Answer.{no, pick, badNumber}
+use Rattle.form.specs.Answer.{pick}
 use Rattle.text_form.specs.Values.{signed, scaled}
 use Rattle.text_form.specs.Numbers.{isDigit, isPoint, has, negative, unsigned, digits, worth, decimalOf, decimal, realNumber, decimalNumber}
-use Rattle.numbers.specs.Rows.{cap, digitsOf, RunAt, HeadAt, exponentOf, combine, valueIn, endingOf}
+use Rattle.numbers.specs.Rows.{cap, digitsOf, RunAt, HeadAt, valueIn, endingOf}
 use Rattle.numbers.specs.declared.runs.Row.{Row}
-use Rattle.numbers.specs.declared.digits.Digits.{Digits}
-use Rattle.numbers.specs.declared.digits.Digits.the-variants.{Value, Bad}
-use Rattle.numbers.specs.declared.decimals.Exponent.the-variants.{Power}
+use Rattle.numbers.specs.declared.digits.Digits.the-variants.{Value}
+use Rattle.numbers.specs.declared.decimals.Ending.{Ending}
 use Rattle.numbers.specs.declared.decimals.Ending.the-variants.{Float as EndsFloat, Double as EndsDouble, Digit as EndsDigit}
 use Rattle.numbers.proofs.Slices.{slice-first}
 use Rattle.numbers.proofs.Rows.{second-row}
-use Rattle.numbers.proofs.Tokens.{unsigned-part}
+use Rattle.numbers.proofs.Tokens.{sign-front, unsigned-part}
 use Rattle.numbers.proofs.Firsts.{has-behind, first-is, first-lacks, is-x}
 use Rattle.numbers.proofs.Powers.{down-rest}
-use Rattle.numbers.proofs.Grammar.{with-point, decimal-number}
+use Rattle.numbers.proofs.Grammar.{with-point, ended, decimal-number}
 use Rattle.numbers.proofs.OnePass.{ten-most, other, digits-lack, last-digit, run-no-point}
 
 -- a row of few digits, counted
 row-counted : (n v : ℕ) (l : List ℕ) → digits l ≡ true → v ≡ worth n l → v < 10 ^ 18 → Value v ≡ digitsOf n l
-row-counted n v l d e h = ap Value (below v h ∙ ap (λ (x : ℕ). min x cap) e) ∙ ap (λ (t : Bool). pick t (Value (min (worth n l) cap)) Bad) (sym d)
-  where
-    below : (v : ℕ) → v < 10 ^ 18 → v ≡ min v cap
-    below v h = omega arith
+row-counted n v l d e h = let small : v ≡ min v cap = omega arith in rw (d, ← e) (ap Value small)
 
 -- the ending of a token whose last byte is a digit
 ends-digit : (b : ℕ) → isDigit b ≡ true → EndsDigit ≡ endingOf b
@@ -44,7 +40,7 @@ sign-low : (b : Bool) (start : ℕ) → start ≤ pick b (start + 1) start
 sign-low true start = omega arith
 sign-low false start = omega arith
 
-module _ (s : List ℕ) (start end : ℕ) (b : Bool) (v at : ℕ) (k : end ≤ length s) (head : HeadAt s start end b v at) where
+module _ {s : List ℕ} {start end : ℕ} {b : Bool} {v at : ℕ} (k : end ≤ length s) (head : HeadAt s start end b v at) where
   abbrev from : ℕ
   from = pick b (start + 1) start
 
@@ -52,7 +48,7 @@ module _ (s : List ℕ) (start end : ℕ) (b : Bool) (v at : ℕ) (k : end ≤ l
   head-le = (le-trans (sign-low b start) (head .run .low), head .run .high)
 
   pub head-no-point : has isPoint (slice start at s) ≡ false
-  head-no-point = run-no-point start end from b s (le-trans (head-le .0) (head-le .1)) k (head .sign) refl (record { value = v; end = at }) (head .run)
+  head-no-point = run-no-point (record { order = le-trans (head-le .0) (head-le .1); within = k; sign = head .sign; first = refl }) (head .run)
 
   -- at the point
   module _ (h : at < end) (p : getD s at 0 ≡ 46) where
@@ -69,7 +65,7 @@ module _ (s : List ℕ) (start end : ℕ) (b : Bool) (v at : ℕ) (k : end ≤ l
         (omega (arith, head .room, head .run .low), le-trans (head .run .small) m)
 
     -- the digits behind it
-    module _ (r : Row) (q : RunAt s v (at + 1) end r) (g : at + 1 < r .end) (room : length s < 2 ^ 63) where
+    module _ {r : Row} (q : RunAt s v (at + 1) end r) (g : at + 1 < r .end) (room : length s < 2 ^ 63) where
       counted : Value (r .value) ≡ digitsOf 0 (slice from at s ++ slice (at + 1) (r .end) s)
       counted =
           let first = row-counted 0 v (slice from at s) (head .run .row) (head .run .is) (ten-most v (18 - (end - at)) (head .run .small) (omega arith)) in
@@ -81,33 +77,22 @@ module _ (s : List ℕ) (start end : ℕ) (b : Bool) (v at : ℕ) (k : end ≤ l
       inner place =
           let to = r .end in
           let n = to - (at + 1) in
-          let l = slice from at s ++ slice (at + 1) to s in
-          let some : eqb (at - from + n) 0 ≡ false = ne-eqb (at - from + n) 0 (λ (e : at - from + n ≡ 0). none (at - from) at to g e) in
-          ap (λ (p : ℤ). scaled b (r .value) p place) (down n (omega arith))
-          ∙ ap (λ (m : Digits). combine b n m (Power false 0) place) counted
-          ∙ ap₂ (λ (x y : Bool). pick x (no badNumber place) (combine b n (digitsOf 0 l) (pick y (Power false 0) (exponentOf (slice (to + 1) to s))) place)) (sym some)
-          (sym (le-leb to to (le-refl to)))
-        where
-          none : (m at to : ℕ) → at + 1 < to → m + (to - (at + 1)) ≡ 0 → ⊥
-          none m at to g e = omega arith
-
-          down : (n : ℕ) → 0 < n → signed true n ≡ pos 0 -ℤ pos n
-          down n h = let z : n - 0 ≡ n = omega arith in ap (signed true) (sym z) ∙ down-rest 0 n h
+          let down : signed true n ≡ pos 0 -ℤ pos n = let z : n - 0 ≡ n = omega arith in ap (signed true) (sym z) ∙ down-rest 0 n (omega arith) in
+          rw (ne-eqb (at - from + n) 0 (λ e. omega arith), le-leb to to (le-refl to), ← counted) (ap (λ (p : ℤ). scaled b (r .value) p place) down)
 
       front : (place : ℕ) → scaled b (r .value) (signed true (r .end - (at + 1))) place ≡ decimal (slice start (r .end) s) place
       front place =
           let to = r .end in
           let high : to ≤ length s = le-trans (q .high) k in
           let low : start < to = omega (arith, head-le .0) in
-          let sign : negative (slice start to s) ≡ b =
-          ap negative (slice-first start to s low high) ∙ sym (ap negative (slice-first start end s (omega (arith, head-le .0)) k)) ∙ sym (head .sign) in
-          let bytes : unsigned (slice start to s) ≡ slice from to s = unsigned-part start to from s (omega arith) high (ap (λ (x : Bool). pick x (start + 1) start) (sym sign)) in
+          let sign : b ≡ negative (slice start to s) = head .sign ∙ sign-front start to end s low (q .high) k in
+          let bytes : unsigned (slice start to s) ≡ slice from to s = unsigned-part start to from s (omega arith) high sign refl in
           inner place
-          ∙ with-point b s from to at to place
+          ∙ with-point b place
           (first-is 46 46 s from to at (head .run .low) (omega arith) high (digits-lack 46 46 refl refl (slice from at s) (head .run .row)) (is-x 46 46 (getD s at 0) p))
           (first-lacks 101 69 s (at + 1) to (q .low) high (digits-lack 101 69 refl refl (slice (at + 1) to s) (q .row)))
           high room (omega arith)
-          ∙ ap₂ (λ (x : Bool) (l : List ℕ). decimalOf x l place) (sym sign) (sym bytes)
+          ∙ ap₂ (λ (x : Bool) (l : List ℕ). decimalOf x l place) sign (sym bytes)
 
       -- digits to the end
       pub to-end : r .end ≡ end → realNumber false (scaled b (r .value) (signed true (r .end - (at + 1))) start) ≡ decimalNumber (slice start end s) start
@@ -116,23 +101,18 @@ module _ (s : List ℕ) (start end : ℕ) (b : Bool) (v at : ℕ) (k : end ≤ l
           ap (realNumber false) (front start ∙ ap (λ (n : ℕ). decimal (slice start n s) start) e)
           ∙ decimal-number start end start EndsDigit s (omega (arith, head-le .0)) k (ends-digit (getD s (end - 1) 0) last)
 
-      -- digits and f, or d
-      before-last : end ≤ r .end + 1 → (r .end ≡ end → ⊥) → r .end ≡ end - 1
-      before-last w n = tight (r .end) end (q .high) w n
-        where
-          tight : (a b : ℕ) → a ≤ b → b ≤ a + 1 → (a ≡ b → ⊥) → a ≡ b - 1
-          tight a b h w n = omega arith
+      -- digits and a letter
+      module _ (w : end ≤ r .end + 1) (n : r .end ≡ end → ⊥) where
+        to-letter : (x : Ending) → x ≡ endingOf (getD s (r .end) 0) → ended x (slice start (r .end) s) (slice start end s) start ≡ decimalNumber (slice start end s) start
+        to-letter x q′ =
+            let e : r .end ≡ end - 1 = omega (arith, q .high, n) in
+            ap (λ (m : ℕ). ended x (slice start m s) (slice start end s) start) e
+            ∙ decimal-number start end start x s (omega (arith, head-le .0)) k (q′ ∙ ap (λ (m : ℕ). endingOf (getD s m 0)) e)
 
-      pub to-float : end ≤ r .end + 1 → (r .end ≡ end → ⊥) → EndsFloat ≡ endingOf (getD s (r .end) 0)
-          → realNumber true (scaled b (r .value) (signed true (r .end - (at + 1))) start) ≡ decimalNumber (slice start end s) start
-      to-float w n x =
-          let e = before-last w n in
-          ap (realNumber true) (front start ∙ ap (λ (m : ℕ). decimal (slice start m s) start) e)
-          ∙ decimal-number start end start EndsFloat s (omega (arith, head-le .0)) k (x ∙ ap (λ (m : ℕ). endingOf (getD s m 0)) e)
+        pub to-float : EndsFloat ≡ endingOf (getD s (r .end) 0)
+            → realNumber true (scaled b (r .value) (signed true (r .end - (at + 1))) start) ≡ decimalNumber (slice start end s) start
+        to-float x = ap (realNumber true) (front start) ∙ to-letter EndsFloat x
 
-      pub to-double : end ≤ r .end + 1 → (r .end ≡ end → ⊥) → EndsDouble ≡ endingOf (getD s (r .end) 0)
-          → realNumber false (scaled b (r .value) (signed true (r .end - (at + 1))) start) ≡ decimalNumber (slice start end s) start
-      to-double w n x =
-          let e = before-last w n in
-          ap (realNumber false) (front start ∙ ap (λ (m : ℕ). decimal (slice start m s) start) e)
-          ∙ decimal-number start end start EndsDouble s (omega (arith, head-le .0)) k (x ∙ ap (λ (m : ℕ). endingOf (getD s m 0)) e)
+        pub to-double : EndsDouble ≡ endingOf (getD s (r .end) 0)
+            → realNumber false (scaled b (r .value) (signed true (r .end - (at + 1))) start) ≡ decimalNumber (slice start end s) start
+        to-double x = ap (realNumber false) (front start) ∙ to-letter EndsDouble x

@@ -2,6 +2,7 @@
 -- Assumes nothing.
 use mathlib.Core.Path.{_≡_, refl, sym, ap, ap₂, _∙_}
 use mathlib.Core.List.{List, [], _∷_, _++_}
+use mathlib.Core.Logic.{⊎-elim}
 use mathlib.Core.Bool.{Bool, true, false, not, _&&_}
 use Prim.Native.Nat.{ℕ, suc, _+_, _-_, _^_, _≤_, _<_, min}
 use native.Mathlib.Nat.{le-trans}
@@ -13,8 +14,9 @@ use lib.ListN.{length, length-append, getD, take, drop}
 use lib.Seq.{slice, length-slice}
 use lib.Ieee.{Float}
 use Rattle.form.specs.Answer.{Out, got, no, guard, pick, badNumber, _>>=_, _>>_}
+use Rattle.form.proofs.Picks.{lt-or}
 use Rattle.text_form.specs.Values.{signed, scaled}
-use Rattle.text_form.specs.Numbers.{Number, isDigit, isPoint, isLetter, empty, has, before, behind, lastOf, digits, worth, wholeNumber, power, exponent, exponentIn, valueOf, decimalOf, decimal, realNumber, decimalNumber, number}
+use Rattle.text_form.specs.Numbers.{Number, isDigit, isPoint, isLetter, empty, has, before, behind, digits, worth, wholeNumber, power, exponent, decimalBy, decimalOf, decimal, realNumber, decimalNumber, number}
 use Rattle.numbers.specs.Rows.{cap, digitsOf, either, FirstAt, counted, powerOf, exponentOf, combine, valueIn, endingOf}
 use Rattle.numbers.specs.declared.digits.Digits.the-variants.{Value, Bad}
 use Rattle.numbers.specs.declared.decimals.Exponent.{Exponent}
@@ -35,7 +37,8 @@ module _ (s : Bool) (w n place : ℕ) (small : n < 2 ^ 63) where
   power-same : (d : Bool) (l : List ℕ) → combine s n (Value w) (powerOf d l) place ≡ (power d l place >>= valued)
   power-same d l = go (empty l) (digits l)
     where
-      go : (x y : Bool) → combine s n (Value w) (pick x Wrong (counted d (pick y (Value (min (worth 0 l) cap)) Bad))) place ≡ ((guard (not x && y) badNumber place >> got (signed d (worth 0 l))) >>= valued)
+      go : (x y : Bool) → combine s n (Value w) (pick x Wrong (counted d (pick y (Value (min (worth 0 l) cap)) Bad))) place
+          ≡ ((guard (not x && y) badNumber place >> got (signed d (worth 0 l))) >>= valued)
       go true y = refl
       go false true = exponent-capped s w d (worth 0 l) n place small
       go false false = refl
@@ -44,7 +47,8 @@ module _ (s : Bool) (w n place : ℕ) (small : n < 2 ^ 63) where
   exponent-same [] = refl
   exponent-same (b ∷ l) = go (eqb b 45) (eqb b 43)
     where
-      go : (x y : Bool) → combine s n (Value w) (pick x (powerOf true l) (pick y (powerOf false l) (powerOf false (b ∷ l)))) place ≡ (pick x (power true l place) (pick y (power false l place) (power false (b ∷ l) place)) >>= valued)
+      go : (x y : Bool) → combine s n (Value w) (pick x (powerOf true l) (pick y (powerOf false l) (powerOf false (b ∷ l)))) place
+          ≡ (pick x (power true l place) (pick y (power false l place) (power false (b ∷ l) place)) >>= valued)
       go true y = power-same true l
       go false true = power-same false l
       go false false = power-same false (b ∷ l)
@@ -63,15 +67,12 @@ counted-same s w n place (Power d e) = digits-capped s w (signed d e -ℤ pos n)
 
 empty-length : (l : List ℕ) → empty l ≡ eqb (length l) 0
 empty-length [] = refl
-empty-length (b ∷ l) = sym (ne-eqb (suc (length l)) 0 (λ (e : suc (length l) ≡ 0). more (length l) e))
-  where
-    more : (n : ℕ) → suc n ≡ 0 → ⊥
-    more n e = omega arith
+empty-length (b ∷ l) = sym (ne-eqb (suc (length l)) 0 (λ e. omega arith))
 
 -- the digits a, b and the exponent behind them, as the code has them and as the definition has them
 rows-same : (s : Bool) (a b l : List ℕ) (h : Bool) (n place : ℕ) → n ≡ length b → n < 2 ^ 63
     → pick (empty (a ++ b)) (no badNumber place) (combine s n (digitsOf 0 (a ++ b)) (pick (not h) (Power false 0) (exponentOf l)) place)
-    ≡ valueOf s a b (pick h (exponent l place) (got (pos 0))) place
+    ≡ decimalBy s a b (pick h (exponent l place) (got (pos 0))) place
 rows-same s a b l h n place e g = go (empty (a ++ b)) (digits (a ++ b))
   where
     go : (x y : Bool) → pick x (no badNumber place) (combine s n (pick y (Value (min (worth 0 (a ++ b)) cap)) Bad) (pick (not h) (Power false 0) (exponentOf l)) place)
@@ -80,62 +81,39 @@ rows-same s a b l h n place e g = go (empty (a ++ b)) (digits (a ++ b))
     go false true =
         counted-same s (worth 0 (a ++ b)) n place (pick (not h) (Power false 0) (exponentOf l))
         ∙ either-same s (worth 0 (a ++ b)) n place g h l
-        ∙ ap (λ (k : ℕ). pick h (exponent l place) (got (pos 0)) >>= (λ (z : ℤ). scaled s (worth 0 (a ++ b)) (z -ℤ pos k) place)) e
+        ∙ rw e refl
     go false false = refl
 
-pub no-point : (s : Bool) (t : List ℕ) (from to point place : ℕ) → FirstAt 46 46 t from to point → to ≤ length t → to ≤ point
+pub no-point : (s : Bool) {t : List ℕ} {from to point : ℕ} (place : ℕ) → FirstAt 46 46 t from to point → to ≤ length t → to ≤ point
     → no badNumber place ≡ decimalOf s (slice from to t) place
 unfolding decimalOf
-no-point s t from to point place f k h =
-    let l = slice from to t in
-    let x = valueOf s (before isPoint l) (before (isLetter 101) (behind isPoint l)) (exponentIn (behind isPoint l) place) place in
-    ap (λ (b : Bool). guard b badNumber place >> x) (sym (ap (λ (p : ℕ → Bool). has p l) (sym the-point) ∙ part-lacks 46 46 t from to point f k h))
+no-point s {t} {from} {to} place f k h = rw (ap (λ (p : ℕ → Bool). has p (slice from to t)) (sym the-point) ∙ part-lacks f k h) refl
 
-pub with-point : (s : Bool) (t : List ℕ) (from to point ex place : ℕ) → FirstAt 46 46 t from to point → FirstAt 101 69 t (point + 1) to ex → to ≤ length t → length t < 2 ^ 63 → point < to
+pub with-point : (s : Bool) {t : List ℕ} {from to point ex : ℕ} (place : ℕ) → FirstAt 46 46 t from to point → FirstAt 101 69 t (point + 1) to ex → to ≤ length t → length t < 2 ^ 63 → point < to
     → valueIn s t from point ex to place ≡ decimalOf s (slice from to t) place
 unfolding decimalOf valueIn
-with-point s t from to point ex place f g k room h =
+with-point s {t} {from} {to} {point} {ex} place f g k room h =
     let l = slice from to t in
     let a = slice from point t in
     let b = slice (point + 1) ex t in
     let n = ex - (point + 1) in
-    let whole : a ≡ before isPoint l = part-before 46 46 t from to point f k ∙ ap (λ (p : ℕ → Bool). before p l) the-point in
-    let rest : slice (point + 1) to t ≡ behind isPoint l = part-behind 46 46 t from to point f k ∙ ap (λ (p : ℕ → Bool). behind p l) the-point in
+    let whole : a ≡ before isPoint l = part-before f k ∙ ap (λ (p : ℕ → Bool). before p l) the-point in
+    let rest : slice (point + 1) to t ≡ behind isPoint l = part-behind f k ∙ ap (λ (p : ℕ → Bool). behind p l) the-point in
     let q = behind isPoint l in
-    let fraction : b ≡ before (isLetter 101) q = part-before 101 69 t (point + 1) to ex g k ∙ ap (before (isLetter 101)) rest in
-    let tail : slice (ex + 1) to t ≡ behind (isLetter 101) q = part-behind 101 69 t (point + 1) to ex g k ∙ ap (behind (isLetter 101)) rest in
+    let fraction : b ≡ before (isLetter 101) q = part-before g k ∙ ap (before (isLetter 101)) rest in
+    let tail : slice (ex + 1) to t ≡ behind (isLetter 101) q = part-behind g k ∙ ap (behind (isLetter 101)) rest in
     let ex-le : ex ≤ length t = le-trans (g .high) k in
     let point-le : point ≤ length t = le-trans (f .high) k in
     let none : eqb (point - from + n) 0 ≡ empty (a ++ b) = sym
     (empty-length (a ++ b) ∙ ap (λ (m : ℕ). eqb m 0) (length-append a b ∙ ap₂ _+_ (length-slice from point t point-le) (length-slice (point + 1) ex t ex-le))) in
-    let letter : leb to ex ≡ not (has (isLetter 101) q) = tested (has (isLetter 101) q) (λ (z : ex < to). ap (has (isLetter 101)) (sym rest) ∙ part-has 101 69 t (point + 1) to ex g k z)
-    (λ (z : to ≤ ex). ap (has (isLetter 101)) (sym rest) ∙ part-lacks 101 69 t (point + 1) to ex g k z) in
-    let point-is : has isPoint l ≡ true = ap (λ (p : ℕ → Bool). has p l) (sym the-point) ∙ part-has 46 46 t from to point f k h in
-    ap (λ (x : Bool). pick x (no badNumber place) (combine s n (digitsOf 0 (a ++ b)) (pick (leb to ex) (Power false 0) (exponentOf (slice (ex + 1) to t))) place)) none
-    ∙ ap (λ (x : Bool). pick (empty (a ++ b)) (no badNumber place) (combine s n (digitsOf 0 (a ++ b)) (pick x (Power false 0) (exponentOf (slice (ex + 1) to t))) place)) letter
-    ∙ rows-same s a b (slice (ex + 1) to t) (has (isLetter 101) q) n place (sym (length-slice (point + 1) ex t ex-le)) (less (length t) ex (point + 1) ex-le room)
-    ∙ ap (λ (x : List ℕ). valueOf s a b (pick (has (isLetter 101) q) (exponent x place) (got (pos 0))) place) tail
-    ∙ ap₂ (λ (x y : List ℕ). valueOf s x y (exponentIn q place) place) whole fraction
-    ∙ ap (λ (x : Bool). guard x badNumber place >> valueOf s (before isPoint l) (before (isLetter 101) q) (exponentIn q place) place) (sym point-is)
+    let letter : leb to ex ≡ not (has (isLetter 101) q) = tested (has (isLetter 101) q) (λ (z : ex < to). ap (has (isLetter 101)) (sym rest) ∙ part-has g k z)
+    (λ (z : to ≤ ex). ap (has (isLetter 101)) (sym rest) ∙ part-lacks g k z) in
+    let point-is : has isPoint l ≡ true = ap (λ (p : ℕ → Bool). has p l) (sym the-point) ∙ part-has f k h in
+    rw (none, letter, point-is, ← whole, ← fraction, ← tail)
+    (rows-same s a b (slice (ex + 1) to t) (has (isLetter 101) q) n place (sym (length-slice (point + 1) ex t ex-le)) (omega arith))
   where
-    less : (m ex p : ℕ) → ex ≤ m → m < 2 ^ 63 → ex - p < 2 ^ 63
-    less m ex p h g = omega arith
-
     tested : (b : Bool) → (ex < to → b ≡ true) → (to ≤ ex → b ≡ false) → leb to ex ≡ not b
-    tested true y z = lt-leb to ex (split to ex (λ (q : to ≤ ex). unlike (z q)))
-      where
-        unlike : _≡_ {A = Bool} true false → ⊥
-        unlike e = let z : _≡_ {A = ℕ} 0 1 = cc in omega arith
-
-        split : (a b : ℕ) → (a ≤ b → ⊥) → b < a
-        split a b h = omega arith
-    tested false y z = le-leb to ex (split to ex (λ (q : ex < to). unlike (y q)))
-      where
-        unlike : _≡_ {A = Bool} false true → ⊥
-        unlike e = let z : _≡_ {A = ℕ} 0 1 = cc in omega arith
-
-        split : (a b : ℕ) → (b < a → ⊥) → a ≤ b
-        split a b h = omega arith
+    tested b y z = ⊎-elim (λ q. lt-leb to ex q ∙ ap not (sym (y q))) (λ q. le-leb to ex q ∙ ap not (sym (z q))) (lt-or ex to)
 
 -- ---- a token with a point, by its ending
 
@@ -151,18 +129,8 @@ pub decimal-number : (f t place : ℕ) (e : Ending) (s : List ℕ) → f < t →
 unfolding decimalNumber
 decimal-number f t place e s h k q =
     let b = getD s (t - 1) 0 in
-    let l = slice f t s in
-    ap (λ (x : Ending). ended x (slice f (t - 1) s) l place) q
-    ∙ go (isLetter 102 b) (isLetter 100 b) (isDigit b)
-    ∙ ap (λ (x : ℕ). by-last x (slice f (t - 1) s)) (sym (last-byte f t s h k))
-    ∙ ap (by-last (lastOf l)) (sym (but-last f t s h k))
+    rw (q, last-byte f t s h k, but-last f t s h k) (go (isLetter 102 b) (isLetter 100 b) (isDigit b))
   where
-    by-last : ℕ → List ℕ → Out Number
-    by-last b front =
-        pick (isLetter 102 b) (realNumber true (decimal front place))
-        (pick (isLetter 100 b) (realNumber false (decimal front place))
-        (pick (isDigit b) (realNumber false (decimal (slice f t s) place)) (no badNumber place)))
-
     go : (x y z : Bool) → ended (pick x EndsFloat (pick y EndsDouble (pick z EndsDigit EndsOther))) (slice f (t - 1) s) (slice f t s) place
         ≡ pick x (realNumber true (decimal (slice f (t - 1) s) place))
         (pick y (realNumber false (decimal (slice f (t - 1) s) place)) (pick z (realNumber false (decimal (slice f t s) place)) (no badNumber place)))
@@ -181,23 +149,19 @@ no-decimal f t place s h = ap (λ (l : List ℕ). decimalNumber l place) (sym (s
 module _ (f t place : ℕ) (s : List ℕ) (h : f ≤ t) (k : t ≤ length s) where
   pub number-with : has isPoint (slice f t s) ≡ true → decimalNumber (slice f t s) place ≡ number (take (t - f) (drop f s)) place
   unfolding number
-  number-with g =
-      ap (λ (b : Bool). pick b (decimalNumber (slice f t s) place) (wholeNumber (slice f t s) place)) (sym g)
-      ∙ ap (λ (l : List ℕ). number l place) (slice-from f t s h)
+  number-with g = rw (← slice-from f t s h, g) refl
 
   pub number-without : has isPoint (slice f t s) ≡ false → wholeNumber (slice f t s) place ≡ number (take (t - f) (drop f s)) place
   unfolding number
-  number-without g =
-      ap (λ (b : Bool). pick b (decimalNumber (slice f t s) place) (wholeNumber (slice f t s) place)) (sym g)
-      ∙ ap (λ (l : List ℕ). number l place) (slice-from f t s h)
+  number-without g = rw (← slice-from f t s h, g) refl
 
   -- a point that is looked for behind bytes that are none
-  module _ (m r : ℕ) (p : FirstAt 46 46 s m t r) (l : f ≤ m) (n : has isPoint (slice f m s) ≡ false) where
+  module _ {m r : ℕ} (p : FirstAt 46 46 s m t r) (l : f ≤ m) (n : has isPoint (slice f m s) ≡ false) where
     found : (b : Bool) → has (either 46 46) (slice m t s) ≡ b → has isPoint (slice f t s) ≡ b
     found b e = has-behind isPoint f m t b s l (le-trans (p .low) (p .high)) k n (ap (λ (q : ℕ → Bool). has q (slice m t s)) (sym the-point) ∙ e)
 
-    pub point-behind : r < t → has isPoint (slice f t s) ≡ true
-    point-behind g = found true (part-has 46 46 s m t r p k g)
+    pub number-found : r < t → decimalNumber (slice f t s) place ≡ number (take (t - f) (drop f s)) place
+    number-found g = number-with (found true (part-has p k g))
 
-    pub no-point-behind : t ≤ r → has isPoint (slice f t s) ≡ false
-    no-point-behind g = found false (part-lacks 46 46 s m t r p k g)
+    pub number-lacks : t ≤ r → wholeNumber (slice f t s) place ≡ number (take (t - f) (drop f s)) place
+    number-lacks g = number-without (found false (part-lacks p k g))

@@ -1,6 +1,6 @@
 -- Rows of digits, counted up to the cap: one byte more, the end, two rows as one; and the range of an i64.
 -- Assumes nothing.
-use mathlib.Core.Path.{_≡_, refl, sym, ap, ap₂, _∙_}
+use mathlib.Core.Path.{_≡_, refl, ap, _∙_}
 use mathlib.Core.List.{List, [], _∷_, _++_}
 use mathlib.Core.Bool.{Bool, true, false, not, _&&_}
 use Prim.Native.Nat.{ℕ, _+_, _-_, _*_, _^_, _≤_, _<_, min}
@@ -8,6 +8,7 @@ use native.Mathlib.Omega.{arith}
 use borrow.Author.Tests.{le-leb, lt-leb}
 use lib.Dec.{leb}
 use Rattle.form.specs.Answer.{pick}
+use Rattle.form.proofs.Picks.{and-false}
 use Rattle.text_form.specs.Numbers.{isDigit, empty, digits, worth}
 use Rattle.numbers.specs.Rows.{cap, digitsOf, wholeDigits}
 use Rattle.numbers.specs.declared.digits.Digits.the-variants.{Value, Bad}
@@ -16,9 +17,8 @@ use Rattle.numbers.specs.declared.digits.Digits.the-variants.{Value, Bad
 pub apart : _≡_ {A = ℕ} 0 1 → ⊥
 apart e = omega arith
 
-pub and-false : (b : Bool) → (b && false) ≡ false
-and-false true = refl
-and-false false = refl
+pub true-false : {A : Type 0} → _≡_ {A = Bool} true false → A
+true-false e = let z : _≡_ {A = ℕ} 0 1 = cc in absurd (apart z)
 
 pub is-digit : (b : ℕ) → 48 ≤ b → b ≤ 57 → isDigit b ≡ true
 is-digit b h k = simp (le-leb _ _ h, le-leb _ _ k)
@@ -34,38 +34,26 @@ above-digits b h = ap (λ (x : Bool). leb 48 b && x) (lt-leb b 57 h) ∙ and-fal
 -- a first number that was capped gives the same
 capped-first : (n : ℕ) (l : List ℕ) → min (worth (min n cap) l) cap ≡ min (worth n l) cap
 unfolding worth
-capped-first n l = go n (min n cap) l (twice n)
+capped-first n l = go n (min n cap) l (omega arith)
   where
-    twice : (n : ℕ) → min (min n cap) cap ≡ min n cap
-    twice n = omega arith
-
     go : (x y : ℕ) (l : List ℕ) → min y cap ≡ min x cap → min (worth y l) cap ≡ min (worth x l) cap
     go x y [] e = e
-    go x y (b ∷ l) e = go (x * 10 + (b - 48)) (y * 10 + (b - 48)) l (step x y (b - 48) e)
-      where
-        step : (x y d : ℕ) → min y cap ≡ min x cap → min (y * 10 + d) cap ≡ min (x * 10 + d) cap
-        step x y d e = omega arith
+    go x y (b ∷ l) e = go (x * 10 + (b - 48)) (y * 10 + (b - 48)) l (omega arith)
 
 -- one digit more
 pub digits-more : (n m b : ℕ) (l : List ℕ) → isDigit b ≡ true → m ≡ min (n * 10 + (b - 48)) cap → digitsOf m l ≡ digitsOf n (b ∷ l)
 unfolding digits worth
-digits-more n m b l d e =
-    ap (λ (x : ℕ). pick (digits l) (Value (min (worth x l) cap)) Bad) e
-    ∙ ap (λ (x : ℕ). pick (digits l) (Value x) Bad) (capped-first (n * 10 + (b - 48)) l)
-    ∙ ap (λ (t : Bool). pick (t && digits l) (Value (min (worth (n * 10 + (b - 48)) l) cap)) Bad) (sym d)
+digits-more n m b l d e = rw (e, capped-first (n * 10 + (b - 48)) l, d) refl
 
 -- a byte that is no digit
 pub digits-broken : (n b : ℕ) (l : List ℕ) → isDigit b ≡ false → Bad ≡ digitsOf n (b ∷ l)
 unfolding digits worth
-digits-broken n b l d = ap (λ (t : Bool). pick (t && digits l) (Value (min (worth n (b ∷ l)) cap)) Bad) (sym d)
+digits-broken n b l d = rw d refl
 
 -- the row's end
 pub digits-end : (n : ℕ) → n ≤ cap → Value n ≡ digitsOf n []
 unfolding digits worth
-digits-end n h = ap Value (sure n h)
-  where
-    sure : (n : ℕ) → n ≤ cap → n ≡ min n cap
-    sure n h = omega arith
+digits-end n h = let e : n ≡ min n cap = omega arith in ap Value e
 
 -- ---- two rows as one
 
@@ -100,16 +88,13 @@ bad-says n l e = go (digits l) e
 
 -- a row that is broken stays so with another behind it
 pub first-broken : (a b : List ℕ) → Bad ≡ digitsOf 0 a → Bad ≡ digitsOf 0 (a ++ b)
-first-broken a b e =
-    sym (ap (λ (t : Bool). pick t (Value (min (worth 0 (a ++ b)) cap)) Bad) (digits-append a b ∙ ap (λ (t : Bool). t && digits b) (bad-says 0 a e)))
+first-broken a b e = rw (digits-append a b, bad-says 0 a e) refl
 
 -- the second row goes on from the first one's number
 pub second-row : (v : ℕ) (a b : List ℕ) → Value v ≡ digitsOf 0 a → digitsOf v b ≡ digitsOf 0 (a ++ b)
 second-row v a b e =
     let w = value-says 0 v a e in
-    ap (λ (x : ℕ). pick (digits b) (Value (min (worth x b) cap)) Bad) (w .1)
-    ∙ ap (λ (x : ℕ). pick (digits b) (Value x) Bad) (capped-first (worth 0 a) b ∙ ap (λ (x : ℕ). min x cap) (sym (worth-append 0 a b)))
-    ∙ sym (ap (λ (t : Bool). pick t (Value (min (worth 0 (a ++ b)) cap)) Bad) (digits-append a b ∙ ap (λ (t : Bool). t && digits b) (w .0)))
+    rw (w .1, capped-first (worth 0 a) b, digits-append a b, w .0, worth-append 0 a b) refl
 
 -- ---- the range of 64 bits and a sign
 
@@ -125,7 +110,7 @@ pub whole-says : (s : Bool) (l : List ℕ) (m : ℕ) → Value m ≡ wholeDigits
 whole-says s l m e = go (not (empty l) && digits l) (leb (worth 0 l) (pick s (2 ^ 63) (2 ^ 63 - 1))) refl e
   where
     go : (x y : Bool) → leb (worth 0 l) (pick s (2 ^ 63) (2 ^ 63 - 1)) ≡ y → Value m ≡ pick x (pick y (Value (worth 0 l)) Bad) Bad → leb m (pick s (2 ^ 63) (2 ^ 63 - 1)) ≡ true
-    go true true l' e = let same : m ≡ worth 0 l = cc in ap (λ (v : ℕ). leb v (pick s (2 ^ 63) (2 ^ 63 - 1))) same ∙ l'
+    go true true l' e = let same : m ≡ worth 0 l = cc in rw same l'
     go true false l' e = let z : _≡_ {A = ℕ} 0 1 = cc in absurd (apart z)
     go false y l' e = let z : _≡_ {A = ℕ} 0 1 = cc in absurd (apart z)
 
@@ -137,11 +122,8 @@ pub whole-far : (s : Bool) (l : List ℕ) → leb (worth 0 l) (pick s (2 ^ 63) (
 whole-far s l f = go (not (empty l) && digits l)
   where
     go : (b : Bool) → Bad ≡ pick b (pick (leb (worth 0 l) (pick s (2 ^ 63) (2 ^ 63 - 1))) (Value (worth 0 l)) Bad) Bad
-    go true = ap (λ (t : Bool). pick t (Value (worth 0 l)) Bad) (sym f)
+    go true = rw f refl
     go false = refl
 
 pub whole-is : (s : Bool) (l : List ℕ) (m : ℕ) → empty l ≡ false → digits l ≡ true → leb (worth 0 l) (pick s (2 ^ 63) (2 ^ 63 - 1)) ≡ true → m ≡ worth 0 l → Value m ≡ wholeDigits s l
-whole-is s l m e d r q =
-    ap Value q
-    ∙ ap (λ (t : Bool). pick t (Value (worth 0 l)) Bad) (sym r)
-    ∙ ap₂ (λ (x y : Bool). pick (not x && y) (pick (leb (worth 0 l) (pick s (2 ^ 63) (2 ^ 63 - 1))) (Value (worth 0 l)) Bad) Bad) (sym e) (sym d)
+whole-is s l m e d r q = rw (e, d, r, q) refl

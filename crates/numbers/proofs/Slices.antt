@@ -18,15 +18,9 @@ slice-first f t l h k = slice-cons f t l 0 h k ∙ ap (λ (n : ℕ). getD l f 0 
 
 -- taking from behind a place
 take-drop : (f n : ℕ) (l : List ℕ) → take n (drop f l) ≡ drop f (take (f + n) l)
-take-drop zero n l = ap (λ (k : ℕ). take k l) (none n)
-  where
-    none : (n : ℕ) → n ≡ 0 + n
-    none n = omega arith
+take-drop zero n l = let e : n ≡ 0 + n = omega arith in ap (λ (k : ℕ). take k l) e
 take-drop (suc f) n [] = take-nil n ∙ sym (ap (drop (suc f)) (take-nil (suc f + n)))
-take-drop (suc f) n (b ∷ l) = take-drop f n l ∙ ap (λ (k : ℕ). drop (suc f) (take k (b ∷ l))) (moved f n)
-  where
-    moved : (f n : ℕ) → suc (f + n) ≡ suc f + n
-    moved f n = omega arith
+take-drop (suc f) n (b ∷ l) = let e : suc (f + n) ≡ suc f + n = omega arith in take-drop f n l ∙ ap (λ (k : ℕ). drop (suc f) (take k (b ∷ l))) e
 
 -- a front of a part
 pub slice-take : (f t n : ℕ) (l : List ℕ) → f + n ≤ t → take n (slice f t l) ≡ slice f (f + n) l
@@ -38,10 +32,7 @@ slice-drop f t n l = drop-drop n f (take t l)
 
 -- a part as so many bytes from a place on
 pub slice-from : (f t : ℕ) (l : List ℕ) → f ≤ t → slice f t l ≡ take (t - f) (drop f l)
-slice-from f t l h = ap (λ (k : ℕ). slice f k l) (whole f t h) ∙ sym (take-drop f (t - f) l)
-  where
-    whole : (f t : ℕ) → f ≤ t → t ≡ f + (t - f)
-    whole f t h = omega arith
+slice-from f t l h = let e : t ≡ f + (t - f) = omega arith in ap (λ (k : ℕ). slice f k l) e ∙ sym (take-drop f (t - f) l)
 
 -- a part in two
 pub slice-split : (f m t : ℕ) (l : List ℕ) → f ≤ m → m ≤ t → t ≤ length l → slice f t l ≡ slice f m l ++ slice m t l

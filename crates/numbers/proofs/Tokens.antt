@@ -1,7 +1,7 @@
 -- A token as a part of a text: its last byte, its bytes without the suffix and without the sign.
 -- Assumes nothing.
-use mathlib.Core.Path.{_≡_, refl, sym, ap, ap₂, _∙_, subst}
-use mathlib.Core.Logic.{_⊎_, inl, inr}
+use mathlib.Core.Path.{_≡_, refl, sym, ap, _∙_, subst}
+use mathlib.Core.Logic.{⊎-elim, _⊎_, inl, inr}
 use mathlib.Core.List.{List, [], _∷_}
 use mathlib.Core.Bool.{Bool, true, false, not, _&&_}
 use Prim.Native.Nat.{ℕ, _+_, _-_, _^_, _≤_, _<_}
@@ -12,43 +12,30 @@ use lib.IntN.{ℤ}
 use lib.ListN.{length, getD, take}
 use lib.Seq.{slice, length-slice, getD-drop, getD-take}
 use Rattle.form.specs.Answer.{Out, got, no, guard, pick, badNumber, _>>=_, _>>_}
+use Rattle.form.proofs.Picks.{lt-or}
 use Rattle.text_form.specs.Values.{signed}
 use Rattle.text_form.specs.Numbers.{Number, isSuffix, empty, lastOf, butLast, negative, unsigned, digits, worth, wholeOf, suffixed, stem, wholeNumber}
 use Rattle.numbers.specs.Rows.{wholeDigits}
 use Rattle.numbers.specs.declared.digits.Digits.{Digits}
 use Rattle.numbers.specs.declared.digits.Digits.the-variants.{Value, Bad}
+use Rattle.numbers.proofs.Rows.{true-false}
 use Rattle.numbers.proofs.Slices.{slice-none, slice-first, slice-take}
 
 -- ---- the last byte
 
-there : (f t : ℕ) → f < t → f + (t - f - 1) ≡ t - 1
-there f t h = omega arith
-
 pub last-byte : (f t : ℕ) (s : List ℕ) → f < t → t ≤ length s → lastOf (slice f t s) ≡ getD s (t - 1) 0
 last-byte f t s h k =
-    ap (λ (n : ℕ). getD (slice f t s) (n - 1) 0) (length-slice f t s k)
-    ∙ getD-drop f (take t s) (t - f - 1) 0
-    ∙ ap (λ (n : ℕ). getD (take t s) n 0) (there f t h)
-    ∙ getD-take t s (t - 1) 0 (less f t h)
-  where
-    less : (f t : ℕ) → f < t → t - 1 < t
-    less f t h = omega arith
+    let e : f + (t - f - 1) ≡ t - 1 = omega arith in
+    rw (length-slice f t s k, getD-drop f (take t s) (t - f - 1) 0, e) (getD-take t s (t - 1) 0 (omega arith))
 
 pub but-last : (f t : ℕ) (s : List ℕ) → f < t → t ≤ length s → butLast (slice f t s) ≡ slice f (t - 1) s
 but-last f t s h k =
-    ap (λ (n : ℕ). take (n - 1) (slice f t s)) (length-slice f t s k)
-    ∙ slice-take f t (t - f - 1) s (fits f t h)
-    ∙ ap (λ (n : ℕ). slice f n s) (there f t h)
-  where
-    fits : (f t : ℕ) → f < t → f + (t - f - 1) ≤ t
-    fits f t h = omega arith
+    let e : f + (t - f - 1) ≡ t - 1 = omega arith in
+    rw (length-slice f t s k, slice-take f t (t - f - 1) s (omega arith), e) refl
 
 -- the bytes without their suffix end at `to`
 pub stem-part : (f t to : ℕ) (s : List ℕ) → f < t → t ≤ length s → to ≡ pick (isSuffix (getD s (t - 1) 0)) (t - 1) t → stem (slice f t s) ≡ slice f to s
-stem-part f t to s h k e =
-    ap₂ (λ (b : ℕ) (l : List ℕ). pick (isSuffix b) l (slice f t s)) (last-byte f t s h k) (but-last f t s h k)
-    ∙ both (isSuffix (getD s (t - 1) 0))
-    ∙ ap (λ (n : ℕ). slice f n s) (sym e)
+stem-part f t to s h k e = rw (e, last-byte f t s h k, but-last f t s h k) (both (isSuffix (getD s (t - 1) 0)))
   where
     both : (b : Bool) → pick b (slice f (t - 1) s) (slice f t s) ≡ slice f (pick b (t - 1) t) s
     both true = refl
@@ -61,44 +48,42 @@ stem-le false f t h = (omega arith, omega arith)
 -- ---- the sign
 
 -- a minus is a byte
-minus-some : (f t : ℕ) (s : List ℕ) → f ≤ t → negative (slice f t s) ≡ true → f < t
-minus-some f t s h e = split f t h (λ (g : t ≤ f). none (sym (ap negative (slice-none f t s g)) ∙ e))
-  where
-    none : _≡_ {A = Bool} false true → ⊥
-    none e = let z : _≡_ {A = ℕ} 0 1 = ap number e in omega arith
-      where
-        number : Bool → ℕ
-        number false = 0
-        number true = 1
+minus-some : (f t : ℕ) (s : List ℕ) → negative (slice f t s) ≡ true → f < t
+minus-some f t s e = ⊎-elim (λ g. g) (λ g. true-false (sym e ∙ ap negative (slice-none f t s g))) (lt-or f t)
 
-    split : (f t : ℕ) → f ≤ t → (t ≤ f → ⊥) → f < t
-    split f t h g = omega arith
+-- a front has the sign of the whole
+pub sign-front : (f t u : ℕ) (s : List ℕ) → f < t → t ≤ u → u ≤ length s → negative (slice f u s) ≡ negative (slice f t s)
+sign-front f t u s h g k = ap negative (slice-first f u s (omega arith) k) ∙ sym (ap negative (slice-first f t s h (omega arith)))
 
 -- where the digits start
-pub unsigned-le : (f t from : ℕ) (s : List ℕ) → f ≤ t → from ≡ pick (negative (slice f t s)) (f + 1) f → from ≤ t
-unsigned-le f t from s h e = go (negative (slice f t s)) (minus-some f t s h) e
+pub unsigned-le : (f t from : ℕ) (s : List ℕ) {b : Bool} → f ≤ t → b ≡ negative (slice f t s) → from ≡ pick b (f + 1) f → from ≤ t
+unsigned-le f t from s {b} h n e = go b (λ q. minus-some f t s (sym n ∙ q)) e
   where
     go : (b : Bool) → (b ≡ true → f < t) → from ≡ pick b (f + 1) f → from ≤ t
     go true m e = let g : f < t = m refl in omega arith
     go false m e = omega arith
 
-pub unsigned-part : (f t from : ℕ) (s : List ℕ) → f ≤ t → t ≤ length s → from ≡ pick (negative (slice f t s)) (f + 1) f → unsigned (slice f t s) ≡ slice from t s
-unsigned-part f t from s h k e = go (eq-or-lt-of-le h)
+pub unsigned-part : (f t from : ℕ) (s : List ℕ) {b : Bool} → f ≤ t → t ≤ length s → b ≡ negative (slice f t s) → from ≡ pick b (f + 1) f
+    → unsigned (slice f t s) ≡ slice from t s
+unsigned-part f t from s h k q e = go (eq-or-lt-of-le h)
   where
+    signed-by : {l : List ℕ} → slice f t s ≡ l → pick (negative l) (f + 1) f ≡ from
+    signed-by c = sym (e ∙ ap (λ (x : Bool). pick x (f + 1) f) (q ∙ ap negative c))
+
     start : (b : Bool) (x y : ℕ) → pick b (slice x t s) (slice y t s) ≡ slice (pick b x y) t s
     start true x y = refl
     start false x y = refl
 
     go : (f ≡ t) ⊎ (f < t) → unsigned (slice f t s) ≡ slice from t s
-    go (inl q) =
-        let n : slice f t s ≡ [] = slice-none f t s (le-of-eq (sym q)) in
-        ap unsigned n ∙ sym n ∙ ap (λ (x : ℕ). slice x t s) (sym (e ∙ ap (λ (l : List ℕ). pick (negative l) (f + 1) f) n))
+    go (inl z) =
+        let n : slice f t s ≡ [] = slice-none f t s (le-of-eq (sym z)) in
+        ap unsigned n ∙ sym n ∙ ap (λ (x : ℕ). slice x t s) (signed-by n)
     go (inr g) =
         let c : slice f t s ≡ getD s f 0 ∷ slice (f + 1) t s = slice-first f t s g k in
         ap unsigned c
         ∙ ap (λ (l : List ℕ). pick (eqb (getD s f 0) 45) (slice (f + 1) t s) l) (sym c)
         ∙ start (eqb (getD s f 0) 45) (f + 1) f
-        ∙ ap (λ (x : ℕ). slice x t s) (sym (e ∙ ap (λ (l : List ℕ). pick (negative l) (f + 1) f) c))
+        ∙ ap (λ (x : ℕ). slice x t s) (signed-by c)
 
 -- ---- a whole number
 
@@ -136,14 +121,8 @@ whole-number f t to from place b d s h k et eb ef ed =
     let fits = stem-le (isSuffix (getD s (t - 1) 0)) f t h in
     let low : f ≤ to = subst (λ (n : ℕ). f ≤ n) (sym et) (fits .0) in
     let high : to ≤ length s = le-trans (subst (λ (n : ℕ). n ≤ t) (sym et) (fits .1)) k in
-    let bytes : unsigned (slice f to s) ≡ slice from to s = unsigned-part f to from s low high (ef ∙ ap (λ (x : Bool). pick x (f + 1) f) eb) in
-    out d
-    ∙ ap (λ (x : Digits). wholeOut b x place >>= (λ (z : ℤ). got (suffixed (getD s (t - 1) 0) z))) ed
-    ∙ ap (λ (o : Out ℤ). o >>= (λ (z : ℤ). got (suffixed (getD s (t - 1) 0) z))) (sym (whole-same b (slice from to s) place))
-    ∙ ap (λ (x : Bool). wholeOf x (slice from to s) place >>= (λ (z : ℤ). got (suffixed (getD s (t - 1) 0) z))) eb
-    ∙ ap (λ (l : List ℕ). wholeOf (negative (slice f to s)) l place >>= (λ (z : ℤ). got (suffixed (getD s (t - 1) 0) z))) (sym bytes)
-    ∙ ap (λ (l : List ℕ). wholeOf (negative l) (unsigned l) place >>= (λ (z : ℤ). got (suffixed (getD s (t - 1) 0) z))) (sym (stem-part f t to s h k et))
-    ∙ ap (λ (x : ℕ). wholeOf (negative (stem (slice f t s))) (unsigned (stem (slice f t s))) place >>= (λ (z : ℤ). got (suffixed x z))) (sym (last-byte f t s h k))
+    let bytes : unsigned (slice f to s) ≡ slice from to s = unsigned-part f to from s low high eb ef in
+    rw (stem-part f t to s h k et, bytes, ← eb, whole-same b (slice from to s) place, ← ed, last-byte f t s h k) (out d)
   where
     out : (d : Digits) → answered (getD s (t - 1) 0) b d place ≡ (wholeOut b d place >>= (λ (z : ℤ). got (suffixed (getD s (t - 1) 0) z)))
     out (Value m) = refl

@@ -10,7 +10,7 @@ use Rattle.form.specs.Answer.{Out, got, no, _>>_, guard}
 use Rattle.form.specs.Table.{Forest, none, node, size, width, wrote, widthOf, holds}
 use Rattle.form.specs.Spans.{over}
 use Rattle.form.specs.Reading.{Inside, One, Run, heldOne, ReadIs, reading, bytesAt, leafAt}
-use Rattle.siblings.specs.declared.Found.{Found}
+use Rattle.siblings.specs.declared.Repeat.{Repeat}
 use Rattle.siblings.specs.Forests.{placeOut}
 use Rattle.form.proofs.Table.{wrote-head}
 use Rattle.form.proofs.Fields.{bytes-got, bytes-no, leaf-fixed}
@@ -75,10 +75,10 @@ accepted doc t s = record { answer-is = rw (s .is, s .at-is, s .n-is) refl; tabl
 
 -- ---- a refusal, unless a name is repeated before it
 
-pub settled-at : (o : Out (Unit {0})) (n p q : ℕ) → placeOut (Found.At q) ≡ o → _>>_ {A = Unit {0}} {B = Run} o (no n p) ≡ no 6 q
+pub settled-at : (o : Out (Unit {0})) (n p q : ℕ) → placeOut (Repeat.At q) ≡ o → _>>_ {A = Unit {0}} {B = Run} o (no n p) ≡ no 6 q
 settled-at o n p q e = rw (← e) refl
 
-pub settled-none : (o : Out (Unit {0})) (n p : ℕ) → placeOut Found.Nothing ≡ o → _>>_ {A = Unit {0}} {B = Run} o (no n p) ≡ no n p
+pub settled-none : (o : Out (Unit {0})) (n p : ℕ) → placeOut Repeat.Nothing ≡ o → _>>_ {A = Unit {0}} {B = Run} o (no n p) ≡ no n p
 settled-none o n p e = rw (← e) refl
 
 pub entry-settled-yes : (o : Out (Unit {0})) (b : Bool) (here n p : ℕ) (r : Ran) → b ≡ true → Settled o 6 here r → EntrySettled o b here n p r

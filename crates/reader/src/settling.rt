@@ -3,7 +3,7 @@ ghost use mathlib.Core.Path.{_≡_};
 ghost use Prim.Native.Nat.{_+_, _≤_};
 ghost use lib.ListN.{length};
 ghost use Rattle.reader.specs.Steps.{Known, repeatIn, Settled, Finished, EntryIs};
-use siblings::Found;
+use siblings::Repeat;
 
 // Records read one after the other, and how many; or a refusal.
 pub enum Ran {
@@ -24,11 +24,11 @@ pub fn settle(
     ensures { λ r. ⌜ (Settled (repeatIn (now (doc .entry)) (now (table .entry)) first next) number place r) × (now (table .exit) ≡ now (table .entry)) ⌝ }
 {
     match siblings::repeat_place(doc, table, first, next) {
-        Found::At(p) => Ran::No {
+        Repeat::At(p) => Ran::No {
             number: form::NAME_TWICE,
             place: p,
         },
-        Found::Nothing => Ran::No { number, place },
+        Repeat::Nothing => Ran::No { number, place },
     }
 }
 
@@ -45,11 +45,11 @@ pub fn finish(
     ensures { λ r. ⌜ (Finished (repeatIn (now (doc .entry)) (now (table .entry)) first next) at next count r) × (now (table .exit) ≡ now (table .entry)) ⌝ }
 {
     match siblings::repeat_place(doc, table, first, next) {
-        Found::At(p) => Ran::No {
+        Repeat::At(p) => Ran::No {
             number: form::NAME_TWICE,
             place: p,
         },
-        Found::Nothing => Ran::Done {
+        Repeat::Nothing => Ran::Done {
             at,
             ix: next,
             count,

@@ -7,15 +7,14 @@ use mathlib.Core.Path.{_≡_, refl, sym, ap, subst, _∙_}
 use native.Mathlib.Omega.{arith}
 use lib.ListN.{length, getD}
 use Rattle.form.specs.Answer.{no}
-use Rattle.form.specs.Table.{Head, Forest, none, node, size, _⊕_, words, holds}
+use Rattle.form.specs.Table.{Head, Forest, none, node, size, _⊕_, word, holds}
 use Rattle.form.specs.Spans.{same, part}
 use Rattle.form.specs.Reading.{hasName}
 use Rattle.siblings.specs.Holding.{NamesIn, Holds}
-use Rattle.form.proofs.Table.{size-append, append-append, size-none}
-use Rattle.siblings.proofs.Holding.{words-at}
-use Rattle.siblings.specs.declared.Found.{Found}
+use Rattle.siblings.proofs.Holding.{Ahead, ahead-all, ahead-none, ahead-word, ahead-end, ahead-name, ahead-below, ahead-next}
+use Rattle.siblings.specs.declared.Repeat.{Repeat}
 use Rattle.siblings.specs.Names.{nameOf, endOf, siblings, among, firstFrom, firstRepeat}
-use Rattle.siblings.specs.Links.{slotOf, link, Mem, Fit}
+use Rattle.siblings.specs.Links.{slotOf, link, Mem}
 use Rattle.siblings.specs.Lists.{Family}
 use Rattle.siblings.specs.Forests.{spare, Free, repeatIn, namesOnce, refusalOf, placeOut}
 use Rattle.siblings.proofs.Walks.{mem-cases, mem-none}
@@ -45,101 +44,85 @@ has-more doc n (node g i later) h inner =
     ap (λ b. same (part doc (g .name) (g .name-length)) n || b) (has-more doc n later h inner)
     ∙ sym (or-assoc (same (part doc (g .name) (g .name-length)) n) (hasName doc n later) (same (part doc (h .name) (h .name-length)) n))
 
+-- what each of the records has
+record Known (doc t : List ℕ) (stop z : ℕ) : Type 0 where
+  pub below : z < stop
+  pub within : word t z 1 + word t z 2 ≤ length doc
+  pub on : z < endOf t z
+  pub free : link t z ≡ 0
+
 module _ (doc t : List ℕ) (first stop : ℕ) (o : Holds (length doc) t first stop) where
-  module _ (done : Forest) (h : Head) (inner later : Forest) (i : ℕ) (e : o .acc ≡ done ⊕ node h inner later) (s : i ≡ first + size done) where
-    word : (k : ℕ) → k < 9 → getD t (9 * i + k) 0 ≡ getD (words h (i + 1 + size inner) (o .parent)) k 0
-    word = words-at (length doc) t first stop o done h inner later i e s
-
-    end : endOf t i ≡ i + 1 + size inner
-    end = word 7 (omega arith)
-
-    name-is : nameOf doc t i ≡ part doc (h .name) (h .name-length)
-    unfolding nameOf
-    name-is = rw (word 1 (omega arith), word 2 (omega arith)) refl
-
-    kind-is : getD t (9 * i) 0 ≡ h .kind
-    kind-is = ap (λ p. getD t p 0) (let q : 9 * i ≡ 9 * i + 0 = omega arith in q) ∙ word 0 (omega arith)
-
-    below : i < stop
-    unfolding size
-    below = omega (arith, o .to, ap size e, size-append done (node h inner later), s)
-
-    next-split : o .acc ≡ (done ⊕ node h inner none) ⊕ later
-    unfolding _⊕_
-    next-split = e ∙ sym (append-append done (node h inner none) later)
-
-    next-at : i + 1 + size inner ≡ first + size (done ⊕ node h inner none)
-    unfolding size
-    next-at = omega (arith, s, size-append done (node h inner none))
-
+  module _ {done : Forest} {h : Head} {inner later : Forest} {i : ℕ} (a : Ahead (length doc) t first stop o done (node h inner later) i) where
     free-link : spare h ≡ 0 → link t i ≡ 0
     unfolding link slotOf
     free-link z = rw (slotOf, kind-is) (go (holds (h .kind)) z)
       where
-        go : (b : Bool) → _≡_ {A = ℕ} (elim b [ true ↦ h .start | false ↦ h .list-kind ]) 0 → getD t (elim b [ true ↦ 9 * i + 3 | false ↦ 9 * i + 6 ]) 0 ≡ 0
-        go true q = word 3 (omega arith) ∙ q
-        go false q = word 6 (omega arith) ∙ q
+        kind-is : getD t (9 * i) 0 ≡ h .kind
+        kind-is = ap (λ p. getD t p 0) (let q : 9 * i ≡ 9 * i + 0 = omega arith in q) ∙ ahead-word a 0 (omega arith)
 
-    fits : stop < 4294967296 → 9 * stop ≤ length t → h .name + h .name-length ≤ length doc → Fit doc t i
-    fits u v w = record {
-      room = omega (arith, below, v);
-      within = omega (arith, word 1 (omega arith), word 2 (omega arith), w);
-      small = omega (arith, below, u);
+        go : (b : Bool) → _≡_ {A = ℕ} (elim b [ true ↦ h .start | false ↦ h .list-kind ]) 0 → getD t (elim b [ true ↦ 9 * i + 3 | false ↦ 9 * i + 6 ]) 0 ≡ 0
+        go true q = ahead-word a 3 (omega arith) ∙ q
+        go false q = ahead-word a 6 (omega arith) ∙ q
+
+    known : h .name + h .name-length ≤ length doc → spare h ≡ 0 → Known doc t stop i
+    known w z = record {
+      below = ahead-below a;
+      within = omega (arith, ahead-word a 1 (omega arith), ahead-word a 2 (omega arith), w);
+      on = omega (arith, ahead-end a);
+      free = free-link z;
     }
 
-  siblings-are : (rest done : Forest) (fuel i : ℕ) → o .acc ≡ done ⊕ rest → i ≡ first + size done → stop ≤ fuel + i → siblings t stop fuel i ≡ numbers i rest
+    name-is : nameOf doc t i ≡ part doc (h .name) (h .name-length)
+    unfolding nameOf
+    name-is = ahead-name a doc
+
+  siblings-are : {done : Forest} {i : ℕ} (rest : Forest) (fuel : ℕ) → Ahead (length doc) t first stop o done rest i → stop ≤ fuel + i
+      → siblings t stop fuel i ≡ numbers i rest
   unfolding numbers
-  siblings-are none done fuel i e s l = siblings-none t stop fuel i (omega (arith, o .to, ap size e, size-append done none, size-none, s))
-  siblings-are (node h inner later) done fuel i e s l =
-      let b = below done h inner later i e s in
+  siblings-are {i = i} none fuel a l = siblings-none t stop fuel i (ahead-none a)
+  siblings-are {i = i} (node h inner later) fuel a l =
+      let b = ahead-below a in
       siblings-on t stop fuel i (omega (arith, b, l)) b
-      ∙ ap (λ k. i ∷ siblings t stop (fuel - 1) k) (end done h inner later i e s)
-      ∙ ap (λ r. i ∷ r)
-      (siblings-are later (done ⊕ node h inner none) (fuel - 1) (i + 1 + size inner) (next-split done h inner later i e s) (next-at done h inner later i e s) (omega (arith, b, l)))
+      ∙ ap (λ k. i ∷ siblings t stop (fuel - 1) k) (ahead-end a)
+      ∙ ap (λ r. i ∷ r) (siblings-are later (fuel - 1) (ahead-next a) (omega (arith, b, l)))
 
   all : siblings t stop stop first ≡ numbers first (o .acc)
-  unfolding _⊕_ size
-  all = siblings-are (o .acc) none stop first refl (omega arith) (omega arith)
+  all = siblings-are (o .acc) stop (ahead-all o) (omega arith)
 
-  -- what each of the records has
-  each : (P : ℕ → Type 0)
-      → ((done : Forest) (h : Head) (inner later : Forest) (i : ℕ) → o .acc ≡ done ⊕ node h inner later → i ≡ first + size done → h .name + h .name-length ≤ length doc → spare h ≡ 0 → P i)
-      → (rest done : Forest) (i : ℕ) → o .acc ≡ done ⊕ rest → i ≡ first + size done → NamesIn (length doc) rest → Free rest → (z : ℕ) → Mem z (numbers i rest) → P z
+  each : {done : Forest} {i : ℕ} (rest : Forest) → Ahead (length doc) t first stop o done rest i → NamesIn (length doc) rest → Free rest
+      → (z : ℕ) → Mem z (numbers i rest) → Known doc t stop z
   unfolding numbers NamesIn Free
-  each P f none done i e s n r z m = absurd (mem-none z m)
-  each P f (node h inner later) done i e s n r z m =
-      mem-cases (P z) z i (numbers (i + 1 + size inner) later) (λ q. subst P (sym q) (f done h inner later i e s (n .0) (r .0)))
-      (each P f later (done ⊕ node h inner none) (i + 1 + size inner) (next-split done h inner later i e s) (next-at done h inner later i e s) (n .1) (r .1) z) m
-
-  every : (P : ℕ → Type 0)
-      → ((done : Forest) (h : Head) (inner later : Forest) (i : ℕ) → o .acc ≡ done ⊕ node h inner later → i ≡ first + size done → h .name + h .name-length ≤ length doc → spare h ≡ 0 → P i)
-      → Free (o .acc) → (z : ℕ) → Mem z (siblings t stop stop first) → P z
-  unfolding _⊕_ size
-  every P f r z m = each P f (o .acc) none first refl (omega arith) (o .names) r z (subst (λ l. Mem z l) all m)
+  each none a n r z m = absurd (mem-none z m)
+  each {i = i} (node h inner later) a n r z m =
+      mem-cases (Known doc t stop z) z i (numbers (i + 1 + size inner) later) (λ q. subst (λ k. Known doc t stop k) (sym q) (known a (n .0) (r .0)))
+      (each later (ahead-next a) (n .1) (r .1) z) m
 
   -- the requires of `first_repeat`
   pub family-of : Free (o .acc) → stop < 4294967296 → 9 * stop ≤ length t → Family doc t first stop
   family-of r u v = record {
     small = u;
-    fit = every (λ z. Fit doc t z) (λ done h inner later i e s w q. fits done h inner later i e s u v w) r;
-    on = every (λ z. z < endOf t z) (λ done h inner later i e s w q. omega (arith, end done h inner later i e s)) r;
-    free = every (λ z. link t z ≡ 0) (λ done h inner later i e s w q. free-link done h inner later i e s q) r;
+    fit = λ z m. let k = every z m in record { room = omega (arith, k .below, v); within = k .within; small = omega (arith, k .below, u) };
+    on = λ z m. every z m .on;
+    free = λ z m. every z m .free;
   }
+    where
+      every : (z : ℕ) → Mem z (siblings t stop stop first) → Known doc t stop z
+      every z m = each (o .acc) (ahead-all o) (o .names) r z (subst (λ l. Mem z l) all m)
 
-  answers : (rest done : Forest) (seen : List ℕ) (i : ℕ) → o .acc ≡ done ⊕ rest → i ≡ first + size done → ((n : List ℕ) → among (nameOf doc t) n seen ≡ hasName doc n done)
-      → firstFrom (nameOf doc t) seen (numbers i rest) ≡ repeatIn doc i done rest
+  answers : {done : Forest} {i : ℕ} (rest : Forest) (seen : List ℕ) → Ahead (length doc) t first stop o done rest i
+      → ((n : List ℕ) → among (nameOf doc t) n seen ≡ hasName doc n done) → firstFrom (nameOf doc t) seen (numbers i rest) ≡ repeatIn doc i done rest
   unfolding numbers firstFrom repeatIn among
-  answers none done seen i e s a = refl
-  answers (node h inner later) done seen i e s a =
+  answers none seen a has = refl
+  answers {done = done} {i = i} (node h inner later) seen a has =
       go (hasName doc (part doc (h .name) (h .name-length)) done) refl
-      (answers later (done ⊕ node h inner none) (i ∷ seen) (i + 1 + size inner) (next-split done h inner later i e s) (next-at done h inner later i e s)
-      (λ n. ap (λ b. same b n || among (nameOf doc t) n seen) (name-is done h inner later i e s)
-      ∙ ap (λ b. same (part doc (h .name) (h .name-length)) n || b) (a n)
+      (answers later (i ∷ seen) (ahead-next a)
+      (λ n. ap (λ b. same b n || among (nameOf doc t) n seen) (name-is a)
+      ∙ ap (λ b. same (part doc (h .name) (h .name-length)) n || b) (has n)
       ∙ or-comm (same (part doc (h .name) (h .name-length)) n) (hasName doc n done)
       ∙ sym (has-more doc n done h inner)))
     where
       here : among (nameOf doc t) (nameOf doc t i) seen ≡ hasName doc (part doc (h .name) (h .name-length)) done
-      here = a (nameOf doc t i) ∙ ap (λ n. hasName doc n done) (name-is done h inner later i e s)
+      here = has (nameOf doc t i) ∙ ap (λ n. hasName doc n done) (name-is a)
 
       go : (b : Bool) → hasName doc (part doc (h .name) (h .name-length)) done ≡ b
           → firstFrom (nameOf doc t) (i ∷ seen) (numbers (i + 1 + size inner) later) ≡ repeatIn doc (i + 1 + size inner) (done ⊕ node h inner none) later
@@ -149,31 +132,28 @@ module _ (doc t : List ℕ) (first stop : ℕ) (o : Holds (length doc) t first s
 
   -- its answer
   pub repeat-of : firstRepeat doc t first stop ≡ repeatIn doc first none (o .acc)
-  unfolding firstRepeat among hasName _⊕_ size
-  repeat-of = ap (firstFrom (nameOf doc t) []) all ∙ answers (o .acc) none [] first refl (omega arith) (λ n. refl)
+  unfolding firstRepeat among hasName
+  repeat-of = ap (firstFrom (nameOf doc t) []) all ∙ answers (o .acc) [] (ahead-all o) (λ n. refl)
 
-  once : (rest done : Forest) (i : ℕ) → o .acc ≡ done ⊕ rest → i ≡ first + size done → namesOnce doc done rest ≡ refusalOf t (repeatIn doc i done rest)
+  once : {done : Forest} {i : ℕ} (rest : Forest) → Ahead (length doc) t first stop o done rest i → namesOnce doc done rest ≡ refusalOf t (repeatIn doc i done rest)
   unfolding namesOnce repeatIn
-  once none done i e s = refl
-  once (node h inner later) done i e s =
-      go (hasName doc (part doc (h .name) (h .name-length)) done) refl
-      (once later (done ⊕ node h inner none) (i + 1 + size inner) (next-split done h inner later i e s) (next-at done h inner later i e s))
+  once none a = refl
+  once {done = done} {i = i} (node h inner later) a = go (hasName doc (part doc (h .name) (h .name-length)) done) refl (once later (ahead-next a))
     where
       go : (b : Bool) → hasName doc (part doc (h .name) (h .name-length)) done ≡ b
           → namesOnce doc (done ⊕ node h inner none) later ≡ refusalOf t (repeatIn doc (i + 1 + size inner) (done ⊕ node h inner none) later)
           → namesOnce doc done (node h inner later) ≡ refusalOf t (repeatIn doc i done (node h inner later))
-      go true q r = rw (namesOnce, repeatIn, q) (ap (λ k. no 6 (k - 3)) (sym (word done h inner later i e s 1 (omega arith))))
+      go true q r = rw (namesOnce, repeatIn, q) (ap (λ k. no 6 (k - 3)) (sym (ahead-word a 1 (omega arith))))
       go false q r = rw (namesOnce, repeatIn, q) r
 
   -- whether names are told apart, by `first_repeat`
   pub once-of : namesOnce doc none (o .acc) ≡ refusalOf t (firstRepeat doc t first stop)
-  unfolding _⊕_ size
-  once-of = once (o .acc) none first refl (omega arith) ∙ ap (refusalOf t) (sym repeat-of)
+  once-of = once (o .acc) (ahead-all o) ∙ ap (refusalOf t) (sym repeat-of)
 
 -- the place that the code answers
-pub place-is : (doc t t′ : List ℕ) (first stop k w r : ℕ) → firstRepeat doc t first stop ≡ Found.At k → t′ ≡ t → w ≡ getD t′ (9 * k + 1) 0 → r ≡ w - 3
-    → placeOut (Found.At r) ≡ refusalOf t (firstRepeat doc t first stop)
+pub place-is : (doc t t′ : List ℕ) (first stop k w r : ℕ) → firstRepeat doc t first stop ≡ Repeat.At k → t′ ≡ t → w ≡ getD t′ (9 * k + 1) 0 → r ≡ w - 3
+    → placeOut (Repeat.At r) ≡ refusalOf t (firstRepeat doc t first stop)
 place-is doc t t′ first stop k w r e f g h = rw e (ap (λ x. no 6 x) (h ∙ ap (λ x. x - 3) (g ∙ ap (λ l. getD l (9 * k + 1) 0) f)))
 
-pub place-none : (doc t : List ℕ) (first stop : ℕ) → firstRepeat doc t first stop ≡ Found.Nothing → placeOut Found.Nothing ≡ refusalOf t (firstRepeat doc t first stop)
+pub place-none : (doc t : List ℕ) (first stop : ℕ) → firstRepeat doc t first stop ≡ Repeat.Nothing → placeOut Repeat.Nothing ≡ refusalOf t (firstRepeat doc t first stop)
 place-none doc t first stop e = rw e refl

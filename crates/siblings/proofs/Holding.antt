@@ -1,4 +1,4 @@
--- Laws of names: of two spans' bytes, and of the names in a table.
+-- Laws of the names in a table that holds records side by side.
 -- Assumes nothing.
 use Prim.Native.Nat.{ℕ, zero, suc, _+_, _-_, _*_, _≤_, _<_}
 use mathlib.Core.Bool.{Bool, true, false, _||_}
@@ -9,7 +9,7 @@ use native.Mathlib.Numerals.{sub-one}
 use borrow.Author.Tests.{lt-ltb, le-ltb}
 use lib.ListN.{length, getD, take, drop, List·getD-append}
 use lib.Seq.{getD-append-add, length-take-le}
-use Rattle.form.specs.Table.{Head, Forest, none, node, size, _⊕_, words, flat, wrote}
+use Rattle.form.specs.Table.{Head, Forest, none, node, size, _⊕_, word, words, flat, wrote}
 use Rattle.form.specs.Spans.{over, same, part}
 use Rattle.form.specs.Reading.{hasName}
 use Rattle.siblings.specs.Holding.{among, NamesIn, Holds}
@@ -23,7 +23,7 @@ flat-words : (p m : ℕ) (h : Head) (inner later : Forest) (d : List ℕ)
 unfolding flat
 flat-words p m h inner later d = refl
 
-pub wrote-word : (t : List ℕ) (p n : ℕ) (f : Forest) (h : Head) (inner later : Forest) → 9 * n ≤ length t → (k : ℕ) → k < 9
+wrote-word : (t : List ℕ) (p n : ℕ) (f : Forest) (h : Head) (inner later : Forest) → 9 * n ≤ length t → (k : ℕ) → k < 9
     → getD (wrote t p n (f ⊕ node h inner later)) (9 * (n + size f) + k) 0 ≡ getD (words h (n + size f + 1 + size inner) p) k 0
 unfolding wrote over
 wrote-word t p n f h inner later fits k l =
@@ -43,91 +43,85 @@ wrote-word t p n f h inner later fits k l =
     )
     refl
 
-pub words-at : (bytes : ℕ) (t : List ℕ) (n to : ℕ) (o : Holds bytes t n to) (done : Forest) (h : Head) (inner later : Forest) (i : ℕ)
-    → o .acc ≡ done ⊕ node h inner later → i ≡ n + size done → (k : ℕ) → k < 9 → getD t (9 * i + k) 0 ≡ getD (words h (i + 1 + size inner) (o .parent)) k 0
-words-at bytes t n to o done h inner later i e s k b =
-    rw (o .is, e)
-    (subst (λ j. getD (wrote (o .base) (o .parent) n (done ⊕ node h inner later)) (9 * j + k) 0 ≡ getD (words h (j + 1 + size inner) (o .parent)) k 0) (sym s)
-    (wrote-word (o .base) (o .parent) n done h inner later (omega (arith, o .fits, o .to)) k b))
+-- the records `rest` are ahead, from record i on; `done` stand before them
+pub record Ahead (bytes : ℕ) (t : List ℕ) (n to : ℕ) (o : Holds bytes t n to) (done rest : Forest) (i : ℕ) : Type 0 where
+  pub split : o .acc ≡ done ⊕ rest
+  pub at : i ≡ n + size done
 
--- a record among those side by side, where some are left
-pub record At (bytes : ℕ) (t : List ℕ) (i to : ℕ) (acc done : Forest) : Type 0 where
-  pub head : Head
-  pub inner : Forest
-  pub later : Forest
-  pub split : acc ≡ (done ⊕ node head inner none) ⊕ later
-  pub name : getD t (9 * i + 1) 0 ≡ head .name
-  pub len : getD t (9 * i + 2) 0 ≡ head .name-length
-  pub end : getD t (9 * i + 7) 0 ≡ i + 1 + size inner
-  pub within : head .name + head .name-length ≤ bytes
-  pub rest : NamesIn bytes later
+pub ahead-all : {bytes : ℕ} {t : List ℕ} {n to : ℕ} (o : Holds bytes t n to) → Ahead bytes t n to o none (o .acc) n
+unfolding _⊕_ size
+ahead-all o = record { split = refl; at = omega arith }
 
-pub at-record : (bytes : ℕ) (t : List ℕ) (n to : ℕ) (o : Holds bytes t n to) (done rest : Forest) (i : ℕ)
-    → o .acc ≡ done ⊕ rest → i ≡ n + size done → i < to → NamesIn bytes rest → At bytes t i to (o .acc) done
-unfolding size _⊕_ NamesIn
-at-record bytes t n to o done none i e s l w =
-    absurd (omega (arith, o .to, size-append done none, ap size e, size-none))
-at-record bytes t n to o done (node h inner later) i e s l w = record {
-  head = h;
-  inner = inner;
-  later = later;
-  split = e ∙ sym (append-append done (node h inner none) later);
-  name = word 1 (omega arith);
-  len = word 2 (omega arith);
-  end = word 7 (omega arith);
-  within = w .0;
-  rest = w .1;
-}
-  where
-    word : (k : ℕ) → k < 9 → getD t (9 * i + k) 0 ≡ getD (words h (i + 1 + size inner) (o .parent)) k 0
-    word = words-at bytes t n to o done h inner later i e s
+pub ahead-none : {bytes : ℕ} {t : List ℕ} {n to : ℕ} {o : Holds bytes t n to} {done : Forest} {i : ℕ} → Ahead bytes t n to o done none i → to ≤ i
+ahead-none {o = o} {done = done} a = omega (arith, o .to, ap size (a .split), size-append done none, size-none, a .at)
+
+module _ {bytes : ℕ} {t : List ℕ} {n to : ℕ} {o : Holds bytes t n to} {done : Forest} {h : Head} {inner later : Forest} {i : ℕ}
+    (a : Ahead bytes t n to o done (node h inner later) i) where
+  pub ahead-word : (k : ℕ) → k < 9 → getD t (9 * i + k) 0 ≡ getD (words h (i + 1 + size inner) (o .parent)) k 0
+  ahead-word k b =
+      rw (o .is, a .split)
+      (subst (λ j. getD (wrote (o .base) (o .parent) n (done ⊕ node h inner later)) (9 * j + k) 0 ≡ getD (words h (j + 1 + size inner) (o .parent)) k 0)
+      (sym (a .at)) (wrote-word (o .base) (o .parent) n done h inner later (omega (arith, o .fits, o .to)) k b))
+
+  pub ahead-end : word t i 7 ≡ i + 1 + size inner
+  ahead-end = ahead-word 7 (omega arith)
+
+  pub ahead-name : (doc : List ℕ) → part doc (word t i 1) (word t i 2) ≡ part doc (h .name) (h .name-length)
+  ahead-name doc = rw (ahead-word 1 (omega arith), ahead-word 2 (omega arith)) refl
+
+  pub ahead-below : i < to
+  unfolding size
+  ahead-below = omega (arith, o .to, ap size (a .split), size-append done (node h inner later), a .at)
+
+  pub ahead-next : Ahead bytes t n to o (done ⊕ node h inner none) later (i + 1 + size inner)
+  unfolding _⊕_ size
+  ahead-next = record {
+    split = a .split ∙ sym (append-append done (node h inner none) later);
+    at = omega (arith, a .at, size-append done (node h inner none));
+  }
 
 -- ---- one turn of the search
 
 module _ (doc t : List ℕ) (i to : ℕ) (name : List ℕ) where
-  pub among-none : (fuel : ℕ) → to ≤ i → among doc t fuel i to name ≡ false
+  among-none : (fuel : ℕ) → to ≤ i → among doc t fuel i to name ≡ false
   unfolding among
   among-none zero h = refl
   among-none (suc fuel) h = rw (among, le-ltb i to h) refl
 
-  pub among-hit : (fuel : ℕ) → 0 < fuel → i < to → same (part doc (getD t (9 * i + 1) 0) (getD t (9 * i + 2) 0)) name ≡ true → among doc t fuel i to name ≡ true
+  among-hit : (fuel : ℕ) → 0 < fuel → i < to → same (part doc (word t i 1) (word t i 2)) name ≡ true → among doc t fuel i to name ≡ true
   unfolding among
   among-hit zero h l e = absurd (omega arith)
   among-hit (suc fuel) h l e = rw (among, lt-ltb i to l, e) refl
 
-  pub among-miss : (fuel : ℕ) → 0 < fuel → i < to → same (part doc (getD t (9 * i + 1) 0) (getD t (9 * i + 2) 0)) name ≡ false
-      → among doc t fuel i to name ≡ among doc t (fuel - 1) (getD t (9 * i + 7) 0) to name
+  among-miss : (fuel : ℕ) → 0 < fuel → i < to → same (part doc (word t i 1) (word t i 2)) name ≡ false
+      → among doc t fuel i to name ≡ among doc t (fuel - 1) (word t i 7) to name
   unfolding among
   among-miss zero h l e = absurd (omega arith)
   among-miss (suc fuel) h l e = rw (sub-one (suc fuel), among, lt-ltb i to l, e) refl
 
 -- the search of the words is the search of the records
 module _ (doc t : List ℕ) (n to : ℕ) (o : Holds (length doc) t n to) (name : List ℕ) where
-  search-from : (rest done : Forest) (fuel i : ℕ) → o .acc ≡ done ⊕ rest → i ≡ n + size done → to < fuel + i → among doc t fuel i to name ≡ hasName doc name rest
-  unfolding hasName size _⊕_
-  search-from none done fuel i e s l = among-none doc t i to name fuel (omega (arith, o .to, ap size e, size-append done none))
-  search-from (node h inner later) done fuel i e s l =
-      go (same (part doc (h .name) (h .name-length)) name) refl
-      (search-from later (done ⊕ node h inner none) (fuel - 1) (getD t (9 * i + 7) 0) (e ∙ sym (append-append done (node h inner none) later))
-      (omega (arith, word 7 (omega arith), size-append done (node h inner none))) (omega (arith, word 7 (omega arith), below)))
+  search-from : {done : Forest} {i : ℕ} (rest : Forest) (fuel : ℕ) → Ahead (length doc) t n to o done rest i → to < fuel + i
+      → among doc t fuel i to name ≡ hasName doc name rest
+  unfolding hasName
+  search-from {i = i} none fuel a l = among-none doc t i to name fuel (ahead-none a)
+  search-from {i = i} (node h inner later) fuel a l =
+      go (same (part doc (h .name) (h .name-length)) name) refl (search-from later (fuel - 1) (ahead-next a) (omega (arith, l, ahead-below a)))
     where
-      word : (k : ℕ) → k < 9 → getD t (9 * i + k) 0 ≡ getD (words h (i + 1 + size inner) (o .parent)) k 0
-      word = words-at (length doc) t n to o done h inner later i e s
+      here : same (part doc (word t i 1) (word t i 2)) name ≡ same (part doc (h .name) (h .name-length)) name
+      here = ap (λ s. same s name) (ahead-name a doc)
 
-      below : i < to
-      below = omega (arith, o .to, ap size e, size-append done (node h inner later))
-
-      here : same (part doc (getD t (9 * i + 1) 0) (getD t (9 * i + 2) 0)) name ≡ same (part doc (h .name) (h .name-length)) name
-      here = rw (word 1 (omega arith), word 2 (omega arith)) refl
-
-      go : (b : Bool) → same (part doc (h .name) (h .name-length)) name ≡ b → among doc t (fuel - 1) (getD t (9 * i + 7) 0) to name ≡ hasName doc name later
+      go : (b : Bool) → same (part doc (h .name) (h .name-length)) name ≡ b → among doc t (fuel - 1) (i + 1 + size inner) to name ≡ hasName doc name later
           → among doc t fuel i to name ≡ (same (part doc (h .name) (h .name-length)) name || hasName doc name later)
-      go true f rest = among-hit doc t i to name fuel (omega (arith, l, below)) below (here ∙ f) ∙ sym (rw f refl)
-      go false f rest = among-miss doc t i to name fuel (omega (arith, l, below)) below (here ∙ f) ∙ rest ∙ sym (rw f refl)
+      go true f rest = among-hit doc t i to name fuel (omega (arith, l, ahead-below a)) (ahead-below a) (here ∙ f) ∙ sym (rw f refl)
+      go false f rest =
+          among-miss doc t i to name fuel (omega (arith, l, ahead-below a)) (ahead-below a) (here ∙ f)
+          ∙ ap (λ k. among doc t (fuel - 1) k to name) (ahead-end a)
+          ∙ rest
+          ∙ sym (rw f refl)
 
   pub among-is : (fuel : ℕ) → to < fuel + n → among doc t fuel n to name ≡ hasName doc name (o .acc)
-  unfolding _⊕_ size
-  among-is fuel l = search-from (o .acc) none fuel n refl (omega arith) l
+  among-is fuel l = search-from (o .acc) fuel (ahead-all o) l
 
 pub names-none : (n : ℕ) → NamesIn n none
 unfolding NamesIn
@@ -144,45 +138,58 @@ pub record Seek (doc t : List ℕ) (from to : ℕ) (name : List ℕ) (i : ℕ) :
   pub o : Holds (length doc) t from to
   pub done : Forest
   pub rest : Forest
-  pub split : o .acc ≡ done ⊕ rest
-  pub i-is : i ≡ from + size done
+  pub ahead : Ahead (length doc) t from to o done rest i
   pub names : NamesIn (length doc) rest
   pub fuel : ℕ
   pub enough : to < fuel + i
   pub is : among doc t (suc to) from to name ≡ among doc t fuel i to name
 
 pub seek-start : (doc t : List ℕ) (from to : ℕ) (name : List ℕ) → Holds (length doc) t from to → Seek doc t from to name from
-unfolding _⊕_ size
 seek-start doc t from to name o =
-    record { o = o; done = none; rest = o .acc; split = refl; i-is = omega arith; names = o .names; fuel = suc to; enough = omega arith; is = refl }
+    record { o = o; done = none; rest = o .acc; ahead = ahead-all o; names = o .names; fuel = suc to; enough = omega arith; is = refl }
+
+-- a record is ahead where some are left
+record First (bytes : ℕ) (t : List ℕ) (n to : ℕ) (o : Holds bytes t n to) (done : Forest) (i : ℕ) : Type 0 where
+  pub head : Head
+  pub inner : Forest
+  pub later : Forest
+  pub ahead : Ahead bytes t n to o done (node head inner later) i
+  pub within : head .name + head .name-length ≤ bytes
+  pub names : NamesIn bytes later
+
+first-of : {bytes : ℕ} {t : List ℕ} {n to : ℕ} {o : Holds bytes t n to} {done : Forest} {i : ℕ} (rest : Forest) → Ahead bytes t n to o done rest i → i < to
+    → NamesIn bytes rest → First bytes t n to o done i
+unfolding NamesIn
+first-of none a l w = absurd (omega (arith, ahead-none a))
+first-of (node h inner later) a l w = record { head = h; inner = inner; later = later; ahead = a; within = w .0; names = w .1 }
 
 module _ {doc t : List ℕ} {from to : ℕ} {name : List ℕ} {i : ℕ} (s : Seek doc t from to name i) where
   pub seek-end : to ≤ i → among doc t (suc to) from to name ≡ false
   seek-end h = s .is ∙ among-none doc t i to name (s .fuel) h
 
   module _ (l : i < to) where
-    at : At (length doc) t i to (s .o .acc) (s .done)
-    at = at-record (length doc) t from to (s .o) (s .done) (s .rest) i (s .split) (s .i-is) l (s .names)
+    first : First (length doc) t from to (s .o) (s .done) i
+    first = first-of (s .rest) (s .ahead) l (s .names)
 
-    pub seek-within : getD t (9 * i + 1) 0 + getD t (9 * i + 2) 0 ≤ length doc
-    seek-within = omega (arith, at .name, at .len, at .within)
+    pub seek-within : word t i 1 + word t i 2 ≤ length doc
+    seek-within = omega (arith, ahead-word (first .ahead) 1 (omega arith), ahead-word (first .ahead) 2 (omega arith), first .within)
 
-    pub seek-on : i < getD t (9 * i + 7) 0
-    seek-on = omega (arith, at .end)
+    pub seek-on : i < word t i 7
+    seek-on = omega (arith, ahead-end (first .ahead))
 
-    pub seek-hit : same (part doc (getD t (9 * i + 1) 0) (getD t (9 * i + 2) 0)) name ≡ true → among doc t (suc to) from to name ≡ true
+    pub seek-hit : same (part doc (word t i 1) (word t i 2)) name ≡ true → among doc t (suc to) from to name ≡ true
     seek-hit e = s .is ∙ among-hit doc t i to name (s .fuel) (omega (arith, s .enough)) l e
 
-    pub seek-next : same (part doc (getD t (9 * i + 1) 0) (getD t (9 * i + 2) 0)) name ≡ false → Seek doc t from to name (getD t (9 * i + 7) 0)
-    unfolding size
-    seek-next e = record {
+    pub seek-next : same (part doc (word t i 1) (word t i 2)) name ≡ false → Seek doc t from to name (word t i 7)
+    seek-next e = rw (ahead-end (first .ahead)) (record {
       o = s .o;
-      done = s .done ⊕ node (at .head) (at .inner) none;
-      rest = at .later;
-      split = at .split;
-      i-is = omega (arith, at .end, s .i-is, size-append (s .done) (node (at .head) (at .inner) none));
-      names = at .rest;
+      done = s .done ⊕ node (first .head) (first .inner) none;
+      rest = first .later;
+      ahead = ahead-next (first .ahead);
+      names = first .names;
       fuel = s .fuel - 1;
-      enough = omega (arith, at .end, s .enough);
-      is = s .is ∙ among-miss doc t i to name (s .fuel) (omega (arith, s .enough)) l e;
-    }
+      enough = omega (arith, s .enough);
+      is = s .is
+          ∙ among-miss doc t i to name (s .fuel) (omega (arith, s .enough)) l e
+          ∙ ap (λ k. among doc t (s .fuel - 1) k to name) (ahead-end (first .ahead));
+    })

@@ -7,13 +7,12 @@ use mathlib.Core.Path.{_≡_, refl, sym, ap, subst, _∙_}
 use native.Mathlib.Omega.{arith}
 use lib.ListN.{length, take, drop, take-append-drop, length-append}
 use lib.Seq.{take-at, take-take, length-take-le}
-use Rattle.form.specs.Answer.{Out, got, _>>=_, _>>_}
+use Rattle.form.specs.Answer.{Out, got, _>>=_}
 use Rattle.form.specs.Table.{Head, Forest, none, node, size, _⊕_, flat, wrote, holds}
 use Rattle.form.specs.Spans.{over}
-use Rattle.siblings.specs.Holding.{Holds}
 use lib.Dec.{ltb}
 use Rattle.form.specs.Reading.{One, Inside, Span, one, leafAt, leafOne, heldOne, payloadBy}
-use Rattle.form.proofs.Table.{flat-length, wrote-length}
+use Rattle.form.proofs.Table.{flat-length}
 use Rattle.form.proofs.Answer.{bind-got, guard-got}
 use Rattle.siblings.specs.Forests.{spare, Free}
 
@@ -58,22 +57,6 @@ over-at t t′ base i j ws w p h e =
 pub kept-wrote : (t t′ base : List ℕ) (p n n′ : ℕ) (f : Forest) → t ≡ wrote base p n f → n′ ≡ n + size f → 9 * n′ ≤ length base → take (9 * n′) t′ ≡ take (9 * n′) t → t′ ≡ wrote t′ p n f
 unfolding wrote
 kept-wrote t t′ base p n n′ f w i h e = over-at t t′ base (9 * n) (9 * n′) (flat p n f) w (omega (arith, i, flat-length p n f)) h e
-
--- records that stand in the words kept
-pub holds-kept : (bytes : ℕ) (t t′ : List ℕ) (n n′ : ℕ) → Holds bytes t n n′ → length t′ ≡ length t → take (9 * n′) t′ ≡ take (9 * n′) t → Holds bytes t′ n n′
-unfolding wrote
-holds-kept bytes t t′ n n′ o len e = record {
-  acc = o .acc;
-  base = t′;
-  parent = o .parent;
-  is = there;
-  to = o .to;
-  fits = omega (arith, o .fits, len, ap length (o .is), wrote-length (o .base) (o .parent) n (o .acc) (omega (arith, o .fits, o .to)));
-  names = o .names;
-}
-  where
-    there : t′ ≡ wrote t′ (o .parent) n (o .acc)
-    there = over-at t t′ (o .base) (9 * n) (9 * n′) (flat (o .parent) n (o .acc)) (o .is) (omega (arith, o .to, flat-length (o .parent) n (o .acc))) (o .fits) e
 
 -- ---- the words for links
 

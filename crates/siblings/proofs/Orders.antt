@@ -14,7 +14,7 @@ use Rattle.form.specs.Numbers.{value}
 use Rattle.siblings.specs.Links.{num, rank}
 use Rattle.siblings.specs.Lists.{Told, Picked}
 use Rattle.siblings.proofs.Numbers.{num-is}
-use Rattle.siblings.specs.declared.Order.{Order}
+use Rattle.siblings.specs.declared.names.Order.{Order}
 use Rattle.siblings.specs.Orders.{Ordered}
 
 shift : (k x y : ℕ) (r : Order) → Ordered x y r → Ordered (k + x) (k + y) r

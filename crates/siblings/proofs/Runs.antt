@@ -1,20 +1,19 @@
 -- Laws of two linked lists that are merged onto a third.
 -- Assumes nothing.
 use Prim.Native.Nat.{ℕ, _+_, _-_, _≤_, _<_}
-use mathlib.Core.Bool.{Bool, true, false, not}
+use mathlib.Core.Bool.{Bool, not}
 use mathlib.Core.List.{List, _∷_}
-use mathlib.Core.Path.{_≡_, refl, sym, ap, subst, _∙_}
+use mathlib.Core.Path.{_≡_, sym, ap, subst, _∙_}
 use mathlib.Core.Logic.{_⊎_, inl, inr, ⊎-elim}
 use native.Mathlib.Omega.{arith}
-use borrow.Author.Tests.{ltb-true, ltb-false}
-use lib.Dec.{ltb}
 use Rattle.siblings.specs.Links.{rank, link, linked, Mem, walk, Le, Sorted, Agree, Fit}
 use Rattle.siblings.specs.Lists.{Two, Lists}
+use Rattle.siblings.proofs.Cases.{less-by}
 use Rattle.siblings.proofs.Walks.{walk-none, walk-cons, walk-more, walk-first, mem-none}
-use Rattle.siblings.proofs.Tables.{agree-self, agree-trans, agree-rank, agree-fit, linked-agree, linked-same, linked-walk}
+use Rattle.siblings.proofs.Tables.{Listed, agree-self, agree-trans, agree-rank, agree-fit, linked-agree, linked-same, linked-walk}
 use Rattle.siblings.proofs.Merges.{Three, First, three-swap, three-left, three-apart, sorted-none}
 
-pub rank-inj : (doc t : List ℕ) (x y : ℕ) → x < 4294967296 → y < 4294967296 → rank doc t x ≡ rank doc t y → x ≡ y
+rank-inj : (doc t : List ℕ) (x y : ℕ) → x < 4294967296 → y < 4294967296 → rank doc t x ≡ rank doc t y → x ≡ y
 unfolding rank
 rank-inj doc t x y a b e = omega arith
 
@@ -36,7 +35,7 @@ merging-swap {p = p} {q = q} m = record {
 
 -- the records of the two lists
 abbrev pub Either : List ℕ → ℕ → ℕ → ℕ → ℕ → ℕ → Type 0
-Either t a na b nb z = Mem z (walk (link t) a na) ⊎ Mem z (walk (link t) b nb)
+Either t a na b nb z = Listed t a na z ⊎ Listed t b nb z
 
 pub merging-start : (doc t : List ℕ) (a na b nb : ℕ) (up : Bool) → Two doc t a na b nb up → Merging doc t (na + nb) up (λ z. Either t a na b nb z) t a na b nb 0
 merging-start doc t a na b nb up h = record {
@@ -58,88 +57,79 @@ merging-start doc t a na b nb up h = record {
       });
 }
 
-module _ (doc t₀ : List ℕ) (n : ℕ) (up : Bool) (U : ℕ → Type 0) (fit : (z : ℕ) → U z → Fit doc t₀ z) where
-  pub merging-fit : (t : List ℕ) (x p y q acc : ℕ) → Merging doc t₀ n up U t x p y q acc → 0 < p → Fit doc t x
-  merging-fit t x p y q acc m h = agree-fit t₀ t U (m .agree) doc x (fit x (m .three .ina x (walk-first (link t) x p h)))
-
-  first : (t : List ℕ) (x y q : ℕ) → Agree t₀ t U → (0 < q → Le up (rank doc t x) (rank doc t y)) → First up (rank doc t₀) x (walk (link t) y q)
+module _ {doc t₀ : List ℕ} {n : ℕ} {up : Bool} {U : ℕ → Type 0} (fit : (z : ℕ) → U z → Fit doc t₀ z)
+    {t : List ℕ} {x p y q acc : ℕ} (m : Merging doc t₀ n up U t x p y q acc) where
+  first : (0 < q → Le up (rank doc t x) (rank doc t y)) → First up (rank doc t₀) x (walk (link t) y q)
   unfolding First
-  first t x y q g h = go (ltb 0 q) refl
-    where
-      go : (b : Bool) → ltb 0 q ≡ b → First up (rank doc t₀) x (walk (link t) y q)
-      go true e =
-          rw (walk-cons (link t) y q (ltb-true 0 q e))
-          (subst (λ k. Le up k (rank doc t₀ y)) (agree-rank t₀ t U g doc x)
-          (subst (λ k. Le up (rank doc t x) k) (agree-rank t₀ t U g doc y) (h (ltb-true 0 q e))))
-      go false e = rw (walk-none (link t) y q (ltb-false 0 q e)) tt
+  first h =
+      less-by 0 q
+      (λ l. rw (walk-cons (link t) y q l)
+      (subst (λ k. Le up k (rank doc t₀ y)) (agree-rank (m .agree) doc x) (subst (λ k. Le up (rank doc t x) k) (agree-rank (m .agree) doc y) (h l))))
+      (λ l. rw (walk-none (link t) y q l) tt)
 
-  pub merging-left : (t : List ℕ) (x p y q acc : ℕ) → Merging doc t₀ n up U t x p y q acc → 0 < p → (0 < q → Le up (rank doc t x) (rank doc t y))
-      → Merging doc t₀ n up U (linked t x acc) (link t x) (p - 1) y q x
-  merging-left t x p y q acc m h f = record {
-    le = omega (arith, m .le);
-    small = fit x ux .small;
-    agree = agree-trans t₀ t t′ U (λ z. z ≡ x) U (m .agree) (linked-agree t x acc) (λ z u. u) (λ z e. subst U (sym e) ux);
-    three = rw (ea, eb, ec) (three-left up (rank doc t₀) U inj x us vs ws split (first t x y q (m .agree) f));
-  }
-    where
-      t′ : List ℕ
-      t′ = linked t x acc
-
-      us : List ℕ
-      us = walk (link t) (link t x) (p - 1)
-
-      vs : List ℕ
-      vs = walk (link t) y q
-
-      ws : List ℕ
-      ws = walk (link t) acc (n - (p + q))
-
-      ux : U x
-      ux = m .three .ina x (walk-first (link t) x p h)
-
-      inj : (v w : ℕ) → U v → U w → rank doc t₀ v ≡ rank doc t₀ w → v ≡ w
-      inj v w a b e = rank-inj doc t₀ v w (fit v a .small) (fit w b .small) e
-
-      split : Three up (rank doc t₀) U (x ∷ us) vs ws
-      split = subst (λ l. Three up (rank doc t₀) U l vs ws) (walk-cons (link t) x p h) (m .three)
-
-      apart : (Mem x us → ⊥) × (Mem x vs → ⊥) × (Mem x ws → ⊥)
-      apart = three-apart up (rank doc t₀) U inj x us vs ws split
-
-      ea : walk (link t′) (link t x) (p - 1) ≡ us
-      ea = linked-walk t x acc (link t x) (p - 1) (apart .0)
-
-      eb : walk (link t′) y q ≡ vs
-      eb = linked-walk t x acc y q (apart .1)
-
-      here : link t′ x ≡ acc
-      here = linked-same t x acc (merging-fit t x p y q acc m h .room)
-
-      ec : walk (link t′) x (n - (p - 1 + q)) ≡ x ∷ ws
-      ec =
-          ap (walk (link t′) x) (let e : n - (p - 1 + q) ≡ n - (p + q) + 1 = omega (arith, m .le) in e)
-          ∙ walk-more (link t′) x (n - (p + q))
-          ∙ ap (λ k. x ∷ walk (link t′) k (n - (p + q))) here
-          ∙ ap (λ l. x ∷ l) (linked-walk t x acc acc (n - (p + q)) (apart .2))
-
-  -- the same, with the table and the next record as the code has them
-  pub merging-one : (t : List ℕ) (x p y q acc : ℕ) (t′ : List ℕ) (next : ℕ) → Merging doc t₀ n up U t x p y q acc → 0 < p
-      → (0 < q → Le up (rank doc t x) (rank doc t y)) → next ≡ link t x → t′ ≡ linked t x acc → Merging doc t₀ n up U t′ next (p - 1) y q x
-  merging-one t x p y q acc t′ next m h f e g = rw (e, g) (merging-left t x p y q acc m h f)
-
-  pub merging-two : (t : List ℕ) (x p y q acc : ℕ) (t′ : List ℕ) (next : ℕ) → Merging doc t₀ n up U t x p y q acc → 0 < q
-      → (0 < p → Le up (rank doc t y) (rank doc t x)) → next ≡ link t y → t′ ≡ linked t y acc → Merging doc t₀ n up U t′ x p next (q - 1) y
-  merging-two t x p y q acc t′ next m h f e g = merging-swap (merging-one t y q x p acc t′ next (merging-swap m) h f e g)
-
-  pub merging-end : (t : List ℕ) (x p y q acc : ℕ) → Merging doc t₀ n up U t x p y q acc → p + q ≤ 0 → Lists doc t₀ t U acc n (not up)
-  merging-end t x p y q acc m h = record {
+  pub merging-end : p + q ≤ 0 → Lists doc t₀ t U acc n (not up)
+  merging-end h = record {
     sorted = subst (λ k. Sorted (not up) (rank doc t₀) (walk (link t) acc k)) e (m .three .sc);
     all = λ z u. ⊎-elim (λ l. absurd (mem-none z (rw (walk-none (link t) x p (omega arith)) at l)))
         (λ r. ⊎-elim (λ l. absurd (mem-none z (rw (walk-none (link t) y q (omega arith)) at l)))
-        (λ c. subst (λ k. Mem z (walk (link t) acc k)) e c) r) (m .three .all z u);
-    only = λ z c. m .three .inc z (subst (λ k. Mem z (walk (link t) acc k)) (sym e) c);
+        (λ c. subst (λ k. Listed t acc k z) e c) r) (m .three .all z u);
+    only = λ z c. m .three .inc z (subst (λ k. Listed t acc k z) (sym e) c);
     agree = m .agree;
   }
     where
       e : n - (p + q) ≡ n
       e = omega arith
+
+  module _ (h : 0 < p) where
+    ux : U x
+    ux = m .three .ina x (walk-first (link t) x p h)
+
+    pub merging-fit : Fit doc t x
+    merging-fit = agree-fit (m .agree) doc x (fit x ux)
+
+    left : (0 < q → Le up (rank doc t x) (rank doc t y)) → Merging doc t₀ n up U (linked t x acc) (link t x) (p - 1) y q x
+    left f = record {
+      le = omega (arith, m .le);
+      small = fit x ux .small;
+      agree = agree-trans (m .agree) (linked-agree t x acc) (λ z u. u) (λ z e. subst U (sym e) ux);
+      three = rw (ea, eb, ec) (three-left up (rank doc t₀) U inj x us vs ws split (first f));
+    }
+      where
+        t′ : List ℕ
+        t′ = linked t x acc
+
+        us : List ℕ
+        us = walk (link t) (link t x) (p - 1)
+
+        vs : List ℕ
+        vs = walk (link t) y q
+
+        ws : List ℕ
+        ws = walk (link t) acc (n - (p + q))
+
+        inj : (v w : ℕ) → U v → U w → rank doc t₀ v ≡ rank doc t₀ w → v ≡ w
+        inj v w a b e = rank-inj doc t₀ v w (fit v a .small) (fit w b .small) e
+
+        split : Three up (rank doc t₀) U (x ∷ us) vs ws
+        split = subst (λ l. Three up (rank doc t₀) U l vs ws) (walk-cons (link t) x p h) (m .three)
+
+        apart : (Mem x us → ⊥) × (Mem x vs → ⊥) × (Mem x ws → ⊥)
+        apart = three-apart up (rank doc t₀) U inj x us vs ws split
+
+        ea : walk (link t′) (link t x) (p - 1) ≡ us
+        ea = linked-walk t x acc (link t x) (p - 1) (apart .0)
+
+        eb : walk (link t′) y q ≡ vs
+        eb = linked-walk t x acc y q (apart .1)
+
+        ec : walk (link t′) x (n - (p - 1 + q)) ≡ x ∷ ws
+        ec =
+            ap (walk (link t′) x) (let e : n - (p - 1 + q) ≡ n - (p + q) + 1 = omega (arith, m .le) in e)
+            ∙ walk-more (link t′) x (n - (p + q))
+            ∙ ap (λ k. x ∷ walk (link t′) k (n - (p + q))) (linked-same t x acc (merging-fit .room))
+            ∙ ap (λ l. x ∷ l) (linked-walk t x acc acc (n - (p + q)) (apart .2))
+
+    -- the same, with the table and the next record as the code has them
+    pub merging-one : {t′ : List ℕ} {next : ℕ} → (0 < q → Le up (rank doc t x) (rank doc t y)) → next ≡ link t x → t′ ≡ linked t x acc
+        → Merging doc t₀ n up U t′ next (p - 1) y q x
+    merging-one f e g = rw (e, g) (left f)

@@ -10,7 +10,7 @@ use Rattle.siblings.specs.Names.{endOf}
 use Rattle.siblings.specs.Links.{rank, link, Mem, walk, past, Sorted, Agree}
 use Rattle.siblings.specs.Lists.{Two, Lists, Row, Sorts}
 use Rattle.siblings.proofs.Walks.{walk-ext, past-ext, past-add, walk-add, walk-left, walk-right, walk-low, walk-high, mem-none}
-use Rattle.siblings.proofs.Tables.{agree-self, agree-trans, agree-rank, agree-fit, agree-end, agree-link}
+use Rattle.siblings.proofs.Tables.{Listed, agree-self, agree-trans, agree-rank, agree-fit, agree-end, agree-link}
 use Rattle.siblings.proofs.Merges.{sorted-ext, sorted-cons, sorted-none}
 use Rattle.siblings.proofs.Runs.{Either}
 
@@ -34,7 +34,7 @@ pub not-not : (b : Bool) → not (not b) ≡ b
 not-not true = refl
 not-not false = refl
 
-module _ (doc t : List ℕ) (at n half : ℕ) (u : Bool) (row : Row doc t at n) (h0 : 0 < half) (h1 : half < n) where
+module _ {doc t : List ℕ} {at n : ℕ} (row : Row doc t at n) (half : ℕ) (h : (0 < half) × (half < n)) where
   mid : ℕ
   mid = past (endOf t) at half
 
@@ -62,15 +62,15 @@ module _ (doc t : List ℕ) (at n half : ℕ) (u : Bool) (row : Row doc t at n) 
 
   pub row-left : Row doc t at half
   row-left = record {
-    some = h0;
+    some = h .0;
     few = omega (arith, row .few);
     fit = λ z m. row .fit z (whole z (inl m));
     on = λ z m. row .on z (whole z (inl m));
   }
 
-  module _ (t₁ : List ℕ) (hl ml : ℕ) (l : Sorts doc t t₁ at half u hl ml) where
+  module _ {u : Bool} {t₁ : List ℕ} {hl ml : ℕ} (l : Sorts doc t t₁ at half u hl ml) where
     end-same : (z : ℕ) → endOf t₁ z ≡ endOf t z
-    end-same z = agree-end t t₁ (λ w. Mem w (walk (endOf t) at half)) (l .lists .agree) z
+    end-same z = agree-end (l .lists .agree) z
 
     walk-same : walk (endOf t₁) ml (n - half) ≡ walk (endOf t) mid (n - half)
     unfolding mid
@@ -87,25 +87,23 @@ module _ (doc t : List ℕ) (at n half : ℕ) (u : Bool) (row : Row doc t at n) 
     row-right = record {
       some = omega arith;
       few = omega (arith, row .few);
-      fit = λ z m. agree-fit t t₁ (λ w. Mem w (walk (endOf t) at half)) (l .lists .agree) doc z (row .fit z (whole z (inr (to z m))));
+      fit = λ z m. agree-fit (l .lists .agree) doc z (row .fit z (whole z (inr (to z m))));
       on = λ z m. omega (arith, end-same z, row .on z (whole z (inr (to z m))));
     }
 
-    module _ (t₂ : List ℕ) (hr nr : ℕ) (r : Sorts doc t₁ t₂ ml (n - half) u hr nr) where
+    module _ {t₂ : List ℕ} {hr nr : ℕ} (r : Sorts doc t₁ t₂ ml (n - half) u hr nr) where
       both : Agree t t₂ (λ z. Mem z (walk (endOf t) at n))
-      both =
-          agree-trans t t₁ t₂ (λ z. Mem z (walk (endOf t) at half)) (λ z. Mem z (walk (endOf t₁) ml (n - half))) (λ z. Mem z (walk (endOf t) at n))
-          (l .lists .agree) (r .lists .agree) (λ z m. whole z (inl m)) (λ z m. whole z (inr (to z m)))
+      both = agree-trans (l .lists .agree) (r .lists .agree) (λ z m. whole z (inl m)) (λ z m. whole z (inr (to z m)))
 
       keep : walk (link t₁) hl half ≡ walk (link t₂) hl half
       keep =
           walk-ext (link t₁) (link t₂) half hl
-          (λ z m. sym (agree-link t₁ t₂ (λ w. Mem w (walk (endOf t₁) ml (n - half))) (r .lists .agree) z (λ k. apart z (l .lists .only z m) (to z k))))
+          (λ z m. sym (agree-link (r .lists .agree) z (λ k. apart z (l .lists .only z m) (to z k))))
 
-      left-in : (z : ℕ) → Mem z (walk (link t₂) hl half) → Mem z (walk (endOf t) at half)
+      left-in : (z : ℕ) → Listed t₂ hl half z → Mem z (walk (endOf t) at half)
       left-in z m = l .lists .only z (subst (λ w. Mem z w) (sym keep) m)
 
-      right-in : (z : ℕ) → Mem z (walk (link t₂) hr (n - half)) → Mem z (walk (endOf t) mid (n - half))
+      right-in : (z : ℕ) → Listed t₂ hr (n - half) z → Mem z (walk (endOf t) mid (n - half))
       right-in z m = to z (r .lists .only z m)
 
       in-all : (z : ℕ) → Either t₂ hl half hr (n - half) z → Mem z (walk (endOf t) at n)
@@ -115,11 +113,11 @@ module _ (doc t : List ℕ) (at n half : ℕ) (u : Bool) (row : Row doc t at n) 
       sorts-two = record {
         few = omega (arith, row .few);
         first = subst (λ w. Sorted u (rank doc t₂) w) keep
-            (sorted-ext u (rank doc t) (rank doc t₂) (walk (link t₁) hl half) (λ z. sym (agree-rank t t₂ (λ w. Mem w (walk (endOf t) at n)) both doc z)) (l .lists .sorted));
+            (sorted-ext u (rank doc t) (rank doc t₂) (walk (link t₁) hl half) (λ z. sym (agree-rank both doc z)) (l .lists .sorted));
         second = sorted-ext u (rank doc t₁) (rank doc t₂) (walk (link t₂) hr (n - half))
-            (λ z. sym (agree-rank t₁ t₂ (λ w. Mem w (walk (endOf t₁) ml (n - half))) (r .lists .agree) doc z)) (r .lists .sorted);
+            (λ z. sym (agree-rank (r .lists .agree) doc z)) (r .lists .sorted);
         apart = λ z a b. apart z (left-in z a) (right-in z b);
-        fit = λ z m. agree-fit t t₂ (λ w. Mem w (walk (endOf t) at n)) both doc z (row .fit z (in-all z m));
+        fit = λ z m. agree-fit both doc z (row .fit z (in-all z m));
       }
 
       next-same : nr ≡ past (endOf t) at n
@@ -131,17 +129,17 @@ module _ (doc t : List ℕ) (at n half : ℕ) (u : Bool) (row : Row doc t at n) 
           ∙ sym (past-add (endOf t) half (n - half) at)
           ∙ ap (past (endOf t) at) total
 
-      pub sorts-join : (t₃ : List ℕ) (head : ℕ) → Lists doc t₂ t₃ (λ z. Either t₂ hl half hr (n - half) z) head (half + (n - half)) (not u) → Sorts doc t t₃ at n (not u) head nr
-      sorts-join t₃ head m = record {
+      pub sorts-join : {t₃ : List ℕ} {head : ℕ} → Lists doc t₂ t₃ (λ z. Either t₂ hl half hr (n - half) z) head (half + (n - half)) (not u)
+          → Sorts doc t t₃ at n (not u) head nr
+      sorts-join {t₃ = t₃} {head = head} m = record {
         next-is = next-same;
         lists = record {
           sorted = subst (λ k. Sorted (not u) (rank doc t) (walk (link t₃) head k)) total
               (sorted-ext (not u) (rank doc t₂) (rank doc t) (walk (link t₃) head (half + (n - half)))
-              (λ z. agree-rank t t₂ (λ w. Mem w (walk (endOf t) at n)) both doc z) (m .sorted));
-          all = λ z k. subst (λ i. Mem z (walk (link t₃) head i)) total
+              (λ z. agree-rank both doc z) (m .sorted));
+          all = λ z k. subst (λ i. Listed t₃ head i z) total
               (m .all z (⊎-elim (λ a. inl (subst (λ w. Mem z w) keep (l .lists .all z a))) (λ b. inr (r .lists .all z (from z b))) (parts z k)));
-          only = λ z k. in-all z (m .only z (subst (λ i. Mem z (walk (link t₃) head i)) (sym total) k));
-          agree = agree-trans t t₂ t₃ (λ z. Mem z (walk (endOf t) at n)) (λ z. Either t₂ hl half hr (n - half) z) (λ z. Mem z (walk (endOf t) at n)) both (m .agree)
-              (λ z k. k) in-all;
+          only = λ z k. in-all z (m .only z (subst (λ i. Listed t₃ head i z) (sym total) k));
+          agree = agree-trans both (m .agree) (λ z k. k) in-all;
         };
       }

@@ -1,18 +1,23 @@
 -- Laws of tables whose records are linked.
 -- Assumes nothing.
-use Prim.Native.Nat.{ℕ, _+_, _-_, _*_, _≤_}
+use Prim.Native.Nat.{ℕ, _+_, _*_, _≤_}
 use mathlib.Core.Bool.{Bool, true, false, _||_}
 use mathlib.Core.List.{List}
 use mathlib.Core.Path.{_≡_, refl, sym, ap, subst, _∙_}
 use mathlib.Core.Logic.{_⊎_, ⊎-elim}
 use native.Mathlib.Omega.{arith}
-use borrow.Author.Tests.{eq-eqb, ne-eqb, eqb-true, eqb-false}
-use lib.ListN.{length, getD, set, length-set}
+use borrow.Author.Tests.{eq-eqb, ne-eqb}
+use lib.ListN.{length, getD, length-set}
 use lib.Seq.{getD-set-same, getD-set-other, ext-getD}
 use lib.Dec.{eqb}
 use Rattle.siblings.specs.Names.{nameOf, endOf}
 use Rattle.siblings.specs.Links.{rank, slotOf, link, linked, Mem, walk, Agree, Fit}
+use Rattle.siblings.proofs.Cases.{same-by}
 use Rattle.siblings.proofs.Walks.{walk-ext}
+
+-- a record is on the list of n that begins with `head`
+abbrev pub Listed : List ℕ → ℕ → ℕ → ℕ → Type 0
+Listed t head n z = Mem z (walk (link t) head n)
 
 pub slot-range : (t : List ℕ) (i : ℕ) → (9 * i + 3 ≤ slotOf t i) × (slotOf t i ≤ 9 * i + 6)
 unfolding slotOf
@@ -40,7 +45,7 @@ kind-is t i r e = ap (λ k. getD t k 0) (let q : 9 * i ≡ 9 * i + 0 = omega ari
 
 -- ---- tables that agree but for links
 
-module _ (t₀ t : List ℕ) (U : ℕ → Type 0) (g : Agree t₀ t U) where
+module _ {t₀ t : List ℕ} {U : ℕ → Type 0} (g : Agree t₀ t U) where
   low : (j k : ℕ) → k ≤ 2 → getD t (9 * j + k) 0 ≡ getD t₀ (9 * j + k) 0
   low j k h = g .at (9 * j + k) (λ i u e. omega (arith, slot-range t₀ i))
 
@@ -50,7 +55,7 @@ module _ (t₀ t : List ℕ) (U : ℕ → Type 0) (g : Agree t₀ t U) where
   kind : (j : ℕ) → getD t (9 * j) 0 ≡ getD t₀ (9 * j) 0
   kind j = g .at (9 * j) (λ i u e. omega (arith, slot-range t₀ i))
 
-  pub agree-slot : (j : ℕ) → slotOf t j ≡ slotOf t₀ j
+  agree-slot : (j : ℕ) → slotOf t j ≡ slotOf t₀ j
   unfolding slotOf
   agree-slot j = ap {B = ℕ} (λ k. elim (eqb k 9 || eqb k 10) [ true ↦ 9 * j + 3 | false ↦ 9 * j + 6 ]) (kind j)
 
@@ -78,18 +83,22 @@ module _ (t₀ t : List ℕ) (U : ℕ → Type 0) (g : Agree t₀ t U) where
 pub agree-self : (t : List ℕ) (U : ℕ → Type 0) → Agree t t U
 agree-self t U = record { len = refl; at = λ p h. refl }
 
-pub agree-trans : (t₀ t t′ : List ℕ) (U X Y : ℕ → Type 0) → Agree t₀ t U → Agree t t′ X → ((z : ℕ) → U z → Y z) → ((z : ℕ) → X z → Y z) → Agree t₀ t′ Y
-agree-trans t₀ t t′ U X Y g h u v = record {
+pub agree-trans : {t₀ t t′ : List ℕ} {U X Y : ℕ → Type 0} → Agree t₀ t U → Agree t t′ X → ((z : ℕ) → U z → Y z) → ((z : ℕ) → X z → Y z) → Agree t₀ t′ Y
+agree-trans g h u v = record {
   len = h .len ∙ g .len;
-  at = λ p n. h .at p (λ i w e. n i (v i w) (e ∙ agree-slot t₀ t U g i)) ∙ g .at p (λ i w e. n i (u i w) e);
+  at = λ p n. h .at p (λ i w e. n i (v i w) (e ∙ agree-slot g i)) ∙ g .at p (λ i w e. n i (u i w) e);
 }
 
-pub agree-more : (t₀ t : List ℕ) (U X : ℕ → Type 0) → Agree t₀ t U → ((z : ℕ) → U z → X z) → Agree t₀ t X
-agree-more t₀ t U X g u = record { len = g .len; at = λ p n. g .at p (λ i w e. n i (u i w) e) }
+pub agree-more : {t₀ t : List ℕ} {U X : ℕ → Type 0} → Agree t₀ t U → ((z : ℕ) → U z → X z) → Agree t₀ t X
+agree-more g u = record { len = g .len; at = λ p n. g .at p (λ i w e. n i (u i w) e) }
 
--- no record left: the tables are the same
-pub agree-none : (t₀ t : List ℕ) (U : ℕ → Type 0) → Agree t₀ t U → ((z : ℕ) → U z → ⊥) → t ≡ t₀
-agree-none t₀ t U g n = ext-getD 0 t t₀ (g .len) (λ p l. g .at p (λ i u e. n i u))
+-- links that are as they were: the tables are the same
+pub agree-same : {t₀ t : List ℕ} {U : ℕ → Type 0} → Agree t₀ t U → ((z : ℕ) → U z → link t z ≡ link t₀ z) → t ≡ t₀
+unfolding link
+agree-same {t₀ = t₀} {t = t} g h =
+    ext-getD 0 t t₀ (g .len)
+    (λ p l. same-by (getD t p 0) (getD t₀ p 0) (λ e. e)
+    (λ n. g .at p (λ i u e. n (ap (λ q. getD t q 0) (e ∙ sym (agree-slot g i)) ∙ h i u ∙ ap (λ q. getD t₀ q 0) (sym e)))))
 
 -- ---- one link
 
@@ -102,7 +111,7 @@ module _ (t : List ℕ) (i v : ℕ) where
   }
 
   pub linked-other : (j : ℕ) → (j ≡ i → ⊥) → link (linked t i v) j ≡ link t j
-  linked-other j n = agree-link t (linked t i v) (λ z. z ≡ i) linked-agree j n
+  linked-other j n = agree-link linked-agree j n
 
   slot-set : 9 * i + 9 ≤ length t → getD (linked t i v) (slotOf t i) 0 ≡ v
   unfolding linked
@@ -110,26 +119,21 @@ module _ (t : List ℕ) (i v : ℕ) where
 
   pub linked-same : 9 * i + 9 ≤ length t → link (linked t i v) i ≡ v
   unfolding link
-  linked-same h = rw (agree-slot t (linked t i v) (λ z. z ≡ i) linked-agree i) (slot-set h)
+  linked-same h = rw (agree-slot linked-agree i) (slot-set h)
 
   -- a walk that does not meet the record
-  pub linked-walk : (a n : ℕ) → (Mem i (walk (link t) a n) → ⊥) → walk (link (linked t i v)) a n ≡ walk (link t) a n
+  pub linked-walk : (a n : ℕ) → (Listed t a n i → ⊥) → walk (link (linked t i v)) a n ≡ walk (link t) a n
   linked-walk a n h =
-      sym (walk-ext (link t) (link (linked t i v)) n a (λ z m. sym (linked-other z (λ e. h (subst (λ w. Mem w (walk (link t) a n)) e m)))))
+      sym (walk-ext (link t) (link (linked t i v)) n a (λ z m. sym (linked-other z (λ e. h (subst (λ w. Listed t a n w) e m)))))
 
 -- a link set back to what it was
-pub agree-back : (t₀ t : List ℕ) (U X : ℕ → Type 0) (i v : ℕ) → Agree t₀ t U → ((z : ℕ) → U z → (z ≡ i) ⊎ X z) → link t₀ i ≡ v → 9 * i + 9 ≤ length t₀ → Agree t₀ (linked t i v) X
+pub agree-back : {t₀ t : List ℕ} {U X : ℕ → Type 0} (i v : ℕ) → Agree t₀ t U → ((z : ℕ) → U z → (z ≡ i) ⊎ X z) → link t₀ i ≡ v → 9 * i + 9 ≤ length t₀
+    → Agree t₀ (linked t i v) X
 unfolding linked link
-agree-back t₀ t U X i v g s e h = record {
+agree-back {t₀ = t₀} {t = t} i v g s e h = record {
   len = length-set t (slotOf t i) v ∙ g .len;
-  at = λ p n. go p n (eqb p (slotOf t i)) refl;
+  at = λ p n. same-by p (slotOf t i)
+      (λ q. rw q (getD-set-same t (slotOf t i) v 0 (omega (arith, slot-range t i, g .len)) ∙ sym e ∙ ap (λ k. getD t₀ k 0) (sym (agree-slot g i))))
+      (λ f. getD-set-other t (slotOf t i) p v 0 f
+      ∙ g .at p (λ j u q. ⊎-elim (λ r. f (q ∙ sym (agree-slot g j) ∙ ap (slotOf t) r)) (λ w. n j w q) (s j u)));
 }
-  where
-    go : (p : ℕ) → ((j : ℕ) → X j → p ≡ slotOf t₀ j → ⊥) → (b : Bool) → eqb p (slotOf t i) ≡ b → getD (set t (slotOf t i) v) p 0 ≡ getD t₀ p 0
-    go p n true f =
-        let q : p ≡ slotOf t i = eqb-true p (slotOf t i) f in
-        rw q
-        (getD-set-same t (slotOf t i) v 0 (omega (arith, slot-range t i, g .len)) ∙ sym e ∙ ap (λ k. getD t₀ k 0) (sym (agree-slot t₀ t U g i)))
-    go p n false f =
-        getD-set-other t (slotOf t i) p v 0 (eqb-false p (slotOf t i) f)
-        ∙ g .at p (λ j u q. ⊎-elim (λ r. eqb-false p (slotOf t i) f (q ∙ sym (agree-slot t₀ t U g j) ∙ ap (slotOf t) r)) (λ w. n j w q) (s j u))

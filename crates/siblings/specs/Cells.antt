@@ -7,9 +7,9 @@ use mathlib.Core.Path.{_≡_}
 use mathlib.Core.Logic.{_⊎_}
 use lib.ListN.{length, getD}
 use lib.Dec.{ltb}
-use Rattle.siblings.specs.declared.Spot.{Spot}
-use Rattle.siblings.specs.declared.Placed.{Placed}
-use Rattle.siblings.specs.declared.Sought.{Sought}
+use Rattle.siblings.specs.declared.cells.Spot.{Spot}
+use Rattle.siblings.specs.declared.cells.Placed.{Placed}
+use Rattle.siblings.specs.declared.cells.Sought.{Sought}
 use Rattle.siblings.specs.Names.{nameOf, siblings}
 use Rattle.siblings.specs.Links.{num, fourOf, link, linked, Mem, Agree, Fit}
 use Rattle.siblings.specs.Lists.{Again, Least, Family}

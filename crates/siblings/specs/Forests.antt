@@ -8,7 +8,7 @@ use mathlib.Core.Path.{_≡_}
 use Rattle.form.specs.Table.{Head, Forest, none, node, size, _⊕_, word, holds}
 use Rattle.form.specs.Spans.{part}
 use Rattle.form.specs.Reading.{hasName}
-use Rattle.siblings.specs.declared.Found.{Found}
+use Rattle.siblings.specs.declared.Repeat.{Repeat}
 
 -- the word of a record that is to hold a link
 abbrev pub spare : Head → ℕ
@@ -23,10 +23,10 @@ Free none = Unit {0}
 Free (node h inner later) = (spare h ≡ 0) × Free later
 
 -- the first of the records side by side, the first of which has the number n, whose name one before it has, or one of those seen
-unfoldable pub repeatIn : List ℕ → ℕ → Forest → Forest → Found
-repeatIn doc n seen none = Found.Nothing
+unfoldable pub repeatIn : List ℕ → ℕ → Forest → Forest → Repeat
+repeatIn doc n seen none = Repeat.Nothing
 repeatIn doc n seen (node h inner later) = elim (hasName doc (part doc (h .name) (h .name-length)) seen) [
-  | true ↦ Found.At n
+  | true ↦ Repeat.At n
   | false ↦ repeatIn doc (n + 1 + size inner) (seen ⊕ node h inner none) later
 ]
 
@@ -37,11 +37,11 @@ namesOnce doc seen (node h inner later) =
     guard (not (hasName doc (part doc (h .name) (h .name-length)) seen)) 6 (h .name - 3) >> namesOnce doc (seen ⊕ node h inner none) later
 
 -- the refusal that an answer of `first_repeat` is
-abbrev pub refusalOf : List ℕ → Found → Out (Unit {0})
-refusalOf t (Found.At k) = no 6 (word t k 1 - 3)
-refusalOf t Found.Nothing = got tt
+abbrev pub refusalOf : List ℕ → Repeat → Out (Unit {0})
+refusalOf t (Repeat.At k) = no 6 (word t k 1 - 3)
+refusalOf t Repeat.Nothing = got tt
 
 -- the refusal that a place is
-abbrev pub placeOut : Found → Out (Unit {0})
-placeOut (Found.At p) = no 6 p
-placeOut Found.Nothing = got tt
+abbrev pub placeOut : Repeat → Out (Unit {0})
+placeOut (Repeat.At p) = no 6 p
+placeOut Repeat.Nothing = got tt

@@ -6,7 +6,7 @@ use mathlib.Core.Bool.{Bool, true, false}
 use mathlib.Core.Path.{_≡_}
 use mathlib.Core.Logic.{_⊎_}
 use lib.Dec.{ltb}
-use Rattle.siblings.specs.declared.Found.{Found}
+use Rattle.siblings.specs.declared.Repeat.{Repeat}
 use Rattle.siblings.specs.Names.{nameOf, endOf, siblings}
 use Rattle.siblings.specs.Links.{num, rank, link, Mem, walk, past, Le, Sorted, Agree, Fit}
 
@@ -106,8 +106,8 @@ Rises doc t first stop true = Least doc t (λ z. Mem z (siblings t stop stop fir
 Rises doc t first stop false = Unit {0}
 
 -- the answer that a number is: stop is none
-abbrev pub foundOf : ℕ → ℕ → Found
+abbrev pub foundOf : ℕ → ℕ → Repeat
 foundOf low stop = elim (ltb low stop) [
-  | true ↦ Found.At low
-  | false ↦ Found.Nothing
+  | true ↦ Repeat.At low
+  | false ↦ Repeat.Nothing
 ]

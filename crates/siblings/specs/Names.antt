@@ -6,7 +6,7 @@ use mathlib.Core.Bool.{Bool, true, false, _||_}
 use lib.Dec.{ltb}
 use Rattle.form.specs.Table.{word}
 use Rattle.form.specs.Spans.{same, part}
-use Rattle.siblings.specs.declared.Found.{Found}
+use Rattle.siblings.specs.declared.Repeat.{Repeat}
 
 -- a record's name
 unfoldable pub nameOf : List ℕ → List ℕ → ℕ → List ℕ
@@ -31,13 +31,13 @@ module _ (name : ℕ → List ℕ) where
   among n (j ∷ js) = same (name j) n || among n js
 
   -- the first of the records whose name one before it has, or one of those seen
-  unfoldable pub firstFrom : List ℕ → List ℕ → Found
-  firstFrom seen [] = Found.Nothing
+  unfoldable pub firstFrom : List ℕ → List ℕ → Repeat
+  firstFrom seen [] = Repeat.Nothing
   firstFrom seen (i ∷ is) = elim (among (name i) seen) [
-    | true ↦ Found.At i
+    | true ↦ Repeat.At i
     | false ↦ firstFrom (i ∷ seen) is
   ]
 
 -- the answer to `first_repeat`
-unfoldable pub firstRepeat : List ℕ → List ℕ → ℕ → ℕ → Found
+unfoldable pub firstRepeat : List ℕ → List ℕ → ℕ → ℕ → Repeat
 firstRepeat doc t first stop = firstFrom (nameOf doc t) [] (siblings t stop stop first)

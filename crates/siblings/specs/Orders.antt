@@ -2,7 +2,7 @@
 -- Assumes nothing.
 use Prim.Native.Nat.{ℕ, _<_}
 use mathlib.Core.Path.{_≡_}
-use Rattle.siblings.specs.declared.Order.{Order}
+use Rattle.siblings.specs.declared.names.Order.{Order}
 
 -- the order of two numbers
 abbrev pub Ordered : ℕ → ℕ → Order → Type 0

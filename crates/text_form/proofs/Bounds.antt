@@ -14,7 +14,7 @@ use Rattle.form.specs.Spans.{part}
 use Rattle.form.specs.Decoding.{Sequence, is, stuck, utf8Of}
 use Rattle.form.proofs.Utf8.{utf8}
 use Rattle.form.proofs.Walks as walks
-use Rattle.text_form.specs.Lexing.{begins, among, Escape, stands, bad, cut, hexes, unicode, escapeOf, Quoted, onEscape, quotedBy, quoted, Front, written, escaped, frontOf, scalarsBy}
+use Rattle.text_form.specs.Lexing.{begins, among, Escape, stands, bad, cut, hexes, unicode, escapeOf, Quoted, onEscape, quotedBy, quoted, Front, characterOf, escaped, frontOf, scalarsBy}
 use Rattle.text_form.proofs.Moves.{Holds, either-way}
 
 -- ---- a turn takes a byte at least
@@ -46,7 +46,7 @@ escaped-takes (stands c n) p h = h
 escaped-takes (bad n q) p h = tt
 escaped-takes cut p h = tt
 
-written-takes : (l : List ℕ) (r : Sequence) → utf8Of l ≡ r → Holds Some (written r)
+written-takes : (l : List ℕ) (r : Sequence) → utf8Of l ≡ r → Holds Some (characterOf r)
 written-takes l (is c n) e = walks.fits utf8 l c n e .0
 written-takes l stuck e = tt
 

@@ -13,7 +13,7 @@ use lib.Ieee.Bits.{toBits-lt}
 use Rattle.form.specs.Answer.{Out, pick}
 use Rattle.form.specs.Numbers.{valuesIn}
 use Rattle.text_form.specs.Values.{nearestTo, scaled, toSingle}
-use Rattle.text_form.specs.Numbers.{Number, byte, short, int, long, float, double, isDigit, isPoint, isLetter, empty, has, before, behind, digits, worth, power, exponent, exponentIn, lastOf, butLast, stem, negative, unsigned, suffixed, wholeOf, wholeNumber, valueOf, decimalOf, decimal, realNumber, decimalNumber, number}
+use Rattle.text_form.specs.Numbers.{Number, byte, short, int, long, float, double, isDigit, isPoint, isLetter, empty, has, before, behind, digits, worth, power, exponent, exponentIn, lastOf, butLast, stem, negative, unsigned, suffixed, wholeOf, wholeNumber, decimalBy, decimalOf, decimal, realNumber, decimalNumber, number}
 use Rattle.text_form.specs.Lexing.{among}
 use Rattle.text_form.proofs.Gives.{ofNumber, Gives, Any, gives-got, gives-no, gives-bind, gives-guard, gives-pick}
 
@@ -62,7 +62,7 @@ module _ (P : Float → Type 0) (rounded : (s : Bool) (a c : ℕ) → P (round b
   scaled-carries s w p place =
       gives-pick (eqb w 0) (λ _. gives-got (zeros s)) (λ _. gives-pick (leb w (2 ^ 53) && leb (natAbs p) 22) (λ _. gives-got (nearest-carries s w p)) (λ _. gives-no refl))
 
-  value-carries : (s : Bool) (whole fraction : List ℕ) (exponent : Out ℤ) (place : ℕ) → Gives ofNumber Any exponent → Gives ofNumber P (valueOf s whole fraction exponent place)
+  value-carries : (s : Bool) (whole fraction : List ℕ) (exponent : Out ℤ) (place : ℕ) → Gives ofNumber Any exponent → Gives ofNumber P (decimalBy s whole fraction exponent place)
   unfolding among
   value-carries s whole fraction exponent place h =
       let l = whole ++ fraction in

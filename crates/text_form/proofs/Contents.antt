@@ -17,7 +17,7 @@ use Rattle.form.specs.Decoding.{Sequence, is, stuck, utf8Of}
 use Rattle.form.proofs.Coding.{SoundBy}
 use Rattle.form.proofs.Utf8 as utf8
 use Rattle.form.proofs.Picks.{pick-eq}
-use Rattle.text_form.specs.Lexing.{among, Escape, stands, bad, cut, hexOf, hexes, unicode, escapeOf, Front, written, escaped, frontOf, scalarsBy, contentOf}
+use Rattle.text_form.specs.Lexing.{among, Escape, stands, bad, cut, hexOf, hexes, unicode, escapeOf, Front, characterOf, escaped, frontOf, scalarsBy, contentOf}
 use Rattle.text_form.proofs.Gives.{ofEscape, ofContent, among-all, Gives, gives-got, gives-no, gives-bind, gives-pick, gives-also, gives-it, gives-number}
 
 -- ---- escapes
@@ -82,7 +82,7 @@ escape-stands (b ∷ l) p =
 abbrev Scalar : Front → Type 0
 Scalar x = IsScalar (x .scalar)
 
-written-scalar : (l : List ℕ) (r : Sequence) → SoundBy utf8Bytes l r → Gives ofContent Scalar (written r)
+written-scalar : (l : List ℕ) (r : Sequence) → SoundBy utf8Bytes l r → Gives ofContent Scalar (characterOf r)
 unfolding among
 written-scalar l (is c n) h = gives-got (h .0)
 written-scalar l stuck h = gives-no refl

@@ -78,12 +78,12 @@ pub record Scan : Type 0 where
   pub width : ℕ
 
 -- Whether a quote is open.
-abbrev pub within : Scan → Bool
-within s = s .single || s .double
+abbrev pub withinQuotes : Scan → Bool
+withinQuotes s = s .single || s .double
 
 -- Whether a byte ends the token: a stop character at level 0 outside quotes.
 abbrev pub stops : Stops → Scan → ℕ → Bool
-stops set s b = not (within s) && (eqb (s .curly) 0 && (eqb (s .square) 0 && among (stopSet set) b))
+stops set s b = not (withinQuotes s) && (eqb (s .curly) 0 && (eqb (s .square) 0 && among (stopSet set) b))
 
 -- The quotes and the backslash set to some; the rest stays.
 abbrev pub marked : Scan → Bool → Bool → Bool → Scan
@@ -107,7 +107,7 @@ quoteDouble s = marked s (s .single) (pick (s .escape || s .single) (s .double) 
 
 -- A level after a byte: one up at the opening brace, one down at the closing one, never below 0; unchanged within quotes.
 abbrev pub level : Scan → ℕ → ℕ → ℕ → ℕ → ℕ
-level s opening closing b n = pick (within s) n (pick (eqb b opening) (n + 1) (pick (eqb b closing) (n - 1) n))
+level s opening closing b n = pick (withinQuotes s) n (pick (eqb b opening) (n + 1) (pick (eqb b closing) (n - 1) n))
 
 -- Any other byte at i: the braces count, the backslash's effect ends, and one that is not blank extends the token and adds its width.
 abbrev pub grown : Scan → ℕ → ℕ → Scan
@@ -292,9 +292,9 @@ pub record Front : Type 0 where
   pub bytes : ℕ
 
 -- A character as it is written in UTF-8.
-abbrev pub written : Sequence → Out Front
-written (is c n) = got (record { scalar = c; bytes = n })
-written stuck = no badText 0
+abbrev pub characterOf : Sequence → Out Front
+characterOf (is c n) = got (record { scalar = c; bytes = n })
+characterOf stuck = no badText 0
 
 -- An escape, with its backslash at p; one that the content's end cuts is none, 17.
 abbrev pub escaped : Escape → ℕ → Out Front
@@ -305,7 +305,7 @@ escaped cut p = no unknownEscape p
 -- What a content that is not empty begins with, at p: within quotes a backslash begins an escape.
 unfoldable pub frontOf : Bool → List ℕ → ℕ → Out Front
 frontOf inQuotes [] p = no badText 0
-frontOf inQuotes (b ∷ l) p = pick (inQuotes && eqb b 92) (escaped (escapeOf l p) p) (written (utf8Of (b ∷ l)))
+frontOf inQuotes (b ∷ l) p = pick (inQuotes && eqb b 92) (escaped (escapeOf l p) p) (characterOf (utf8Of (b ∷ l)))
 
 -- The scalar values of a content from p on. The first number bounds the turns.
 unfoldable pub scalarsBy : ℕ → Bool → List ℕ → ℕ → Out (List ℕ)

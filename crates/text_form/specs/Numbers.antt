@@ -143,8 +143,8 @@ exponentIn l place = pick (has (isLetter 101) l) (exponent (behind (isLetter 101
 
 -- A decimal by its sign, the digits before the point, those behind it and its exponent (rule 13): a digit on one side at least, else 18;
 -- w is all these digits as one number, and p the exponent less the digits behind the point.
-abbrev pub valueOf : Bool → List ℕ → List ℕ → Out ℤ → ℕ → Out Float
-valueOf s whole fraction exponent place = do
+abbrev pub decimalBy : Bool → List ℕ → List ℕ → Out ℤ → ℕ → Out Float
+decimalBy s whole fraction exponent place = do
   guard (not (empty (whole ++ fraction)) && digits (whole ++ fraction)) badNumber place
   e ← exponent
   scaled s (worth 0 (whole ++ fraction)) (e -ℤ pos (length fraction)) place
@@ -153,7 +153,7 @@ valueOf s whole fraction exponent place = do
 unfoldable pub decimalOf : Bool → List ℕ → ℕ → Out Float
 decimalOf s l place = do
   guard (has isPoint l) badNumber place
-  valueOf s (before isPoint l) (before (isLetter 101) (behind isPoint l)) (exponentIn (behind isPoint l) place) place
+  decimalBy s (before isPoint l) (before (isLetter 101) (behind isPoint l)) (exponentIn (behind isPoint l) place) place
 
 -- The same with its sign (rule 13).
 abbrev pub decimal : List ℕ → ℕ → Out Float

@@ -154,8 +154,8 @@ known s (n ∷ ns) = same n s || known s ns
 
 module _ (t : List ℕ) (room : ℕ) where
   -- 13 at a token, where the bytes used pass the room.
-  abbrev pub fits : ℕ → ℕ → Out (Unit {0})
-  fits used p = guard (leb used room) outputFull p
+  abbrev pub inRoom : ℕ → ℕ → Out (Unit {0})
+  inRoom used p = guard (leb used room) outputFull p
 
   -- The token that is due at p; at the text's end refusal n at q.
   unfoldable pub due : Stops → ℕ → ℕ → ℕ → Out Next
@@ -201,7 +201,7 @@ module _ (t : List ℕ) (room : ℕ) where
   scalarValue want x n u = do
     tag ← scalarTag (x .token) (x .index)
     alike want tag (x .index)
-    fits (u + length (payload tag)) (x .index)
+    inRoom (u + length (payload tag)) (x .index)
     got (record { tag = tag; next = n; used = u + length (payload tag) })
 
   -- ---- arrays (rule 14)
@@ -220,7 +220,7 @@ module _ (t : List ℕ) (room : ℕ) where
           got (record { values = []; next = x .next; used = u })
         | false ↦ do
           z ← elementInt w (x .td .token) (x .td .index)
-          fits (u + w) (x .td .index)
+          inRoom (u + w) (x .td .index)
           r ← intsBy f w brace otherwise (x .next) (u + w)
           got (record { values = z ∷ r .values; next = r .next; used = r .used })
       ]
@@ -229,7 +229,7 @@ module _ (t : List ℕ) (room : ℕ) where
   -- An array from p on: its count, 4 bytes, is counted at `[`.
   unfoldable pub arrayAt : ℕ → ℕ → ℕ → ℕ → Out Value
   arrayAt w brace p u = do
-    fits (u + 4) brace
+    inRoom (u + 4) brace
     r ← intsBy (suc (length t)) w brace otherwise p (u + 4)
     got (record { tag = arrayTag w (r .values); next = r .next; used = r .used })
 
@@ -263,7 +263,7 @@ module _ (t : List ℕ) (room : ℕ) where
   unfoldable pub listAt : ℕ → Reads → ℕ → Lexed → ℕ → Out Value
   listAt left val brace x u = do
     guard (ltb 0 left) tooDeep brace
-    fits (u + 5) brace
+    inRoom (u + 5) brace
     y ← orElse x unmatchedBrace brace
     listFrom val y (u + 5)
 
@@ -336,7 +336,7 @@ module _ (t : List ℕ) (room : ℕ) where
   -- The end of a compound at a `}`: its end byte is counted there.
   unfoldable pub closeAt : ℕ → ℕ → ℕ → Out Block
   closeAt p n u = do
-    fits (u + 1) p
+    inRoom (u + 1) p
     got (record { entries = tree.ended; next = n; used = u + 1 })
 
   -- What stands behind an entry: the end, or the entries that k reads from the comma on.
@@ -374,7 +374,7 @@ module _ (t : List ℕ) (room : ℕ) where
   unfoldable pub compoundAt : ℕ → Reads → ℕ → ℕ → ℕ → Out Block
   compoundAt left val brace p u = do
     guard (ltb 0 left) tooDeep brace
-    fits u brace
+    inRoom u brace
     entriesBy (suc (length t)) val brace [] otherwise p u
 
   -- ---- values

@@ -7,7 +7,7 @@ use Rattle.call_rescue.proofs.rescue.Tie as tie
 
 -- The place that both ways to an answer go by.
 abbrev rescue-of : tie.After-slice-known6 → tie.After-rescue
-rescue-of c = c .before .before .before .before .before .before
+rescue-of c = let at-arg = c .before .before .before in at-arg .before .before .before
 
 returns : tie.Need-returns
 returns c =

@@ -9,14 +9,14 @@ use Rattle.form.specs.Decoding.{utf8Of}
 use Rattle.form.specs.Spans.{part}
 use Rattle.chars.specs.declared.Front.{Front}
 use Rattle.chars.specs.Answers.{sequenceOf}
-use Rattle.text_form.specs.Lexing.{written}
+use Rattle.text_form.specs.Lexing.{characterOf}
 use Rattle.contents.proofs.Fronts.{written-told}
 use Rattle.contents.proofs.written_at.Statement.{statement}
 use Rattle.contents.proofs.written_at.Tie as tie
 
 -- what was read, by the case that a `match` took of it
 read : (c : tie.After-utf8-at) (v : Front) → c .utf8-at .result ≡ v
-    → let a = c .before .before .before .args in written (sequenceOf v) ≡ written (utf8Of (part (a .text .now) (a .at) (a .end - a .at)))
+    → let a = c .before .before .before .args in characterOf (sequenceOf v) ≡ characterOf (utf8Of (part (a .text .now) (a .at) (a .end - a .at)))
 read c v d = let a = c .before .before .before .args in written-told (a .text .now) (a .at) (a .end) (c .utf8-at .result) v (c .utf8-at .ensures) d
 
 pub written-at-spec : {M : Type 1} → statement M

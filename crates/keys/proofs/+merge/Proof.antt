@@ -33,111 +33,71 @@ abbrev On : ℕ → (lts.Claims → In 2 merge-kinds.ps → Out 2 merge-kinds.ps
 On t F = F (claims t) (merge-at t) merge.Post
 
 module _ (t : ℕ) where
-  returns : On t lts.Need-returns
-  returns c = merging-start (c .before .before .before .pre .1 .0) _ (c .if1 .taken)
+  -- the beginning, the test that a key is left, and what is merged behind it
+  abbrev start-of : On t lts.Else1 → On t lts.Start
+  start-of c = c .before .before .before
 
-  add-place : On t lts.Need-add-place
-  add-place c = let s = c .before .before .before in omega (arith, s .pre .1 .0 .second .high, s .pre .1 .1, c .if1 .left)
+  abbrev test-of : On t lts.After-merge → On t lts.Else1
+  test-of c = c .before .before .before
 
-  mul-place : On t lts.Need-mul-place
-  mul-place c = search needs
+  abbrev merged-of : On t lts.After-index-of-arg → On t lts.After-merge
+  merged-of c = c .before .before .before
 
-  slice-read-place : On t lts.Need-slice-read-place
-  slice-read-place c = let s = c .before .before .before .before in omega (arith, s .pre .1 .0 .second .high, s .pre .1 .1, c .before .if1 .left)
+  abbrev found-of : On t lts.After-lift → On t lts.After-index-of
+  found-of c = c .before .before
 
-  add-merge : On t lts.Need-add-merge
-  add-merge c = omega arith
+  abbrev behind-of : On t lts.After-lift → On t lts.After-merge
+  behind-of c = merged-of (found-of c .before .before)
 
-  merge-requires : On t lts.Need-merge-requires
-  merge-requires c κs =
-      let s = c .before .before .before .before .before in
-      let e = c .before .before in
-      (omega (arith, s .pre .0, s .pre .1 .1, e .if1 .left), (s .pre .1 .0, omega (arith, s .pre .1 .1, e .if1 .left)))
+  left : (c : On t lts.Else1) → start-of c .args .n < 512
+  left c = omega (arith, start-of c .pre .1 .1, c .if1 .left)
 
-  -- a key is left
-  left : (c : On t lts.After-merge-arg) → c .before .before .before .before .before .args .n < 512
-  left c = omega (arith, c .before .before .before .before .before .pre .1 .1, c .before .before .if1 .left)
-
-  wide-requires : On t lts.Need-wide-requires
-  wide-requires c κs = search needs
-
-  index-of-requires : On t lts.Need-index-of-requires
-  index-of-requires c κs =
-      let m = c .before .before .before .before in
-      let l = left (m .before) in
-      let s = m .before .before .before .before .before .before in
-      let r = s .pre .1 .0 in (
-        merging-run r (m .merge .ensures) l (m .merge .kept .1 .0),
-        rw (c .wide .ensures) (r .second .ends (s .args .mid + s .args .n) (omega arith) (omega (arith, l))),
-        rw (c .wide .ensures) (merging-new r (m .merge .ensures) l),
-      )
-
-  add-lift : On t lts.Need-add-lift
-  add-lift c = omega arith
-
-  lift-requires : On t lts.Need-lift-requires
-  lift-requires c κs =
-      let i = c .before in
-      let m = i .before .before .before .before .before in
-      let l = left (m .before) in
-      let s = m .before .before .before .before .before .before in
-      (i .index-of .ensures .sides .high, omega (arith, l, m .merge .ensures .to, m .merge .kept .1 .0, s .pre .1 .0 .second .high))
-
-  -- the place to put it down
-  fits : (c : On t lts.After-slice-known4) →
-      let i = c .before .before .before .before in
-      let s = i .before .before .before .before .before .before .before .before .before .before .before in
-      i .index-of .result + s .args .n < length (s .args .keys .now)
+  -- there is room to put the key down behind what was lifted
+  fits : (c : On t lts.After-lift) → let a = start-of (test-of (behind-of c)) .args in found-of c .index-of .result + a .n < length (a .keys .now)
   fits c =
-      let i = c .before .before .before .before in
-      let m = i .before .before .before .before .before in
-      let l = left (m .before) in
-      let s = m .before .before .before .before .before .before in
-      omega (arith, l, i .index-of .ensures .sides .high, m .merge .ensures .to, s .pre .1 .0 .second .high)
+      let m = behind-of c in
+      let e = test-of m in
+      omega (arith, left e, found-of c .index-of .ensures .sides .high, m .merge .ensures .to, start-of e .pre .1 .0 .second .high)
 
-  long : (c : On t lts.After-slice-known4) →
-      let i = c .before .before .before .before in
-      let s = i .before .before .before .before .before .before .before .before .before .before .before in
-      length (c .before .before .lift .last .0) ≡ length (s .args .keys .now)
-  long c =
-      let m = c .before .before .before .before .before .before .before .before .before in
-      c .before .before .lift .kept .0 ∙ m .merge .kept .1 .0
-
-  add-keys : On t lts.Need-add-keys
-  add-keys c = omega (arith, fits c)
-
-  mul-keys : On t lts.Need-mul-keys
-  mul-keys c = search needs
-
-  slice-write-keys : On t lts.Need-slice-write-keys
-  slice-write-keys c = omega (arith, fits c, long c)
-
-  same-length : On t lts.Need-same-length
-  same-length c = simp length-set (long c)
-
-  returns-2 : On t lts.Need-returns-2
-  returns-2 c =
-      let i = c .before .before .before .before in
-      let m = i .before .before .before .before .before in
-      let s = m .before .before .before .before .before .before in
-      merging-next (s .pre .1 .0) (m .merge .ensures) (left (m .before)) (rw (i .before .wide .ensures) at (i .index-of .ensures)) (c .before .before .lift .ensures) (long c)
+  long : (c : On t lts.After-lift) → length (c .lift .last .0) ≡ length (start-of (test-of (behind-of c)) .args .keys .now)
+  long c = c .lift .kept .0 ∙ behind-of c .merge .kept .1 .0
 
 pub +merge-spec : {M : Type 1} → statement M
 +merge-spec =
     close μ-merge λ t.
     lts.spec (claims t) (merge-at t) merge.Post
-    (returns t)
-    (add-place t)
-    (mul-place t)
-    (slice-read-place t)
-    (add-merge t)
-    (merge-requires t)
-    (wide-requires t)
-    (index-of-requires t)
-    (add-lift t)
-    (lift-requires t)
-    (add-keys t)
-    (mul-keys t)
-    (slice-write-keys t)
-    (same-length t)
-    (returns-2 t)
+    (λ c. merging-start (c .before .before .before .pre .1 .0) _ (c .if1 .taken))
+    (λ c. omega (arith, start-of t c .pre .1 .0 .second .high, left t c))
+    (λ c. search needs)
+    (λ c. let e = c .before in omega (arith, start-of t e .pre .1 .0 .second .high, left t e))
+    (λ c. omega arith)
+    (λ c κs.
+    let e = c .before .before in
+    let s = start-of t e in
+    (omega (arith, s .pre .0, left t e), (s .pre .1 .0, omega (arith, left t e))))
+    (λ c κs. search needs)
+    (λ c κs.
+    let m = merged-of t (c .before) in
+    let e = test-of t m in
+    let s = start-of t e in
+    let r = s .pre .1 .0 in (
+      merging-run r (m .merge .ensures) (left t e) (m .merge .kept .1 .0),
+      rw (c .wide .ensures) (r .second .ends (s .args .mid + s .args .n) (omega arith) (omega (arith, left t e))),
+      rw (c .wide .ensures) (merging-new r (m .merge .ensures) (left t e)),
+    ))
+    (λ c. omega arith)
+    (λ c κs.
+    let i = c .before in
+    let m = merged-of t (i .before .before) in
+    let e = test-of t m in
+    (i .index-of .ensures .sides .high, omega (arith, left t e, m .merge .ensures .to, m .merge .kept .1 .0, start-of t e .pre .1 .0 .second .high)))
+    (λ c. omega (arith, fits t (c .before .before)))
+    (λ c. search needs)
+    (λ c. omega (arith, fits t (c .before .before), long t (c .before .before)))
+    (λ c. simp length-set (long t (c .before .before)))
+    (λ c.
+    let lifted = c .before .before in
+    let i = lifted .before .before in
+    let m = behind-of t lifted in
+    let e = test-of t m in
+    merging-next (start-of t e .pre .1 .0) (m .merge .ensures) (left t e) (rw (i .before .wide .ensures) at (i .index-of .ensures)) (lifted .lift .ensures) (long t lifted))

@@ -2,71 +2,44 @@
 -- Assumes nothing.
 use borrow.Author.Needs.{needs}
 use native.Mathlib.Omega.{arith}
-use mathlib.Core.Path.{sym, _∙_}
+use Prim.Native.Nat.{_+_, _-_}
+use mathlib.Core.Path.{_≡_, sym, _∙_}
+use lib.ListN.{length, take, drop}
+use Rattle.keys.specs.Keys.{sizeAt, nameAt}
 use Rattle.keys.proofs.Orders.{true-false}
 use Rattle.keys.proofs.Names.{name-fits, name-part}
 use Rattle.keys.proofs.index_of.Statement.{statement}
 use Rattle.keys.proofs.index_of.Tie as tie
 
-add-at : tie.Need-add-at
-add-at c = omega arith
+abbrev start-of : tie.After-halve-arg → tie.Start
+start-of c = c .before .before .before
 
-sub-halve : tie.Need-sub-halve
-sub-halve c = omega arith
+-- the length that was read
+abbrev read-of : tie.After-count → tie.After-halve-arg
+read-of c = c .before .before
 
-part-halve-start : tie.Need-part-halve-start
-part-halve-start c = search needs
+sized : (c : tie.After-count) → let a = start-of (read-of c) .args in c .count .result ≡ sizeAt (a .out .now) (a .place)
+sized c = c .count .ensures ∙ c .before .u16-at .ensures
 
-part-halve-end : tie.Need-part-halve-end
-part-halve-end c = search needs
-
-u16-at-requires : tie.Need-u16-at-requires
-u16-at-requires c κs = omega arith
-
-count-requires : tie.Need-count-requires
-count-requires c κs = search needs
-
-halve-requires : tie.Need-halve-requires
-halve-requires c κs =
-    let at-shared-slice-known2 = c .before .before .before in
-    let start = at-shared-slice-known2 .before .before in
-    let s = start in
-    (s .pre .0, name-fits (s .args .out .now) (s .args .place) (c .count .result) (c .count .ensures ∙ c .before .u16-at .ensures) (s .pre .1))
-
-enum-told : tie.Need-enum-told
-enum-told c = search needs
-
-enum-known-index : tie.Need-enum-known-index
-enum-known-index c = search needs
-
-returns : tie.Need-returns
-returns c =
-    let h = c .before .before in
-    let n = h .before in
-    let s = n .before .before .before .before .before in
-    let e = name-part (s .args .out .now) (s .args .place) (n .count .result) (n .count .ensures ∙ n .before .u16-at .ensures) (s .pre .1) in
-    true-false (sym (rw (c .enum-told .given .1, e) at (h .halve .ensures)) ∙ s .pre .2)
-
-returns-2 : tie.Need-returns-2
-returns-2 c =
-    let h = c .before .before .before in
-    let n = h .before in
-    let s = n .before .before .before .before .before in
-    let e = name-part (s .args .out .now) (s .args .place) (n .count .result) (n .count .ensures ∙ n .before .u16-at .ensures) (s .pre .1) in
-    rw (c .before .index .given .1, e) at (h .halve .ensures)
+-- so what is looked for is the name
+named : (c : tie.After-count) → let a = start-of (read-of c) .args in
+    take (c .count .result) (take (length (a .out .now) - (a .place + 2)) (drop (a .place + 2) (a .out .now))) ≡ nameAt (a .out .now) (a .place)
+named c = let s = start-of (read-of c) in name-part (s .args .out .now) (s .args .place) _ (sized c) (s .pre .1)
 
 pub index-of-spec : {M : Type 1} → statement M
 index-of-spec =
     tie.close
     (tie.spec
-    add-at
-    sub-halve
-    part-halve-start
-    part-halve-end
-    u16-at-requires
-    count-requires
-    halve-requires
-    enum-told
-    enum-known-index
-    returns
-    returns-2)
+    (λ c. omega arith)
+    (λ c. omega arith)
+    (λ c. search needs)
+    (λ c. search needs)
+    (λ c κs. omega arith)
+    (λ c κs. search needs)
+    (λ c κs. let s = start-of (read-of c) in (s .pre .0, name-fits (s .args .out .now) (s .args .place) _ (sized c) (s .pre .1)))
+    (λ c. search needs)
+    (λ c. search needs)
+    (λ c.
+    let h = c .before .before in
+    true-false (sym (rw (c .enum-told .given .1, named (h .before)) at (h .halve .ensures)) ∙ start-of (read-of (h .before)) .pre .2))
+    (λ c. let h = c .before .before .before in rw (c .before .index .given .1, named (h .before)) at (h .halve .ensures)))

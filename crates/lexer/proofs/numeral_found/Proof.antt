@@ -24,22 +24,10 @@ numeral-found-spec =
     (λ c. search needs)
     (λ c κs. search needs)
     (λ c. search needs)
-    (λ c.
-    let m = c .before .before in
-    let a = m .before .before .args in
-    rw (m .n .given .1) (whole-kept byte (m .n .given .0 .0) (a .index .0) (a .char-width .0) (a .next) _ (record { sfits = c .before .known-told .given .0 .1 }) (c .found .ensures)))
-    (λ c.
-    let m = c .before .before in
-    let a = m .before .before .args in
-    rw (m .n2 .given .1) (whole-kept short (m .n2 .given .0 .0) (a .index .0) (a .char-width .0) (a .next) _ (record { sfits = c .before .known-told2 .given .0 .1 }) (c .found2 .ensures)))
-    (λ c.
-    let m = c .before .before in
-    let a = m .before .before .args in
-    rw (m .n3 .given .1) (whole-kept int (m .n3 .given .0 .0) (a .index .0) (a .char-width .0) (a .next) _ (record { sfits = c .before .known-told3 .given .0 .1 }) (c .found3 .ensures)))
-    (λ c.
-    let m = c .before .before in
-    let a = m .before .before .args in
-    rw (m .n4 .given .1) (whole-kept long (m .n4 .given .0 .0) (a .index .0) (a .char-width .0) (a .next) _ (record { sfits = c .before .known-told4 .given .0 .1 }) (c .found4 .ensures)))
+    (λ c. let m = c .before .before in rw (m .n .given .1) (whole-kept byte (m .n .given .0 .0) _ _ _ _ (record { sfits = c .before .known-told .given .0 .1 }) (c .found .ensures)))
+    (λ c. let m = c .before .before in rw (m .n2 .given .1) (whole-kept short (m .n2 .given .0 .0) _ _ _ _ (record { sfits = c .before .known-told2 .given .0 .1 }) (c .found2 .ensures)))
+    (λ c. let m = c .before .before in rw (m .n3 .given .1) (whole-kept int (m .n3 .given .0 .0) _ _ _ _ (record { sfits = c .before .known-told3 .given .0 .1 }) (c .found3 .ensures)))
+    (λ c. let m = c .before .before in rw (m .n4 .given .1) (whole-kept long (m .n4 .given .0 .0) _ _ _ _ (record { sfits = c .before .known-told4 .given .0 .1 }) (c .found4 .ensures)))
     (λ c. rw (c .before .before .n5 .given .1) (c .found5 .ensures))
     (λ c. rw (c .before .before .n6 .given .1) (c .found6 .ensures))
     (λ c. rw (c .before .n7 .given .1) refl))

@@ -30,13 +30,7 @@ token-by-spec =
     (λ c. let a = c .before .before .before .args in by-quote (stopsIs (a .set)) (a .text .now) (a .i) (a .b) _ (c .before .match .keys8) (c .quoted-found .ensures))
     (λ c.
     let a = c .before .before .before .args in
-    by-word (stopsIs (a .set)) (a .text .now) (a .i) (a .b) _
-    (c .before .match .rest .0 .0 .0 .0 .0 .0 .0 .1)
-    (c .before .match .rest .0 .0 .0 .0 .0 .0 .1)
-    (c .before .match .rest .0 .0 .0 .0 .0 .1)
-    (c .before .match .rest .0 .0 .0 .0 .1)
-    (c .before .match .rest .0 .0 .0 .1)
-    (c .before .match .rest .0 .0 .1)
-    (c .before .match .rest .0 .1)
-    (c .before .match .rest .1)
+    let r = c .before .match .rest in
+    let r₄ = r .0 .0 .0 .0 in
+    by-word (stopsIs (a .set)) (a .text .now) (a .i) (a .b) _ (r₄ .0 .0 .0 .1) (r₄ .0 .0 .1) (r₄ .0 .1) (r₄ .1) (r .0 .0 .0 .1) (r .0 .0 .1) (r .0 .1) (r .1)
     (c .unquoted-at .ensures)))

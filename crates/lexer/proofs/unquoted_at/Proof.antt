@@ -29,14 +29,11 @@ unquoted-at-spec =
     let w = word-of at-opens in
     let a = w .before .before .args in
     unquoted-number (stopsIs (a .set)) (a .text .now) (a .i) (wordIs (w .word-at .result)) (w .word-at .ensures) _ _ (at-opens .opens-number .ensures) _
-    (c .before .before .if1 .taken)
-    (c .before .number-at .ensures)
-    (c .numeral-found .ensures))
+    (c .before .before .if1 .taken) (c .before .number-at .ensures) (c .numeral-found .ensures))
     (λ c κs. search needs)
     (λ c.
     let at-opens = c .before .before in
     let w = word-of at-opens in
     let a = w .before .before .args in
     unquoted-string (stopsIs (a .set)) (a .text .now) (a .i) (wordIs (w .word-at .result)) (w .word-at .ensures) _ _ (at-opens .opens-number .ensures)
-    (c .before .if1 .left)
-    (c .found .ensures)))
+    (c .before .if1 .left) (c .found .ensures)))

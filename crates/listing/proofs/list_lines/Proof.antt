@@ -8,7 +8,8 @@ use Rattle.listing.proofs.list_lines.Statement.{statement}
 use Rattle.listing.proofs.list_lines.Tie as tie
 
 abbrev Inv-loop : tie.InvT-loop
-Inv-loop chunk₀ line₀ doc₀ table₀ input₀ turns₀ t10 chunk line doc table input turns = (length chunk ≡ length chunk₀) × (length line ≡ length line₀) × (length doc ≡ length doc₀) × (length table ≡ length table₀)
+Inv-loop chunk₀ line₀ doc₀ table₀ input₀ turns₀ t10 chunk line doc table input turns =
+    (length chunk ≡ length chunk₀) × (length line ≡ length line₀) × (length doc ≡ length doc₀) × (length table ≡ length table₀)
 
 abbrev μ-loop : tie.MeasureT-loop
 μ-loop chunk₀ line₀ doc₀ table₀ input₀ turns₀ t10 chunk line doc table input turns = turns

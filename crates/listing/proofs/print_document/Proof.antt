@@ -1,14 +1,13 @@
 -- `listing::print_document` is safe: the first n bytes are n bytes.
 -- Assumes nothing.
 use borrow.Author.Needs.{needs}
-use native.Mathlib.Omega.{arith}
 use mathlib.Core.Path.{sym}
 use lib.Seq.{length-take-le}
 use Rattle.listing.proofs.print_document.Statement.{statement}
 use Rattle.listing.proofs.print_document.Tie as tie
 
 slice-aggregate-read : tie.Need-slice-aggregate-read
-slice-aggregate-read c = let a = c .before .before .before .before .args in sym (length-take-le (a .n) (a .doc .now) (omega arith))
+slice-aggregate-read c = sym (length-take-le _ _ (search needs))
 
 pub print-document-spec : {M : Type 1} → statement M
 print-document-spec =

@@ -1,56 +1,59 @@
--- `siblings::has_name` meets its contract: the search of the words goes from record to record.
+-- `has_name` meets its contract: the search of the words goes from record to record.
 -- Assumes nothing.
 use native.Mathlib.Omega.{arith}
-use Prim.Native.Nat.{_+_, _*_, _-_}
+use Prim.Native.Nat.{_-_}
 use mathlib.Core.Path.{_≡_, sym, _∙_}
-use lib.ListN.{getD}
+use Rattle.form.specs.Table.{word}
 use Rattle.form.specs.Spans.{same, part}
 use Rattle.siblings.proofs.Holding.{Seek, seek-start, seek-end, seek-within, seek-on, seek-hit, seek-next}
 use Rattle.siblings.proofs.has_name.Statement.{statement}
 use Rattle.siblings.proofs.has_name.Tie as tie
 
-abbrev Inv-loop : tie.InvT-loop
-Inv-loop doc table from to start len i₀ i = Seek doc table from to (part doc start len) i
+abbrev Inv : tie.InvT-loop
+Inv doc table from to start len i₀ i = Seek doc table from to (part doc start len) i
 
-abbrev μ-loop : tie.MeasureT-loop
-μ-loop doc table from to start len i₀ i = to - i
+abbrev μ : tie.MeasureT-loop
+μ doc table from to start len i₀ i = to - i
+
+abbrev start-of : tie.In-loop Inv μ → tie.Start Inv μ
+start-of c = let loop = c .before in loop .before .before .before
+
+abbrev turn-of : tie.After-same-name Inv μ → tie.In-loop Inv μ
+turn-of c = c .before .before .before
 
 -- what the comparison says of the table's words
-told : (c : tie.After-same-name Inv-loop μ-loop) →
-    let l = c .before .before .before .before in
-    let a = l .before .before .before .args in
-    same (part (a .doc .now) (getD (a .table .now) (9 * l .loop .i + 1) 0) (getD (a .table .now) (9 * l .loop .i + 2) 0)) (part (a .doc .now) (a .start) (a .len)) ≡ c .same-name .result
+told : (c : tie.After-same-name Inv μ) →
+    let a = start-of (turn-of c) .args in
+    let i = turn-of c .before .loop .i in
+    same (part (a .doc .now) (word (a .table .now) i 1) (word (a .table .now) i 2)) (part (a .doc .now) (a .start) (a .len)) ≡ c .same-name .result
 told c = sym (rw (c .before .before .word .ensures, c .before .word2 .ensures) at (c .same-name .ensures))
 
-same-name-requires : tie.Need-same-name-requires Inv-loop μ-loop
+same-name-requires : tie.Need-same-name-requires Inv μ
 same-name-requires c κs =
-    let n = c .before .before in
-    (omega (arith, seek-within (n .before .loop .inv) (n .loop-test .taken), c .before .word .ensures, c .word2 .ensures), n .before .before .before .before .pre .2)
+    let turn = c .before .before in
+    (omega (arith, seek-within (turn .before .loop .inv) (turn .loop-test .taken), c .before .word .ensures, c .word2 .ensures), start-of turn .pre .2)
 
-returns : tie.Need-returns Inv-loop μ-loop
+returns : tie.Need-returns Inv μ
 returns c =
-    let n = c .before .before .before .before in
-    sym (seek-hit (n .before .loop .inv) (n .loop-test .taken) (told (c .before) ∙ c .if1 .taken))
+    let turn = turn-of (c .before) in
+    sym (seek-hit (turn .before .loop .inv) (turn .loop-test .taken) (told (c .before) ∙ c .if1 .taken))
 
-loop-less : tie.Need-loop-less Inv-loop μ-loop
+loop-less : tie.Need-loop-less Inv μ
 loop-less c =
-    let n = c .before .before .before .before .before in
-    omega (arith, c .word3 .ensures, seek-on (n .before .loop .inv) (n .loop-test .taken), n .loop-test .taken)
+    let turn = turn-of (c .before .before) in
+    omega (arith, c .word3 .ensures, seek-on (turn .before .loop .inv) (turn .loop-test .taken), turn .loop-test .taken)
 
-loop-again : tie.Need-loop-again Inv-loop μ-loop
+loop-again : tie.Need-loop-again Inv μ
 loop-again c =
-    let n = c .before .before .before .before .before in
-    rw (c .word3 .ensures) (seek-next (n .before .loop .inv) (n .loop-test .taken) (told (c .before .before) ∙ c .before .if1 .left))
-
-returns-2 : tie.Need-returns-2 Inv-loop μ-loop
-returns-2 c = sym (seek-end (c .before .loop .inv) (c .loop-test .left))
+    let turn = turn-of (c .before .before) in
+    rw (c .word3 .ensures) (seek-next (turn .before .loop .inv) (turn .loop-test .taken) (told (c .before .before) ∙ c .before .if1 .left))
 
 pub has-name-spec : {M : Type 1} → statement M
 has-name-spec =
     tie.close
     (tie.spec
-    Inv-loop
-    μ-loop
+    Inv
+    μ
     (λ c. seek-start _ _ _ _ _ (c .before .before .pre .0))
     (λ c κs. (omega arith, omega arith))
     (λ c κs. (omega arith, omega arith))
@@ -59,4 +62,4 @@ has-name-spec =
     (λ c κs. (omega arith, omega arith))
     loop-less
     loop-again
-    returns-2)
+    (λ c. sym (seek-end (c .before .loop .inv) (c .loop-test .left))))

@@ -20,15 +20,18 @@ element-value-spec =
     (λ c. search needs)
     (λ c κs. search needs)
     (λ c.
-    let v = c .before .before .token .given in
-    let a = c .before .before .before .before .args in
-    whole-of (byte (v .0 .0)) (a .width) 1 _ (c .fitting .result) (ap tokenIs (v .1)) refl (sym (held (v .0 .0) (c .before .known-told .given .0 .1))) (c .fitting .ensures))
+    let told = c .before in
+    let v = told .before .token .given in
+    let kept = held (v .0 .0) (told .known-told .given .0 .1) in
+    whole-of (byte (v .0 .0)) _ 1 _ (c .fitting .result) (ap tokenIs (v .1)) refl (sym kept) (c .fitting .ensures))
     (λ c.
-    let v = c .before .before .token2 .given in
-    let a = c .before .before .before .before .args in
-    whole-of (int (v .0 .0)) (a .width) 4 _ (c .fitting2 .result) (ap tokenIs (v .1)) refl (sym (held (v .0 .0) (c .before .known-told2 .given .0 .1))) (c .fitting2 .ensures))
+    let told = c .before in
+    let v = told .before .token2 .given in
+    let kept = held (v .0 .0) (told .known-told2 .given .0 .1) in
+    whole-of (int (v .0 .0)) _ 4 _ (c .fitting2 .result) (ap tokenIs (v .1)) refl (sym kept) (c .fitting2 .ensures))
     (λ c.
-    let v = c .before .before .token3 .given in
-    let a = c .before .before .before .before .args in
-    whole-of (long (v .0 .0)) (a .width) 8 _ (c .fitting3 .result) (ap tokenIs (v .1)) refl (sym (held (v .0 .0) (c .before .known-told3 .given .0 .1))) (c .fitting3 .ensures))
+    let told = c .before in
+    let v = told .before .token3 .given in
+    let kept = held (v .0 .0) (told .known-told3 .given .0 .1) in
+    whole-of (long (v .0 .0)) _ 8 _ (c .fitting3 .result) (ap tokenIs (v .1)) refl (sym kept) (c .fitting3 .ensures))
     (λ c. let s = c .before in no-element (s .pre) (s .args .token) (c .match .keys4)))

@@ -5,21 +5,17 @@ use Rattle.arrays.proofs.Turning.{wide-range, fitting-is, fitting-out, 
 use Rattle.arrays.proofs.elements.fitting.Statement.{statement}
 use Rattle.arrays.proofs.elements.fitting.Tie as tie
 
-in-range-requires : tie.Need-in-range-requires
-in-range-requires c κs = wide-range (c .before .pre)
-
-returns : tie.Need-returns
-returns c =
-    let a = c .before .before .before .args in
-    fitting-is (a .own) (a .width) (a .v) _ (held (a .v) (c .before .before .before .good .0)) (c .before .before .if1 .taken) (c .before .in-range .ensures) (c .if2 .taken)
-
-returns-2 : tie.Need-returns-2
-returns-2 c =
-    let a = c .before .before .before .args in
-    fitting-out (a .own) (a .width) (a .v) _ (held (a .v) (c .before .before .before .good .0)) (c .before .before .if1 .taken) (c .before .in-range .ensures) (c .if2 .left)
-
-returns-3 : tie.Need-returns-3
-returns-3 c = fitting-other (c .before .args .own) (c .before .args .width) (c .before .args .v) (c .if1 .left)
-
 pub fitting-spec : {M : Type 1} → statement M
-fitting-spec = tie.close (tie.spec in-range-requires returns returns-2 returns-3)
+fitting-spec =
+    tie.close
+    (tie.spec
+    (λ c κs. wide-range (c .before .pre))
+    (λ c.
+    let r = c .before in
+    let s = r .before .before in
+    fitting-is (s .args .own) (s .args .width) (s .args .v) _ (held (s .args .v) (s .good .0)) (r .before .if1 .taken) (r .in-range .ensures) (c .if2 .taken))
+    (λ c.
+    let r = c .before in
+    let s = r .before .before in
+    fitting-out (s .args .own) (s .args .width) (s .args .v) _ (held (s .args .v) (s .good .0)) (r .before .if1 .taken) (r .in-range .ensures) (c .if2 .left))
+    (λ c. let a = c .before .args in fitting-other (a .own) (a .width) (a .v) (c .if1 .left)))

@@ -2,73 +2,82 @@
 -- Assumes nothing.
 use borrow.Author.Needs.{needs}
 use Prim.Native.Nat.{_+_}
-use mathlib.Core.Path.{sym, ap, _∙_, subst}
+use mathlib.Core.Path.{_≡_, sym, ap, _∙_, subst}
 use borrow.Author.Tests.{leb-true}
 use Rattle.form.specs.Numbers.{FitsIn}
 use Rattle.form.specs.Spans.{over}
 use Rattle.form.specs.Layout.{intBytes}
 use Rattle.raw.proofs.Signs.{held}
 use Rattle.tokens.specs.Answers.{dataIs, tokenIs}
-use Rattle.arrays.specs.declared.elements.Whole.the-variants.{Is}
+use Rattle.arrays.specs.declared.elements.Whole.{Whole}
 use Rattle.arrays.specs.Turns.{WholeIs}
 use Rattle.arrays.proofs.Turning.{wide-range, put-not, put-full, put-done}
 use Rattle.arrays.proofs.elements.put_element.Statement.{statement}
 use Rattle.arrays.proofs.elements.put_element.Tie as tie
 
--- The value that the token has as an element.
-is-whole : (c : tie.After-v) → WholeIs (c .before .before .before .before .before .args .width) (tokenIs (c .before .before .before .before .before .args .«data» .token)) (Is (c .v .given .0 .0))
-is-whole c = subst (WholeIs (c .before .before .before .before .before .args .width) (tokenIs (c .before .before .before .before .before .args .«data» .token))) (c .v .given .1) (c .before .before .element-value .ensures)
+-- the beginning, the integer that the token is as an element, and the test of its room
+abbrev start-of : tie.After-element-value → tie.Start
+start-of c = c .before .before .before
 
-element-value-requires : tie.Need-element-value-requires
-element-value-requires c κs = search needs
+abbrev called-of : tie.After-v → tie.After-element-value
+called-of c = c .before .before
 
-enum-known-v : tie.Need-enum-known-v
-enum-known-v c = search needs
+abbrev integer-of : tie.After-has-room → tie.After-v
+integer-of c = c .before .before
 
-has-room-requires : tie.Need-has-room-requires
-has-room-requires c κs = search needs
+abbrev room-of : tie.After-put-signed-arg → tie.After-has-room
+room-of c = c .before .before
+
+-- What the token is as an element, at the case that the `match` took.
+whole : (c : tie.After-element-value) {r : Whole} → c .element-value .result ≡ r
+    → let a = start-of c .args in WholeIs (a .width) (tokenIs (a .«data» .token)) r
+whole c e = let a = start-of c .args in subst (WholeIs (a .width) (tokenIs (a .«data» .token))) e (c .element-value .ensures)
 
 put-signed-requires : tie.Need-put-signed-requires
 put-signed-requires c κs =
-    let s = c .before .before .before .before .before .before .before .before .before in
-    let v = c .before .before .before .before .v .given in
-    let h = held (v .0 .0) (c .before .before .before .known-told .given .0 .1) in
-    (wide-range (s .pre) .1, leb-true (s .args .used + s .args .width) _ (sym (c .before .before .has-room .ensures) ∙ c .before .if1 .taken), subst (FitsIn (s .args .width)) (sym h) (is-whole (c .before .before .before .before) .1))
-
-same-length : tie.Need-same-length
-same-length c = search needs
+    let at-room = room-of c in
+    let z = integer-of at-room in
+    let s = start-of (called-of z) in
+    let a = s .args in
+    let kept = held (z .v .given .0 .0) (at-room .before .known-told .given .0 .1) in (
+      wide-range (s .pre) .1,
+      leb-true (a .used + a .width) _ (sym (at-room .has-room .ensures) ∙ c .before .if1 .taken),
+      subst (FitsIn (a .width)) (sym kept) (whole (called-of z) (z .v .given .1) .1),
+    )
 
 returns : tie.Need-returns
 returns c =
-    let s = c .before .before .before .before .before .before .before .before .before .before .before .before in
-    let v = c .before .before .before .before .before .before .before .v .given in
-    let h = held (v .0 .0) (c .before .before .before .before .before .before .known-told .given .0 .1) in
-    put-done (s .args .out .now) (s .args .width) (dataIs (s .args .«data»)) (s .args .next) (s .args .used) (v .0 .0) (is-whole (c .before .before .before .before .before .before .before) .0) (c .before .before .before .before .before .has-room .ensures) (c .before .before .before .before .if1 .taken)
-    (c .before .before .put-signed .ensures ∙ ap (λ z. over (s .args .out .now) (s .args .used) (intBytes (s .args .width) z)) h)
-
-enum-told : tie.Need-enum-told
-enum-told c = search needs
+    let at-put = c .before .before in
+    let at-room = room-of (at-put .before) in
+    let z = integer-of at-room in
+    let a = start-of (called-of z) .args in
+    let kept = held (z .v .given .0 .0) (at-room .before .known-told .given .0 .1) in
+    put-done (a .out .now) (a .width) (dataIs (a .«data»)) (a .next) (a .used) _ (whole (called-of z) (z .v .given .1) .0) (at-room .has-room .ensures)
+    (at-put .before .before .if1 .taken) (at-put .put-signed .ensures ∙ ap (λ v. over (a .out .now) (a .used) (intBytes (a .width) v)) kept)
 
 returns-2 : tie.Need-returns-2
 returns-2 c =
-    let s = c .before .before .before .before .before .before .before .before in
-    put-full (s .args .out .now) (s .args .width) (dataIs (s .args .«data»)) (s .args .next) (s .args .used) (c .before .before .before .v .given .0 .0) (is-whole (c .before .before .before) .0) (c .before .has-room .ensures) (c .if1 .left)
+    let at-room = c .before in
+    let z = integer-of at-room in
+    let a = start-of (called-of z) .args in
+    put-full (a .out .now) (a .width) (dataIs (a .«data»)) (a .next) (a .used) _ (whole (called-of z) (z .v .given .1) .0) (at-room .has-room .ensures) (c .if1 .left)
 
 returns-3 : tie.Need-returns-3
 returns-3 c =
-    let s = c .before .before .before .before .before in
-    put-not (s .args .out .now) (s .args .width) (dataIs (s .args .«data»)) (s .args .next) (s .args .used) (subst (WholeIs (s .args .width) (tokenIs (s .args .«data» .token))) (c .enum-told .given .1) (c .before .before .element-value .ensures))
+    let at-value = c .before .before in
+    let a = start-of at-value .args in
+    put-not (a .out .now) (a .width) (dataIs (a .«data»)) (a .next) (a .used) (whole at-value (c .enum-told .given .1))
 
 pub put-element-spec : {M : Type 1} → statement M
 put-element-spec =
     tie.close
     (tie.spec
-    element-value-requires
-    enum-known-v
-    has-room-requires
+    (λ c κs. search needs)
+    (λ c. search needs)
+    (λ c κs. search needs)
     put-signed-requires
-    same-length
+    (λ c. search needs)
     returns
-    enum-told
+    (λ c. search needs)
     returns-2
     returns-3)

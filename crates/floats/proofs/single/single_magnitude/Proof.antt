@@ -19,51 +19,37 @@ left-over n d h g = shr-lt 23 d (lt-of-lt-of-le h (pow-mono (room d g)))
     room : (d : ℕ) → 30 ≤ d → 53 ≤ 23 + d
     room d g = omega arith
 
+-- the function starts, from where a single is made
+abbrev start-of : tie.Else2 → tie.Start
+start-of c = c .before .before
+
 returns : tie.Need-returns
 returns c s = sym (too-large s (c .before .args .b) (c .before .pre) (c .if1 .taken))
 
 returns-2 : tie.Need-returns-2
 returns-2 c s = sym (too-small s (c .before .before .args .b) (c .if2 .taken))
 
-add-significand : tie.Need-add-significand
-add-significand c = search needs
-
-sub-places : tie.Need-sub-places
-sub-places c = search needs
-
-cast-places : tie.Need-cast-places
-cast-places c = search needs
-
-rounded-shift-requires : tie.Need-rounded-shift-requires
-rounded-shift-requires c κs = search needs
-
 cast-result : tie.Need-cast-result
 cast-result c =
-    let b = c .before .before .before .before .args .b in
+    let b = start-of (c .before .before) .args .b in
     let n = 2 ^ 52 + b % 2 ^ 52 in
     let d = 926 - b / 2 ^ 52 in
     omega (arith, c .rounded-shift .ensures, closest-le n (2 ^ d), left-over n d (omega arith) (omega arith))
 
 returns-3 : tie.Need-returns-3
 returns-3 c s =
-    let b = c .before .before .before .before .args .b in
+    let b = start-of (c .before .before) .args .b in
     ap (λ (x : ℕ). cond s (2 ^ 31) 0 + x) (c .rounded-shift .ensures) ∙ sym (below-normal s b (c .before .before .if2 .left) (c .before .if3 .taken))
 
-mul-result : tie.Need-mul-result
-mul-result c = search needs
-
-rounded-shift-requires-2 : tie.Need-rounded-shift-requires-2
-rounded-shift-requires-2 c κs = search needs
-
 add-result : tie.Need-add-result
-add-result c = omega (arith, c .rounded-shift2 .ensures, closest-le (2 ^ 52 + c .before .before .before .before .args .b % 2 ^ 52) (2 ^ 29))
+add-result c = omega (arith, c .rounded-shift2 .ensures, closest-le (2 ^ 52 + start-of (c .before .before) .args .b % 2 ^ 52) (2 ^ 29))
 
 cast-result-2 : tie.Need-cast-result-2
-cast-result-2 c = omega (arith, c .rounded-shift2 .ensures, closest-le (2 ^ 52 + c .before .before .before .before .args .b % 2 ^ 52) (2 ^ 29))
+cast-result-2 c = omega (arith, c .rounded-shift2 .ensures, closest-le (2 ^ 52 + start-of (c .before .before) .args .b % 2 ^ 52) (2 ^ 29))
 
 returns-4 : tie.Need-returns-4
 returns-4 c s =
-    let b = c .before .before .before .before .args .b in
+    let b = start-of (c .before .before) .args .b in
     ap (λ (x : ℕ). cond s (2 ^ 31) 0 + ((b / 2 ^ 52 - 897) * 2 ^ 23 + x)) (c .rounded-shift2 .ensures)
     ∙ sym (in-range s b (c .before .if3 .left) (c .before .before .before .if1 .left))
 
@@ -73,14 +59,14 @@ single-magnitude-spec =
     (tie.spec
     returns
     returns-2
-    add-significand
-    sub-places
-    cast-places
-    rounded-shift-requires
+    (λ c. search needs)  -- add-significand
+    (λ c. search needs)  -- sub-places
+    (λ c. search needs)  -- cast-places
+    (λ c κs. search needs)  -- rounded-shift-requires
     cast-result
     returns-3
-    mul-result
-    rounded-shift-requires-2
+    (λ c. search needs)  -- mul-result
+    (λ c κs. search needs)  -- rounded-shift-requires-2
     add-result
     cast-result-2
     returns-4)

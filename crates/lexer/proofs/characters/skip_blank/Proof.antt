@@ -27,6 +27,10 @@ skip-blank-spec =
     (λ c κs. search needs)
     (λ c. omega arith)
     (λ c. omega arith)
-    (λ c. c .before .before .before .before .loop .inv ∙ skip-more _ _ (c .before .before .before .loop-test .taken) (sym (c .before .is-blank .ensures) ∙ c .if1 .taken))
-    (λ c. sym (c .before .before .before .before .loop .inv ∙ skip-stop _ _ (c .before .before .before .loop-test .taken) (sym (c .before .is-blank .ensures) ∙ c .if1 .left)))
+    (λ c.
+    let turn = c .before .before .before in
+    turn .before .loop .inv ∙ skip-more _ _ (turn .loop-test .taken) (sym (c .before .is-blank .ensures) ∙ c .if1 .taken))
+    (λ c.
+    let turn = c .before .before .before in
+    sym (turn .before .loop .inv ∙ skip-stop _ _ (turn .loop-test .taken) (sym (c .before .is-blank .ensures) ∙ c .if1 .left)))
     (λ c. sym (c .before .loop .inv ∙ skip-end _ _ (c .loop-test .left))))

@@ -12,8 +12,17 @@ after-byte-spec =
     (tie.spec
     (λ c. let a = c .before .args in after-slash (scanOf (a .st)) (a .b) (a .i) (c .if1 .taken))
     (λ c κs. search needs)
-    (λ c. let a = c .before .before .before .args in after-single (scanOf (a .st)) (a .b) (a .i) _ (c .before .before .if1 .left) (c .before .if2 .taken) (c .toggled .ensures))
+    (λ c.
+    let e = c .before .before in
+    let a = e .before .args in
+    after-single (scanOf (a .st)) (a .b) (a .i) _ (e .if1 .left) (c .before .if2 .taken) (c .toggled .ensures))
     (λ c κs. search needs)
-    (λ c. let a = c .before .before .before .before .args in after-double (scanOf (a .st)) (a .b) (a .i) _ (c .before .before .before .if1 .left) (c .before .before .if2 .left) (c .before .if3 .taken) (c .toggled2 .ensures))
+    (λ c.
+    let e = c .before .before in
+    let a = e .before .before .args in
+    after-double (scanOf (a .st)) (a .b) (a .i) _ (e .before .if1 .left) (e .if2 .left) (c .before .if3 .taken) (c .toggled2 .ensures))
     (λ c κs. search needs)
-    (λ c. let a = c .before .before .before .before .args in after-other (scanOf (a .st)) (a .b) (a .i) _ (c .before .before .before .if1 .left) (c .before .before .if2 .left) (c .before .if3 .left) (c .grown-by .ensures)))
+    (λ c.
+    let e = c .before .before in
+    let a = e .before .before .args in
+    after-other (scanOf (a .st)) (a .b) (a .i) _ (e .before .if1 .left) (e .if2 .left) (c .before .if3 .left) (c .grown-by .ensures)))

@@ -7,6 +7,10 @@ use Rattle.lexer.proofs.Scans.{stops-quoted, stops-curly, stops-square,
 use Rattle.lexer.proofs.words.ends.Statement.{statement}
 use Rattle.lexer.proofs.words.ends.Tie as tie
 
+-- outside quotes
+abbrev out-of : tie.Else2 → tie.Else1
+out-of c = c .before .before
+
 pub ends-spec : {M : Type 1} → statement M
 ends-spec =
     tie.close
@@ -18,11 +22,13 @@ ends-spec =
     let a = p .before .before .args in
     stops-curly (stopsIs (a .set)) (scanOf (a .st)) (a .b) _ (p .before .in-quotes .ensures) (p .if1 .left) (c .if2 .taken))
     (λ c.
-    let p = c .before .before .before .before in
+    let e = c .before .before in
+    let p = out-of e in
     let a = p .before .before .args in
-    stops-square (stopsIs (a .set)) (scanOf (a .st)) (a .b) _ (p .before .in-quotes .ensures) (p .if1 .left) (c .before .before .if2 .left) (c .if3 .taken))
+    stops-square (stopsIs (a .set)) (scanOf (a .st)) (a .b) _ (p .before .in-quotes .ensures) (p .if1 .left) (e .if2 .left) (c .if3 .taken))
     (λ c κs. search needs)
     (λ c.
-    let p = c .before .before .before .before .before in
+    let e = c .before .before .before in
+    let p = out-of e in
     let a = p .before .before .args in
-    stops-level (stopsIs (a .set)) (scanOf (a .st)) (a .b) _ (p .before .in-quotes .ensures) (p .if1 .left) _ (c .before .before .before .if2 .left) (c .before .if3 .left) (c .is-stop .ensures)))
+    stops-level (stopsIs (a .set)) (scanOf (a .st)) (a .b) _ (p .before .in-quotes .ensures) (p .if1 .left) _ (e .if2 .left) (c .before .if3 .left) (c .is-stop .ensures)))

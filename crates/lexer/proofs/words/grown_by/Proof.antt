@@ -12,8 +12,8 @@ use Rattle.lexer.proofs.words.grown_by.Tie as tie
 abbrev blank-of : tie.After-begins → tie.After-is-blank
 blank-of c = c .before .before .before
 
-abbrev start-of : tie.After-is-blank → tie.Start
-start-of c = c .before .before .before .before
+abbrev start-of : tie.After-level2 → tie.Start
+start-of c = c .before .before .before
 
 pub grown-by-spec : {M : Type 1} → statement M
 grown-by-spec =
@@ -30,7 +30,7 @@ grown-by-spec =
     grown-blank (scanOf (a .st)) (a .b) (a .i) _ _ _ _ (p .in-quotes .ensures) (l .level .ensures) (c .before .before .level2 .ensures) (c .before .is-blank .ensures) (c .if1 .taken))
     (λ c. search needs)
     (λ c κs. search needs)
-    (λ c κs. let s = start-of (blank-of c) in omega (arith, s .pre .0 .width, c .begins .ensures, begins-le (s .args .b)))
+    (λ c κs. let s = start-of (blank-of c .before) in omega (arith, s .pre .0 .width, c .begins .ensures, begins-le (s .args .b)))
     (λ c.
     let at-begins = c .before in
     let at-blank = blank-of at-begins in

@@ -37,7 +37,8 @@ pass-spec =
     (λ c κs. omega arith)
     (λ c. omega arith)
     (λ c. omega arith)
-    (λ c. (omega arith, passed-join _ _ _ _ (turn-of (c .before) .loop .inv .1) (plain-passed _ _ _ (omega arith) (omega arith) (run-is _ _ _ _ 64 (sym (c .before .all-plain .ensures) ∙ c .if1 .taken)))))
+    (λ c. let block = run-is _ _ _ _ 64 (sym (c .before .all-plain .ensures) ∙ c .if1 .taken) in
+    (omega arith, passed-join _ _ _ _ (turn-of (c .before) .loop .inv .1) (plain-passed _ _ _ (omega arith) (omega arith) block)))
     (λ c κs. turn-of (c .before) .loop .inv .0)
     (λ c κs. (mixed-of (c .before) .loop .inv .0, omega arith))
     (λ c. passed-join _ _ _ _ (mixed-of (c .before .before) .loop .inv .1) (blocks-passed _ _ _ (c .plain-blocks .ensures)))

@@ -38,59 +38,32 @@ unfolding ahead
 over x y s i to h = ap (λ (l : List ℕ). length (before (either x y) l)) (slice-none i to s h) ∙ first-none (either x y)
 
 -- the answer where nothing stands before it
-found : (x y : ℕ) (s : List ℕ) (at to i : ℕ) → at ≤ i → i ≤ to → i + ahead x y s i to ≡ at + ahead x y s at to → ahead x y s i to ≡ 0 → FirstAt x y s at to i
+found : (c : tie.At-loop Inv-loop μ-loop) → let a = c .before .args in let i = c .loop .i in
+    ahead (a .x) (a .y) (a .text .now) i (a .to) ≡ 0 → FirstAt (a .x) (a .y) (a .text .now) (a .at) (a .to) i
 unfolding ahead
-found x y s at to i l h e z = record { is = omega arith; low = l; high = h }
+found c z = let v = c .loop .inv in record { is = omega (arith, z, v .2); low = v .0; high = v .1 }
 
-loop-holds : tie.Need-loop-holds Inv-loop μ-loop
-loop-holds c = (omega arith, omega arith, refl)
-
-shared-slice-read-b : tie.Need-shared-slice-read-b Inv-loop μ-loop
-shared-slice-read-b c = omega arith
-
-returns : tie.Need-returns Inv-loop μ-loop
-returns c =
-    let at-loop = c .before .before .before in
-    let start = at-loop .before in
-    let a = start in
-    let l = at-loop .loop in
-    found (a .args .x) (a .args .y) (a .args .text .now) (a .args .at) (a .args .to) (l .i) (l .inv .0) (l .inv .1) (l .inv .2)
-    (here (a .args .x) (a .args .y) (a .args .text .now) (l .i) (a .args .to) (c .before .before .loop-test .taken) (a .pre .1) (is-x (a .args .x) (a .args .y) _ (c .if1 .taken)))
-
-returns-2 : tie.Need-returns-2 Inv-loop μ-loop
-returns-2 c =
-    let in-loop = c .before .before .before in
-    let at-loop = in-loop .before in
-    let start = at-loop .before in
-    let a = start in
-    let l = at-loop .loop in
-    found (a .args .x) (a .args .y) (a .args .text .now) (a .args .at) (a .args .to) (l .i) (l .inv .0) (l .inv .1) (l .inv .2)
-    (here (a .args .x) (a .args .y) (a .args .text .now) (l .i) (a .args .to) (in-loop .loop-test .taken) (a .pre .1) (is-y (a .args .x) (a .args .y) _ (c .if2 .taken)))
-
-add-i : tie.Need-add-i Inv-loop μ-loop
-add-i c = omega arith
-
-loop-less : tie.Need-loop-less Inv-loop μ-loop
-loop-less c = omega arith
-
-loop-again : tie.Need-loop-again Inv-loop μ-loop
-loop-again c =
-    let in-loop = c .before .before .before in
-    let at-loop = in-loop .before in
-    let start = at-loop .before in
-    let a = start in
-    let l = at-loop .loop in
-    let n = later (a .args .x) (a .args .y) (a .args .text .now) (l .i) (a .args .to) (in-loop .loop-test .taken) (a .pre .1)
-    (neither (a .args .x) (a .args .y) _ (c .before .if1 .left) (c .if2 .left)) in
-    (omega arith, omega arith, omega (arith, n, l .inv .2))
-
-returns-3 : tie.Need-returns-3 Inv-loop μ-loop
-returns-3 c =
-    let a = c .before .before in
-    let l = c .before .loop in
-    found (a .args .x) (a .args .y) (a .args .text .now) (a .args .at) (a .args .to) (l .i) (l .inv .0) (l .inv .1) (l .inv .2)
-    (over (a .args .x) (a .args .y) (a .args .text .now) (l .i) (a .args .to) (c .loop-test .left))
+hit : (c : tie.In-loop Inv-loop μ-loop) → let a = c .before .before .args in let i = c .before .loop .i in
+    either (a .x) (a .y) (getD (a .text .now) i 0) ≡ true → FirstAt (a .x) (a .y) (a .text .now) (a .at) (a .to) i
+hit c e = let s = c .before .before in found (c .before) (here (s .args .x) (s .args .y) (s .args .text .now) _ (s .args .to) (c .loop-test .taken) (s .pre .1) e)
 
 pub first-of-spec : {M : Type 1} → statement M
 first-of-spec =
-    tie.close (tie.spec Inv-loop μ-loop loop-holds shared-slice-read-b returns returns-2 add-i loop-less loop-again returns-3)
+    tie.close
+    (tie.spec
+    Inv-loop
+    μ-loop
+    (λ c. (omega arith, omega arith, refl))
+    (λ c. omega arith)
+    (λ c. let turn = c .before .before in let a = turn .before .before .args in hit turn (is-x (a .x) (a .y) _ (c .if1 .taken)))
+    (λ c. let turn = c .before .before .before in let a = turn .before .before .args in hit turn (is-y (a .x) (a .y) _ (c .if2 .taken)))
+    (λ c. omega arith)
+    (λ c. omega arith)
+    (λ c.
+    let turn = c .before .before .before in
+    let l = turn .before .loop in
+    let s = turn .before .before in
+    let a = s .args in
+    let n = later (a .x) (a .y) (a .text .now) (l .i) (a .to) (turn .loop-test .taken) (s .pre .1) (neither (a .x) (a .y) _ (c .before .if1 .left) (c .if2 .left)) in
+    (omega arith, omega arith, omega (arith, n, l .inv .2)))
+    (λ c. let a = c .before .before .args in found (c .before) (over (a .x) (a .y) (a .text .now) _ (a .to) (c .loop-test .left))))

@@ -9,18 +9,6 @@ use Rattle.numbers.proofs.Rows.{value-says, first-broken, second-row}
 use Rattle.numbers.proofs.decimals.mantissa.Statement.{statement}
 use Rattle.numbers.proofs.decimals.mantissa.Tie as tie
 
-digits-from-requires : tie.Need-digits-from-requires
-digits-from-requires c κs = search needs
-
-enum-told : tie.Need-enum-told
-enum-told c = search needs
-
-enum-known-a : tie.Need-enum-known-a
-enum-known-a c = search needs
-
-add-digits-from : tie.Need-add-digits-from
-add-digits-from c = search needs
-
 digits-from-requires-2 : tie.Need-digits-from-requires-2
 digits-from-requires-2 c κs =
     let d = c .before .before .before in
@@ -44,4 +32,12 @@ returns-2 c =
 
 pub mantissa-spec : {M : Type 1} → statement M
 mantissa-spec =
-    tie.close (tie.spec digits-from-requires enum-told enum-known-a add-digits-from digits-from-requires-2 returns returns-2)
+    tie.close
+    (tie.spec
+    (λ c κs. search needs)
+    (λ c. search needs)
+    (λ c. search needs)
+    (λ c. search needs)
+    digits-from-requires-2
+    returns
+    returns-2)

@@ -12,18 +12,6 @@ use Rattle.numbers.proofs.Tokens.{some-bytes}
 use Rattle.numbers.proofs.decimals.power_at.Statement.{statement}
 use Rattle.numbers.proofs.decimals.power_at.Tie as tie
 
-returns : tie.Need-returns
-returns c = let a = c .before .before .args in ap (powerOf (a .down)) (sym (slice-none (a .at) (a .to) (a .text .now) (c .if1 .taken)))
-
-digits-from-requires : tie.Need-digits-from-requires
-digits-from-requires c κs = search needs
-
-enum-told : tie.Need-enum-told
-enum-told c = search needs
-
-enum-known-d : tie.Need-enum-known-d
-enum-known-d c = search needs
-
 -- with a digit at least, the power is what was counted
 some : (c : tie.After-digits-from) → let a = c .before .before .before .args in counted (a .down) (c .digits-from .result) ≡ powerOf (a .down) (slice (a .at) (a .to) (a .text .now))
 some c =
@@ -33,11 +21,13 @@ some c =
     ap (counted (a .down)) (c .digits-from .ensures)
     ∙ sym (ap (λ (b : Bool). pick b Wrong (counted (a .down) (digitsOf 0 l))) (some-bytes (a .at) (a .to) (a .text .now) (c .before .if1 .left) (z .pre .1)))
 
-returns-2 : tie.Need-returns-2
-returns-2 c = let d = c .before .before in ap (counted (d .before .before .before .args .down)) (sym (c .enum-told .given .1)) ∙ some d
-
-returns-3 : tie.Need-returns-3
-returns-3 c = let d = c .before .before .before in ap (counted (d .before .before .before .args .down)) (sym (c .before .d .given .1)) ∙ some d
-
 pub power-at-spec : {M : Type 1} → statement M
-power-at-spec = tie.close (tie.spec returns digits-from-requires enum-told enum-known-d returns-2 returns-3)
+power-at-spec =
+    tie.close
+    (tie.spec
+    (λ c. let a = c .before .before .args in ap (powerOf (a .down)) (sym (slice-none (a .at) (a .to) (a .text .now) (c .if1 .taken))))
+    (λ c κs. search needs)
+    (λ c. search needs)
+    (λ c. search needs)
+    (λ c. let d = c .before .before in ap (counted (d .before .before .before .args .down)) (sym (c .enum-told .given .1)) ∙ some d)
+    (λ c. let d = c .before .before .before in ap (counted (d .before .before .before .args .down)) (sym (c .before .d .given .1)) ∙ some d))

@@ -6,20 +6,14 @@ use Rattle.text_form.specs.Numbers.{realNumber}
 use Rattle.numbers.proofs.decimals.short_real.Statement.{statement}
 use Rattle.numbers.proofs.decimals.short_real.Tie as tie
 
-scaled-or-beyond-requires : tie.Need-scaled-or-beyond-requires
-scaled-or-beyond-requires c κs = search needs
-
-real-of-requires : tie.Need-real-of-requires
-real-of-requires c κs = search needs
-
-token-of-requires : tie.Need-token-of-requires
-token-of-requires c κs = search needs
-
-returns : tie.Need-returns
-returns c =
+pub short-real-spec : {M : Type 1} → statement M
+short-real-spec =
+    tie.close
+    (tie.spec
+    (λ c κs. search needs)
+    (λ c κs. search needs)
+    (λ c κs. search needs)
+    (λ c.
     let r = c .before in
     let a = r .before .before .args in
-    c .token-of .ensures ∙ ap (realNumber (a .single)) (r .real-of .ensures (a .place) ∙ r .before .scaled-or-beyond .ensures (a .place))
-
-pub short-real-spec : {M : Type 1} → statement M
-short-real-spec = tie.close (tie.spec scaled-or-beyond-requires real-of-requires token-of-requires returns)
+    c .token-of .ensures ∙ ap (realNumber (a .single)) (r .real-of .ensures (a .place) ∙ r .before .scaled-or-beyond .ensures (a .place))))

@@ -25,38 +25,17 @@ under s m e t = let h : m ≤ 2 ^ 63 - 1 = leb-true m (2 ^ 63 - 1) (subst (λ (b
 
 minus-one : (m : ℕ) → negsuc 0 -ℤ pos m ≡ negsuc m
 minus-one zero = refl
-minus-one (suc k) = ap negsuc (over k)
-  where
-    over : (k : ℕ) → suc (0 + k) ≡ suc k
-    over k = omega arith
-
-less : (m : ℕ) → m ≤ 2 ^ 63 → (m ≡ 0 → ⊥) → m - 1 < 2 ^ 63
-less m h n = omega arith
+minus-one (suc k) = let e : suc (0 + k) ≡ suc k = omega arith in ap negsuc e
 
 negated : (m : ℕ) → m - 1 < 2 ^ 63 → negsuc 0 -ℤ toZ w64 (m - 1) ≡ negsuc (m - 1)
 negated m h = ap (λ (z : ℤ). negsuc 0 -ℤ z) (toZ-pos w64 (m - 1) h) ∙ minus-one (m - 1)
 
 is-minus : (m : ℕ) → (m ≡ 0 → ⊥) → negsuc (m - 1) ≡ signed true m
 is-minus zero h = absurd (h refl)
-is-minus (suc k) h = ap negsuc (pred k)
-  where
-    pred : (k : ℕ) → suc k - 1 ≡ k
-    pred k = omega arith
+is-minus (suc k) h = let e : suc k - 1 ≡ k = omega arith in ap negsuc e
 
 small : (c : tie.Else2) → c .before .before .args .m - 1 < 2 ^ 63
-small c = let a = c .before .before in less (a .args .m) (most (a .args .negative) (a .args .m) (a .pre) (c .before .if1 .taken)) (c .if2 .left)
-
-returns : tie.Need-returns
-returns c = simp (c .before .if1 .taken, c .if2 .taken)
-
-sub-result : tie.Need-sub-result
-sub-result c = search needs
-
-cast-result : tie.Need-cast-result
-cast-result c = record { sfits = small c }
-
-sub-result-2 : tie.Need-sub-result-2
-sub-result-2 c = subst (λ (z : ℤ). SFits w64 z) (sym (negated (c .before .before .args .m) (small c))) (record { sfits = small c })
+small c = let a = c .before .before in omega (arith, most (a .args .negative) (a .args .m) (a .pre) (c .before .if1 .taken), c .if2 .left)
 
 returns-2 : tie.Need-returns-2
 returns-2 c =
@@ -66,13 +45,19 @@ returns-2 c =
     ∙ is-minus m (c .if2 .left)
     ∙ ap (λ (b : Bool). signed b m) (sym (c .before .if1 .taken))
 
-cast-result-2 : tie.Need-cast-result-2
-cast-result-2 c = let a = c .before in record { sfits = under (a .args .negative) (a .args .m) (a .pre) (c .if1 .left) }
-
 returns-3 : tie.Need-returns-3
 returns-3 c =
     let a = c .before in
     toZ-pos w64 (a .args .m) (under (a .args .negative) (a .args .m) (a .pre) (c .if1 .left)) ∙ ap (λ (b : Bool). signed b (a .args .m)) (sym (c .if1 .left))
 
 pub signed-i64-spec : {M : Type 1} → statement M
-signed-i64-spec = tie.close (tie.spec returns sub-result cast-result sub-result-2 returns-2 cast-result-2 returns-3)
+signed-i64-spec =
+    tie.close
+    (tie.spec
+    (λ c. simp (c .before .if1 .taken, c .if2 .taken))
+    (λ c. search needs)
+    (λ c. record { sfits = small c })
+    (λ c. subst (λ (z : ℤ). SFits w64 z) (sym (negated (c .before .before .args .m) (small c))) (record { sfits = small c }))
+    returns-2
+    (λ c. let a = c .before in record { sfits = under (a .args .negative) (a .args .m) (a .pre) (c .if1 .left) })
+    returns-3)

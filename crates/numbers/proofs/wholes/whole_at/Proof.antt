@@ -3,9 +3,9 @@
 use borrow.Author.Needs.{needs}
 use borrow.Author.Tests.{le-leb, lt-leb}
 use mathlib.Core.Path.{_≡_, sym, ap, _∙_}
-use mathlib.Core.Bool.{Bool, true, false}
+use mathlib.Core.Bool.{Bool, true}
 use mathlib.Core.List.{List}
-use Prim.Native.Nat.{ℕ, _-_, _^_, _≤_, _<_, min}
+use Prim.Native.Nat.{ℕ, _-_, _^_, _≤_, min}
 use native.Mathlib.Omega.{arith}
 use lib.Dec.{leb}
 use lib.Seq.{slice}
@@ -19,79 +19,68 @@ use Rattle.numbers.proofs.Tokens.{some-bytes}
 use Rattle.numbers.proofs.wholes.whole_at.Statement.{statement}
 use Rattle.numbers.proofs.wholes.whole_at.Tie as tie
 
-returns : tie.Need-returns
-returns c = let a = c .before .before .args in ap (wholeDigits (a .negative)) (sym (slice-none (a .from) (a .to) (a .text .now) (c .if1 .taken)))
+-- the digits that were read, and the beginning
+abbrev counted-of : tie.After-d → tie.After-digits-from
+counted-of c = c .before .before
 
-digits-from-requires : tie.Need-digits-from-requires
-digits-from-requires c κs = search needs
+abbrev start-of : tie.After-digits-from → tie.Start
+start-of c = c .before .before .before
 
-enum-told : tie.Need-enum-told
-enum-told c = search needs
+abbrev begun-of : tie.After-d → tie.Start
+begun-of c = start-of (counted-of c)
 
-enum-known-d : tie.Need-enum-known-d
-enum-known-d c = search needs
-
--- the bytes that are read
 bytes : (a : tie.Start) → List ℕ
 bytes a = slice (a .args .from) (a .args .to) (a .args .text .now)
 
 -- in the arm of a value: its digits and its number
-says : (c : tie.After-d) → (digits (bytes (c .before .before .before .before .before)) ≡ true) × (c .d .given .0 .0 ≡ min (worth 0 (bytes (c .before .before .before .before .before))) cap)
+says : (c : tie.After-d) → let l = bytes (begun-of c) in (digits l ≡ true) × (c .d .given .0 .0 ≡ min (worth 0 l) cap)
 unfolding bytes
-says c = value-says 0 (c .d .given .0 .0) _ (sym (c .d .given .1) ∙ c .before .before .digits-from .ensures)
+says c = value-says 0 (c .d .given .0 .0) _ (sym (c .d .given .1) ∙ counted-of c .digits-from .ensures)
 
--- a value within the range of its sign
-good : (s : Bool) (c : tie.After-d) → c .d .given .0 .0 ≤ 2 ^ 63 → leb (worth 0 (bytes (c .before .before .before .before .before))) (pick s (2 ^ 63) (2 ^ 63 - 1)) ≡ true
-    → Value (c .d .given .0 .0) ≡ wholeDigits s (bytes (c .before .before .before .before .before))
+-- the test of its range, by the sign
+ranged : (c : tie.After-d) {s t : Bool} → begun-of c .args .negative ≡ s → let w = worth 0 (bytes (begun-of c)) in
+    leb w (pick s (2 ^ 63) (2 ^ 63 - 1)) ≡ t → leb w (pick (begun-of c .args .negative) (2 ^ 63) (2 ^ 63 - 1)) ≡ t
+ranged c e l = ap (λ (s : Bool). leb (worth 0 (bytes (begun-of c))) (pick s (2 ^ 63) (2 ^ 63 - 1))) e ∙ l
+
+-- a value within it
+good : (c : tie.After-d) → let a = begun-of c in c .d .given .0 .0 ≤ 2 ^ 63 → leb (worth 0 (bytes a)) (pick (a .args .negative) (2 ^ 63) (2 ^ 63 - 1)) ≡ true
+    → Value (c .d .given .0 .0) ≡ wholeDigits (a .args .negative) (bytes a)
 unfolding bytes
-good s c h l =
-    let a = c .before .before .before .before .before in
+good c h l =
+    let a = begun-of c in
     let w = says c in
-    whole-is s (bytes a) (c .d .given .0 .0) (some-bytes (a .args .from) (a .args .to) (a .args .text .now) (c .before .before .before .if1 .left) (a .pre .1)) (w .0) l
-    (uncapped (worth 0 (bytes a)) (c .d .given .0 .0) (w .1) h)
+    let some = some-bytes (a .args .from) (a .args .to) (a .args .text .now) (counted-of c .before .if1 .left) (a .pre .1) in
+    whole-is (a .args .negative) (bytes a) (c .d .given .0 .0) some (w .0) l (uncapped (worth 0 (bytes a)) (c .d .given .0 .0) (w .1) h)
 
-returns-2 : tie.Need-returns-2
-unfolding bytes
-returns-2 c =
-    let d = c .before .before in
-    let a = d .before .before .before .before .before in
-    whole-far (a .args .negative) (bytes a) (past (a .args .negative) (worth 0 (bytes a)) (d .d .given .0 .0) (says d .1) (c .if2 .taken))
-
-returns-3 : tie.Need-returns-3
-unfolding bytes
-returns-3 c =
-    let d = c .before .before .before in
-    let a = d .before .before .before .before .before in
-    let e : worth 0 (bytes a) ≤ 2 ^ 63 = omega (arith, says d .1, c .before .if2 .left) in
-    good true d (c .before .if2 .left) (le-leb (worth 0 (bytes a)) (2 ^ 63) e) ∙ ap (λ (s : Bool). wholeDigits s (bytes a)) (sym (c .if3 .taken))
-
-returns-4 : tie.Need-returns-4
-unfolding bytes
-returns-4 c =
-    let at-known-told = c .before .before .before in
-    let at-d = at-known-told .before in
-    let d = at-d in
-    let a = d .before .before .before .before .before in
-    let e : 2 ^ 63 - 1 < worth 0 (bytes a) = omega (arith, says d .1, c .if4 .taken) in
-    whole-far false (bytes a) (lt-leb (worth 0 (bytes a)) (2 ^ 63 - 1) e) ∙ ap (λ (s : Bool). wholeDigits s (bytes a)) (sym (c .before .if3 .left))
-
-returns-5 : tie.Need-returns-5
-returns-5 c =
-    let at-else1 = c .before .before .before in
-    let start = at-else1 .before .before in
-    let a = start .args in
-    whole-none (a .negative) _ (bad-says 0 (slice (a .from) (a .to) (a .text .now)) (sym (c .enum-told .given .1) ∙ c .before .before .digits-from .ensures))
-
-returns-6 : tie.Need-returns-6
-unfolding bytes
-returns-6 c =
-    let at-known-told = c .before .before .before in
-    let at-d = at-known-told .before in
-    let d = at-d in
-    let a = d .before .before .before .before .before in
-    let e : worth 0 (bytes a) ≤ 2 ^ 63 - 1 = omega (arith, says d .1, c .if4 .left) in
-    good false d (c .before .before .if2 .left) (le-leb (worth 0 (bytes a)) (2 ^ 63 - 1) e) ∙ ap (λ (s : Bool). wholeDigits s (bytes a)) (sym (c .before .if3 .left))
+-- the value has been tested against the greatest magnitude
+abbrev value-of : tie.Else3 → tie.After-d
+value-of c = c .before .before .before
 
 pub whole-at-spec : {M : Type 1} → statement M
 whole-at-spec =
-    tie.close (tie.spec returns digits-from-requires enum-told enum-known-d returns-2 returns-3 returns-4 returns-5 returns-6)
+    tie.close
+    (tie.spec
+    (λ c. let a = c .before .before .args in ap (wholeDigits (a .negative)) (sym (slice-none (a .from) (a .to) (a .text .now) (c .if1 .taken))))
+    (λ c κs. search needs)
+    (λ c. search needs)
+    (λ c. search needs)
+    (λ c. unfold bytes in
+    let d = c .before .before in
+    let a = begun-of d in
+    whole-far (a .args .negative) (bytes a) (past (a .args .negative) (worth 0 (bytes a)) (d .d .given .0 .0) (says d .1) (c .if2 .taken)))
+    (λ c. unfold bytes in
+    let d = c .before .before .before in
+    let l = c .before .if2 .left in
+    good d l (ranged d (c .if3 .taken) (le-leb (worth 0 (bytes (begun-of d))) (2 ^ 63) (omega (arith, says d .1, l)))))
+    (λ c. unfold bytes in
+    let d = value-of (c .before) in
+    let a = begun-of d in
+    whole-far (a .args .negative) (bytes a) (ranged d (c .before .if3 .left) (lt-leb (worth 0 (bytes a)) (2 ^ 63 - 1) (omega (arith, says d .1, c .if4 .taken)))))
+    (λ c.
+    let d = c .before .before in
+    let a = start-of d .args in
+    whole-none (a .negative) _ (bad-says 0 (slice (a .from) (a .to) (a .text .now)) (sym (c .enum-told .given .1) ∙ d .digits-from .ensures)))
+    (λ c. unfold bytes in
+    let e = c .before in
+    let d = value-of e in
+    good d (e .before .if2 .left) (ranged d (e .if3 .left) (le-leb (worth 0 (bytes (begun-of d))) (2 ^ 63 - 1) (omega (arith, says d .1, c .if4 .left))))))
