@@ -2,7 +2,7 @@
 use tikfazrul::{parse, read, token, Stops, Token};
 
 const PAGE: &str = include_str!("../../docs/ROUNDING.md");
-const CODE: &str = include_str!("../../crates/floats/src/nearest.rt");
+const CODE: &str = include_str!("../../crates/snbt_floats/src/nearest.rt");
 
 /// The whole numbers of a line, whose digits may have commas between them.
 fn numbers(line: &str) -> Vec<i64> {

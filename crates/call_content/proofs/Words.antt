@@ -7,9 +7,9 @@ use mathlib.Core.Bool.{not}
 use lib.Dec.{eqb}
 use lib.ListN.{length}
 use Rattle.form.specs.Writing.{Gives}
-use Rattle.text_form.specs.Lexing as lexing
-use Rattle.contents.specs.declared.Contents.{Contents}
-use Rattle.contents.specs.Answers.{contentOut}
+use Rattle.snbt_form.specs.Lexing as lexing
+use Rattle.snbt_contents.specs.declared.Contents.{Contents}
+use Rattle.snbt_contents.specs.Answers.{contentOut}
 use Rattle.calls.specs.Calls.{ContentCalled}
 
 module _ (t : List ℕ) (a e x : ℕ) (o o′ : List ℕ) {r : Contents} (h : Gives (lexing.content t a e (not (eqb x 0)) (length o)) o (contentOut r) o′) where

@@ -1,10 +1,10 @@
 // The moves of stored lines under the promises of their C names: each fills eight words that the caller lends (include/tikfazrul.h).
 ghost use mathlib.Core.Path.{_≡_};
 ghost use Rattle.form.specs.Moved.{eight, nine};
-ghost use Rattle.store.specs.Steps.{answerOut};
+ghost use Rattle.table_store.specs.Steps.{answerOut};
 ghost use Rattle.calls.specs.Words.{countWords};
 ghost use Rattle.calls.specs.Calls.{MoveCalled};
-use store::Answer;
+use table_store::Answer;
 
 // The words of an answer: how many bytes were written, or the number and the place of the refusal.
 fn answered(given: Answer, answer: &mut [u64; 8])
@@ -27,12 +27,12 @@ fn answered(given: Answer, answer: &mut [u64; 8])
 pub fn lines_up(doc_len: usize, lines: &[u8], out: &mut [u8], answer: &mut [u64; 8])
     ensures { λ _. ⌜ MoveCalled eight «doc_len» (now (lines .entry)) (now (out .entry)) (now (out .exit)) (now (answer .exit)) ⌝ }
 {
-    answered(moves::lines_up(doc_len, lines, out), answer);
+    answered(table_moves::lines_up(doc_len, lines, out), answer);
 }
 
 // Moves lines of nine words to lines of eight ([8]).
 pub fn lines_down(doc_len: usize, lines: &[u8], out: &mut [u8], answer: &mut [u64; 8])
     ensures { λ _. ⌜ MoveCalled nine «doc_len» (now (lines .entry)) (now (out .entry)) (now (out .exit)) (now (answer .exit)) ⌝ }
 {
-    answered(moves::lines_down(doc_len, lines, out), answer);
+    answered(table_moves::lines_down(doc_len, lines, out), answer);
 }

@@ -3,7 +3,7 @@
 use Prim.Native.Nat.{ℕ}
 use mathlib.Core.Path.{_≡_, refl}
 use mathlib.Core.List.{List, [], _∷_}
-use Rattle.text_form.specs.Text.{ParseIs}
+use Rattle.snbt_form.specs.Text.{ParseIs}
 use Rattle.snbt.specs.declared.Parsed.{Parsed}
 use Rattle.snbt.specs.Answers.{parsedOut}
 use Rattle.calls.specs.Calls.{ParseCalled}

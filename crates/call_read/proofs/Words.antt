@@ -4,8 +4,8 @@ use Prim.Native.Nat.{ℕ}
 use mathlib.Core.Path.{_≡_, refl}
 use mathlib.Core.List.{List, [], _∷_}
 use Rattle.form.specs.Reading.{ReadIs}
-use Rattle.reader.specs.declared.Answer.{Answer}
-use Rattle.reader.specs.Steps.{readOut}
+use Rattle.nbt_reader.specs.declared.Answer.{Answer}
+use Rattle.nbt_reader.specs.Steps.{readOut}
 use Rattle.calls.specs.Calls.{ReadCalled}
 
 pub read-accepted : (doc t t′ : List ℕ) {r : Answer} {c n : ℕ} → r ≡ Answer.Accepted c n → ReadIs doc t (readOut r) t′

@@ -4,8 +4,8 @@ use Prim.Native.Nat.{ℕ}
 use mathlib.Core.Path.{_≡_, ap}
 use mathlib.Core.List.{List, [], _∷_}
 use Rattle.form.specs.Cut.{RescueIs}
-use Rattle.rescue.specs.declared.Answer.{Answer}
-use Rattle.rescue.specs.Answers.{rescueOut}
+use Rattle.nbt_rescue.specs.declared.Answer.{Answer}
+use Rattle.nbt_rescue.specs.Answers.{rescueOut}
 use Rattle.calls.specs.Words.{rescueWords}
 use Rattle.calls.specs.Calls.{RescueCalled}
 

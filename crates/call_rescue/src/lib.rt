@@ -12,11 +12,11 @@ pub fn rescue(
 )
     ensures { λ _. ⌜ RescueCalled form (now (doc .entry)) (now (table .entry)) (now (table .exit)) (now (out .entry)) (now (out .exit)) (now (changes .entry)) (now (changes .exit)) (now (answer .exit)) ⌝ }
 {
-    match rescue::rescue(doc, table, out, changes) {
-        rescue::Answer::Saved { bytes, lines } => {
+    match nbt_rescue::rescue(doc, table, out, changes) {
+        nbt_rescue::Answer::Saved { bytes, lines } => {
             *answer = [0, 0, bytes as u64, lines as u64, 0, 0, 0, 0];
         }
-        rescue::Answer::Refused {
+        nbt_rescue::Answer::Refused {
             number: refusal,
             place: at,
             count: many,

@@ -4,8 +4,8 @@ use Prim.Native.Nat.{ℕ}
 use mathlib.Core.Path.{_≡_, refl}
 use mathlib.Core.List.{List, [], _∷_}
 use Rattle.form.specs.Stored.{WriteLinesIs, ReadLinesIs}
-use Rattle.store.specs.declared.Answer.{Answer}
-use Rattle.store.specs.Steps.{answerOut}
+use Rattle.table_store.specs.declared.Answer.{Answer}
+use Rattle.table_store.specs.Steps.{answerOut}
 use Rattle.calls.specs.Calls.{WriteLinesCalled, ReadLinesCalled}
 
 module _ (d : ℕ) (t o o′ : List ℕ) {r : Answer} (h : WriteLinesIs d t o (answerOut r) o′) where

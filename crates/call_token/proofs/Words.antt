@@ -8,10 +8,10 @@ use mir.Syntax.{w64}
 use mir.Val.{toZ, ofZ, SFits}
 use mir.ValLaws.{toZ-ofZ}
 use Rattle.form.specs.Numbers.{bitsOf}
-use Rattle.text_form.specs.Lexing.{Stops, lexed}
-use Rattle.tokens.specs.Answers.{tokenIs, lexedOut}
-use Rattle.tokens.specs.declared.TokenData.{TokenData}
-use Rattle.tokens.specs.declared.Lexed.{Lexed}
+use Rattle.snbt_form.specs.Lexing.{Stops, lexed}
+use Rattle.snbt_tokens.specs.Answers.{tokenIs, lexedOut}
+use Rattle.snbt_tokens.specs.declared.TokenData.{TokenData}
+use Rattle.snbt_tokens.specs.declared.Lexed.{Lexed}
 use Rattle.calls.specs.Words.{tokenKind, carriedFirst, carriedSecond, stopsOf}
 use Rattle.calls.specs.Calls.{TokenCalled}
 

@@ -1,12 +1,12 @@
 // A token under the promise of its C name: it fills eight words that the caller lends (include/tikfazrul.h).
 ghost use mathlib.Core.Path.{_≡_};
-ghost use Rattle.tokens.specs.Answers.{tokenIs, stopsIs};
-ghost use Rattle.tokens.specs.Quiet.{Quiet};
+ghost use Rattle.snbt_tokens.specs.Answers.{tokenIs, stopsIs};
+ghost use Rattle.snbt_tokens.specs.Quiet.{Quiet};
 ghost use Rattle.calls.specs.Words.{tokenKind, carriedFirst, carriedSecond, stopsOf};
 ghost use Rattle.calls.specs.Calls.{TokenCalled};
-use tokens::Lexed;
-use tokens::Stops;
-use tokens::Token;
+use snbt_tokens::Lexed;
+use snbt_tokens::Stops;
+use snbt_tokens::Token;
 
 // The number of a token in an answer.
 fn token_kind(token: Token) -> u64
@@ -115,7 +115,7 @@ fn stops_of(n: u32) -> Stops
 pub fn token(text: &[u8], start: usize, stops: u32, answer: &mut [u64; 8])
     ensures { λ _. ⌜ TokenCalled (now (text .entry)) start stops (now (answer .exit)) ⌝ }
 {
-    match lexer::token(text, start, stops_of(stops)) {
+    match snbt_lexer::token(text, start, stops_of(stops)) {
         Lexed::Found { data, next } => {
             let token = data.token;
             let index = data.index;

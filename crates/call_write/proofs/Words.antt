@@ -3,8 +3,8 @@
 use Prim.Native.Nat.{ℕ}
 use mathlib.Core.Path.{_≡_, refl}
 use mathlib.Core.List.{List, [], _∷_}
-use Rattle.writer.specs.declared.Answer.{Answer}
-use Rattle.writer.specs.Steps.{answerOut, WroteIs}
+use Rattle.nbt_writer.specs.declared.Answer.{Answer}
+use Rattle.nbt_writer.specs.Steps.{answerOut, WroteIs}
 use Rattle.calls.specs.Calls.{WriteCalled}
 
 pub write-accepted : (doc t t′ o o′ : List ℕ) {r : Answer} {n : ℕ} → r ≡ Answer.Written n → WroteIs doc t t′ o (answerOut r) o′

@@ -5,11 +5,11 @@ ghost use Rattle.calls.specs.Calls.{WriteCalled};
 pub fn write(doc: &[u8], table: &mut [u32], out: &mut [u8], answer: &mut [u64; 8])
     ensures { λ _. ⌜ WriteCalled (now (doc .entry)) (now (table .entry)) (now (table .exit)) (now (out .entry)) (now (out .exit)) (now (answer .exit)) ⌝ }
 {
-    match writer::write(doc, table, out) {
-        writer::Answer::Written { bytes } => {
+    match nbt_writer::write(doc, table, out) {
+        nbt_writer::Answer::Written { bytes } => {
             *answer = [0, 0, bytes as u64, 0, 0, 0, 0, 0];
         }
-        writer::Answer::Refused {
+        nbt_writer::Answer::Refused {
             number: refusal,
             place: record,
         } => {

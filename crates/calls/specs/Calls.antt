@@ -17,9 +17,9 @@ use Rattle.form.specs.Cut.{rescuing, sizesOf, bytesAfter, linesAfter}
 use Rattle.form.specs.Stored.{WriteLinesIs, readingLines, recordsOf, wordsAfter}
 use Rattle.form.specs.Moved.{Edition, MoveIs}
 use Rattle.form.specs.Query.{Count, QueryIs}
-use Rattle.text_form.specs.Lexing.{lexed, content}
-use Rattle.text_form.specs.Text as text
-use Rattle.text_form.specs.Text.{parsed, lengthsOf}
+use Rattle.snbt_form.specs.Lexing.{lexed, content}
+use Rattle.snbt_form.specs.Text as text
+use Rattle.snbt_form.specs.Text.{parsed, lengthsOf}
 use Rattle.calls.specs.Words.{accepted, refusal, verdictWords, readWords, countWords, rescueWords, queryWords, tokenWords, stopsOf, parseWords}
 
 -- A check of a string of some coding, whose refusal has the number n: accepted exactly if the bytes are the encoding of some scalar

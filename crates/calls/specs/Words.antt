@@ -13,9 +13,9 @@ use Rattle.form.specs.Query.{Count, counted, failed}
 use Rattle.form.specs.Cut as cut
 use Rattle.form.specs.Cut.{Sizes, sizes}
 use Rattle.form.specs.Numbers.{bitsOf}
-use Rattle.text_form.specs.Numbers.{byte, short, int, long, float, double}
-use Rattle.text_form.specs.Lexing.{Stops, default, key, value, first, later, Token, openCurly, closedCurly, openSquare, closedSquare, comma, colon, semicolon, string, numeral, Lexed, found, ended}
-use Rattle.text_form.specs.Text.{Lengths}
+use Rattle.snbt_form.specs.Numbers.{byte, short, int, long, float, double}
+use Rattle.snbt_form.specs.Lexing.{Stops, default, key, value, first, later, Token, openCurly, closedCurly, openSquare, closedSquare, comma, colon, semicolon, string, numeral, Lexed, found, ended}
+use Rattle.snbt_form.specs.Text.{Lengths}
 
 -- A call that is accepted with nothing to say but that.
 abbrev pub accepted : List ℕ

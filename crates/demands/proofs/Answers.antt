@@ -4,7 +4,7 @@ use Prim.Native.Nat.{ℕ}
 use mathlib.Core.Bool.{Bool, true, false}
 use mathlib.Core.Path.{_≡_, refl, subst}
 use Rattle.form.specs.Answer.{Out, got, no, guard, _>>_, _>>=_}
-use Rattle.text_form.specs.Lexing.{among}
+use Rattle.snbt_form.specs.Lexing.{among}
 use Rattle.demands.specs.Numbers.{readNumbers}
 
 -- a value of which P holds, or a refusal whose number R allows

@@ -11,7 +11,7 @@ use Rattle.form.specs.Tables.{firstKind}
 use Rattle.form.specs.Reading.{hasName, byteAt, bytesAt, numberAt, stringAt, countAt, arrayAt, leafAt, leafOne, listHeadAt}
 use Rattle.form.specs.Reading.{entryAt, elements, entries, listAt, compoundAt, containerAt, payloadBy, insideAt, documentAt}
 use Rattle.form.specs.Cut.{keptElements, keptEntries, begunAt, keptOf, rescued}
-use Rattle.text_form.specs.Lexing.{hexOf}
+use Rattle.snbt_form.specs.Lexing.{hexOf}
 use Rattle.demands.specs.Marked.{ascii, bytesIn}
 use Rattle.demands.specs.Cuts.{examples, AreCutExamples}
 

@@ -30,9 +30,9 @@ use Rattle.form.proofs.Table.{over-length, flat-length, size-one}
 use Rattle.form.proofs.Payloads.{room-fits}
 use Rattle.form.proofs.Outcomes.{same-list, both, in-each-case}
 use Rattle.form.proofs.Stored.{fitting-got}
-use Rattle.text_form.specs.Lexing.{among, Lexed, found, ended, judgedText, onCharacter, lexed, contentOf, content}
-use Rattle.text_form.specs.Text.{Block, parsed, documentOf, lengthsOf}
-use Rattle.text_form.specs.Text as text
+use Rattle.snbt_form.specs.Lexing.{among, Lexed, found, ended, judgedText, onCharacter, lexed, contentOf, content}
+use Rattle.snbt_form.specs.Text.{Block, parsed, documentOf, lengthsOf}
+use Rattle.snbt_form.specs.Text as text
 use Rattle.calls.specs.Words.{refusal, readWords, countWords, rescueWords, queryWords, tokenWords, stopsOf, parseWords, verdictWords}
 use Rattle.calls.specs.Calls.{StringCalled, ReadCalled, TableCalled, WriteCalled, RescueCalled, WriteLinesCalled, ReadLinesCalled, MoveCalled, QueryCalled, TokenCalled, ContentCalled, ParseCalled}
 use Rattle.demands.specs.Reading.{Bytes}

@@ -16,9 +16,9 @@ use Rattle.form.specs.Writing.{written, Gives}
 use Rattle.form.specs.Cut as cut
 use Rattle.form.specs.Cut.{Kept, Rescue, saved, keptOf, rescued, rescuing, sizesOf, bytesAfter, linesAfter}
 use Rattle.form.proofs.Payloads.{room-le}
-use Rattle.text_form.specs.Text.{Block, parsed, documentOf, lengthsOf}
-use Rattle.text_form.specs.Text as text
-use Rattle.text_form.specs.Lexing.{among}
+use Rattle.snbt_form.specs.Text.{Block, parsed, documentOf, lengthsOf}
+use Rattle.snbt_form.specs.Text as text
+use Rattle.snbt_form.specs.Lexing.{among}
 use Rattle.calls.specs.Words.{readWords, countWords, rescueWords, parseWords}
 use Rattle.calls.specs.Calls.{ReadCalled, WriteCalled, RescueCalled, ParseCalled}
 use Rattle.demands.specs.Reading.{Bytes}

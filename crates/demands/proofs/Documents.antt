@@ -13,7 +13,7 @@ use Rattle.form.specs.Tree.{compound, kindOf, tagCount, entriesCount, depth, Va
 use Rattle.form.specs.Layout.{stringBytes, Payload, Layout}
 use Rattle.form.specs.Table.{size, valueBy, entriesOf, valueOf}
 use Rattle.form.specs.Reading.{One, Span, byteAt, stringAt, documentAt}
-use Rattle.text_form.specs.Lexing.{among}
+use Rattle.snbt_form.specs.Lexing.{among}
 use Rattle.demands.specs.Reading.{Bytes, Sound}
 use Rattle.demands.proofs.Sits.{Sits, sits-first, sits-rest, sits-join}
 use Rattle.demands.proofs.Answers.{Answers, Accepted, Numbered, bind-answers, guard-answers, weaker}

@@ -9,7 +9,7 @@ use Rattle.form.specs.Layout.{entryBytes, layout}
 use Rattle.form.specs.Table.{size, width, flat, valueBy, entriesOf}
 use Rattle.form.specs.Reading.{hasName, byteAt, bytesAt, numberAt, stringAt, leafAt, leafOne, entryAt, entries, compoundAt, containerAt, payloadBy, insideAt, documentAt}
 use Rattle.form.specs.Writing.{stringFine, payloadFine, judged, written}
-use Rattle.text_form.specs.Lexing.{hexOf}
+use Rattle.snbt_form.specs.Lexing.{hexOf}
 use Rattle.demands.specs.Marked.{ascii, bytesIn}
 use Rattle.demands.specs.Examples.{examples, AreWorked}
 

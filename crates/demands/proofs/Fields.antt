@@ -21,7 +21,7 @@ use Rattle.form.proofs.Spans.{part-length}
 use Rattle.form.proofs.Fields.{byte-got, number-got, string-got}
 use Rattle.form.proofs.Digits.{digits-length, value-digits-below}
 use Rattle.form.proofs.Places.{value-bytes}
-use Rattle.text_form.specs.Lexing.{among}
+use Rattle.snbt_form.specs.Lexing.{among}
 use Rattle.demands.specs.Reading.{Bytes}
 use Rattle.demands.proofs.Sits.{Sits, sits-first, sits-rest, sits-join, sits-part, sits-head, sits-byte}
 use Rattle.demands.proofs.Answers.{Answers, Numbered, bind-answers, guard-answers, got-answers}

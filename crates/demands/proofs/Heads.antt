@@ -16,7 +16,7 @@ use Rattle.form.specs.Layout.{stringBytes, ListId, listId}
 use Rattle.form.specs.Reading.{Span, ListHead, Entry, end, named, byteAt, numberAt, stringAt, entryAt, listHeadAt}
 use Rattle.form.proofs.Picks.{differ, and-left, and-right}
 use Rattle.form.proofs.Fields.{entry-got, list-head-empty, list-head-got}
-use Rattle.text_form.specs.Lexing.{among}
+use Rattle.snbt_form.specs.Lexing.{among}
 use Rattle.demands.specs.Reading.{Bytes}
 use Rattle.demands.proofs.Sits.{Sits, sits-join, sits-rest, sits-head}
 use Rattle.demands.proofs.Answers.{Answers, Numbered, bind-answers, guard-answers, got-answers}

@@ -14,11 +14,11 @@ use Rattle.form.specs.Reading.{elements, entries, listAt, compoundAt, container
 use Rattle.form.specs.Writing.{stringFine, payloadFine, judged, written}
 use Rattle.form.specs.Paths.{oneThen, someTail, fits, tagPaths, itemPaths, entryPaths, paths, which, matches}
 use Rattle.form.specs.Query.{stepBy, stepAt, stepsAt, spelt, shallow, asked}
-use Rattle.text_form.specs.Numbers.{has, before, behind, digits as decimalDigits, worth, wholeOf, wholeNumber, decimalOf, decimalNumber, number}
-use Rattle.text_form.specs.Lexing.{among, after, slurp, word, hexOf, hexes, escapeOf, quotedBy, quoted, skipBy, skip, unquotedAt}
-use Rattle.text_form.specs.Lexing.{quotedAt, tokenBy, tokenAt, judgedText, lexed, frontOf, scalarsBy, contentOf, content}
-use Rattle.text_form.specs.Text.{known, due, following, stringOf, scalarTag, scalarValue, intsBy, arrayAt as textArrayAt, elementsBy, listFrom, listAt as textListAt, squareAt}
-use Rattle.text_form.specs.Text.{keyOf, colonAt, closeAt, entryAt as textEntryAt, entriesBy, compoundAt as textCompoundAt, valueBy as textValueBy, valueAt, parsed}
+use Rattle.snbt_form.specs.Numbers.{has, before, behind, digits as decimalDigits, worth, wholeOf, wholeNumber, decimalOf, decimalNumber, number}
+use Rattle.snbt_form.specs.Lexing.{among, after, slurp, word, hexOf, hexes, escapeOf, quotedBy, quoted, skipBy, skip, unquotedAt}
+use Rattle.snbt_form.specs.Lexing.{quotedAt, tokenBy, tokenAt, judgedText, lexed, frontOf, scalarsBy, contentOf, content}
+use Rattle.snbt_form.specs.Text.{known, due, following, stringOf, scalarTag, scalarValue, intsBy, arrayAt as textArrayAt, elementsBy, listFrom, listAt as textListAt, squareAt}
+use Rattle.snbt_form.specs.Text.{keyOf, colonAt, closeAt, entryAt as textEntryAt, entriesBy, compoundAt as textCompoundAt, valueBy as textValueBy, valueAt, parsed}
 use Rattle.demands.specs.Marked.{ascii, bytesIn, records, AreMarked}
 
 pub marked : AreMarked

@@ -19,16 +19,16 @@ use Rattle.form.specs.Tree.{Tag, Tags, Entries, nil, more, entry, kindOf, many,
 use Rattle.form.specs.Layout.{stringBytes, intBytes, intsBytes, payload, elementBytes, entryBytes}
 use Rattle.form.proofs.Answer.{guard-got}
 use Rattle.form.proofs.Digits.{digits-length}
-use Rattle.text_form.specs.Numbers.{Number, byte, short, int, long, float, double}
-use Rattle.text_form.specs.Lexing.{among, Stops, default, key, value, first, later, Token, openCurly, closedCurly, openSquare, closedSquare, comma}
-use Rattle.text_form.specs.Lexing.{colon, semicolon, string, numeral, TokenData, Lexed, found, ended, tokenAt, contentOf, judgedText}
-use Rattle.text_form.specs.Text.{Value, Row, Ints, Block, Next, Then, goesOn, closes, Last, otherwise, afterComma, noComma, Reads, signOf, orElse, inRange, ranged, numberTag, arrayWidth}
-use Rattle.text_form.specs.Text.{wholeIn, elementInt, arrayTag, known, due, following, stringOf, scalarTag, scalarValue, intsBy, arrayAt, elementsBy, listFrom, listAt, letterWidth, Opened}
-use Rattle.text_form.specs.Text.{anArray, aList, withSemicolon, openedBy, squareAt, keyOf, colonAt, closeAt, behind, entryAt, entriesBy, compoundAt, valueBy, valueAt, parsed}
-use Rattle.text_form.proofs.Gives.{Gives, gives-got, gives-no, gives-bind, gives-guard, gives-then, gives-pick, gives-elim, gives-also, gives-all}
-use Rattle.text_form.proofs.Contents.{content-formed}
-use Rattle.text_form.proofs.Carried.{double-bits, single-bits}
-use Rattle.text_form.proofs.Tokens.{TokenHeld, whole-any, LexedFine, NextFine, token-fine, or-fine, due-fine}
+use Rattle.snbt_form.specs.Numbers.{Number, byte, short, int, long, float, double}
+use Rattle.snbt_form.specs.Lexing.{among, Stops, default, key, value, first, later, Token, openCurly, closedCurly, openSquare, closedSquare, comma}
+use Rattle.snbt_form.specs.Lexing.{colon, semicolon, string, numeral, TokenData, Lexed, found, ended, tokenAt, contentOf, judgedText}
+use Rattle.snbt_form.specs.Text.{Value, Row, Ints, Block, Next, Then, goesOn, closes, Last, otherwise, afterComma, noComma, Reads, signOf, orElse, inRange, ranged, numberTag, arrayWidth}
+use Rattle.snbt_form.specs.Text.{wholeIn, elementInt, arrayTag, known, due, following, stringOf, scalarTag, scalarValue, intsBy, arrayAt, elementsBy, listFrom, listAt, letterWidth, Opened}
+use Rattle.snbt_form.specs.Text.{anArray, aList, withSemicolon, openedBy, squareAt, keyOf, colonAt, closeAt, behind, entryAt, entriesBy, compoundAt, valueBy, valueAt, parsed}
+use Rattle.snbt_form.proofs.Gives.{Gives, gives-got, gives-no, gives-bind, gives-guard, gives-then, gives-pick, gives-elim, gives-also, gives-all}
+use Rattle.snbt_form.proofs.Contents.{content-formed}
+use Rattle.snbt_form.proofs.Carried.{double-bits, single-bits}
+use Rattle.snbt_form.proofs.Tokens.{TokenHeld, whole-any, LexedFine, NextFine, token-fine, or-fine, due-fine}
 use Rattle.demands.specs.Numbers.{parseNumbers}
 use Rattle.form.proofs.Picks.{differ, and-right}
 use Rattle.demands.proofs.Tags.{kind-range}

@@ -24,7 +24,7 @@ use Rattle.form.proofs.Eight.{narrow-flat}
 use Rattle.form.proofs.Stored.{no-lines, each-none, each-bad, each-good, good-long, fitting-fits}
 use Rattle.form.proofs.Moved.{flat-in-length, flat-in-sits, flat-in-under, formed, records-of, formed-length, movable-lines, movable-large}
 use Rattle.form.proofs.Decided.{in-each-move}
-use Rattle.text_form.specs.Lexing.{among}
+use Rattle.snbt_form.specs.Lexing.{among}
 use Rattle.calls.specs.Words.{countWords}
 use Rattle.calls.specs.Calls.{MoveCalled}
 use Rattle.demands.specs.Marked.{ascii}

@@ -20,10 +20,10 @@ use Rattle.form.specs.Stored.{TextLine, tableLines, fitting, storing, linesIn, 
 use Rattle.form.specs.Query.{blamed, stepBy, stepAt, stepsAt, spelt, shallow, asked, Answered, matched, refused, within, failed, countOf}
 use Rattle.form.proofs.Outcomes.{both, in-each-case}
 use Rattle.form.proofs.Strings.{wellFormed-iff}
-use Rattle.text_form.specs.Lexing.{among, onCharacter, judgedText, lexed, tokenAt, contentOf, content}
-use Rattle.text_form.proofs.Gives.{among-all, Gives, Any, gives-got, gives-no, gives-bind, gives-guard, gives-test, gives-then, gives-elim, gives-also, gives-number, gives-all}
-use Rattle.text_form.proofs.Contents.{content-formed}
-use Rattle.text_form.proofs.Tokens.{whole-any, token-held}
+use Rattle.snbt_form.specs.Lexing.{among, onCharacter, judgedText, lexed, tokenAt, contentOf, content}
+use Rattle.snbt_form.proofs.Gives.{among-all, Gives, Any, gives-got, gives-no, gives-bind, gives-guard, gives-test, gives-then, gives-elim, gives-also, gives-number, gives-all}
+use Rattle.snbt_form.proofs.Contents.{content-formed}
+use Rattle.snbt_form.proofs.Tokens.{whole-any, token-held}
 use Rattle.demands.specs.Numbers.{writtenNumbers, writeNumbers, writeLinesNumbers, readLinesNumbers, askedNumbers, withinNumbers, queryNumbers, tokenNumbers, contentNumbers}
 use Rattle.demands.specs.Numbers.{IsReadNumbers, IsWriteNumbers, IsWriteRefusals, IsWriteLinesRefusals, IsReadLinesNumbers, IsQueryNumbers, IsWithinNumbers, IsQueryRefusals}
 use Rattle.demands.specs.Numbers.{IsTokenNumbers, IsContentNumbers, IsParseNumbers}

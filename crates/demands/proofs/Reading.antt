@@ -15,7 +15,7 @@ use Rattle.form.specs.Tree.{entriesCount}
 use Rattle.form.specs.Layout.{entryBytes, layout}
 use Rattle.form.specs.Table.{valueOf}
 use Rattle.form.specs.Reading.{One, documentAt}
-use Rattle.text_form.specs.Lexing.{among}
+use Rattle.snbt_form.specs.Lexing.{among}
 use Rattle.demands.specs.Reading.{IsSound, IsComplete, IsUnambiguous, IsCanonical, IsNeverZero}
 use Rattle.demands.proofs.Sits.{Sits, sits-front}
 use Rattle.demands.proofs.Answers.{guard-answers, accepted, of-got}

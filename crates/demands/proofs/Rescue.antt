@@ -26,8 +26,8 @@ use Rattle.form.proofs.Agrees.{Agrees, agrees-got, agrees-other}
 use Rattle.form.proofs.Accepted.{root-parts}
 use Rattle.form.proofs.Payloads.{payload-name}
 use Rattle.form.proofs.Rooms.{document-agrees, kept-more}
-use Rattle.text_form.specs.Lexing.{among}
-use Rattle.text_form.proofs.Gives.{among-all}
+use Rattle.snbt_form.specs.Lexing.{among}
+use Rattle.snbt_form.proofs.Gives.{among-all}
 use Rattle.demands.specs.Reading.{Bytes, Complete}
 use Rattle.demands.specs.Numbers.{readNumbers, rescueNumbers, IsRescueNumbers}
 use Rattle.demands.specs.Rescue.{Whole, SameBut, IsRescuedWhen, IsRescuedLawful, IsRescuedRead, IsRescuedLong, IsRescuedWritten, IsRescuedLined, IsRescuedAll}

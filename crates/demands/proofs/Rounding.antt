@@ -12,13 +12,13 @@ use lib.IntN.{ℤ, pos, negsuc, natAbs}
 use lib.Ieee.{Float, nan, inf, fin, Format, binary32, binary64, prec, emax, low, up, down, odd, units, round, ofBits, toBits, ofInt}
 use lib.Ieee.Fits.{down-pos, round-is}
 use Rattle.form.specs.Answer.{got, pick}
-use Rattle.text_form.specs.Values.{scaled}
-use Rattle.text_form.specs.Lexing.{among}
-use Rattle.text_form.specs.Nearest.{Rounded}
-use Rattle.text_form.specs.Numbers.{byte, short, int, long, float, double, isLetter, suffixed, number}
-use Rattle.text_form.proofs.Gives.{Gives, ofNumber, gives-got, gives-no, gives-pick, gives-it}
-use Rattle.text_form.proofs.Carried.{Carries, number-carries}
-use Rattle.text_form.proofs.Nearest as nearest
+use Rattle.snbt_form.specs.Values.{scaled}
+use Rattle.snbt_form.specs.Lexing.{among}
+use Rattle.snbt_form.specs.Nearest.{Rounded}
+use Rattle.snbt_form.specs.Numbers.{byte, short, int, long, float, double, isLetter, suffixed, number}
+use Rattle.snbt_form.proofs.Gives.{Gives, ofNumber, gives-got, gives-no, gives-pick, gives-it}
+use Rattle.snbt_form.proofs.Carried.{Carries, number-carries}
+use Rattle.snbt_form.proofs.Nearest as nearest
 use Rattle.demands.specs.Rounding.{IsOneRounding, belowZero, IsWholeRounded, IsWholeZero, numerator, denominator, IsNearestRounded, IsDecimalRounded}
 use Rattle.demands.specs.Rounding.{IsSingleRounded, IsSingleInfinite, IsNeverNan, AreWholeTies, IsTenth, AreSingleEdges, AreWrongRefused}
 

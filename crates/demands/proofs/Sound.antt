@@ -17,7 +17,7 @@ use Rattle.form.specs.Table.{Forest, none, node, size, _⊕_, holds, valueBy, t
 use Rattle.form.specs.Reading.{One, Run, Inside, Span, ListHead, Entry, end, named, heldOne, before, hasName, entryAt, listHeadAt}
 use Rattle.form.specs.Reading.{leafAt, leafOne, elements, entries, listAt, compoundAt, containerAt, payloadBy, insideAt}
 use Rattle.form.proofs.Digits.{digits-length}
-use Rattle.text_form.specs.Lexing.{among}
+use Rattle.snbt_form.specs.Lexing.{among}
 use Rattle.demands.specs.Reading.{Bytes}
 use Rattle.demands.proofs.Sits.{Sits, sits-join, sits-nil}
 use Rattle.demands.proofs.Answers.{Answers, Numbered, bind-answers, guard-answers, got-answers, no-answers}

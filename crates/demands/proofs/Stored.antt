@@ -27,7 +27,7 @@ use Rattle.form.proofs.Tables.{table-length}
 use Rattle.form.proofs.Stored as laws
 use Rattle.form.proofs.Stored.{word-digits-length, word-digits-all, words-length, digits-back, words-small, no-lines, digits-line, Behind, first-line}
 use Rattle.form.proofs.Stored.{each-none, each-bad, each-full, each-good, Accepted, accepted, is-good, good-ended, good-long, good-digits, fitting-fits, fitting-got}
-use Rattle.text_form.specs.Lexing.{among}
+use Rattle.snbt_form.specs.Lexing.{among}
 use Rattle.calls.specs.Words.{countWords}
 use Rattle.calls.specs.Calls.{WriteLinesCalled, ReadLinesCalled}
 use Rattle.demands.specs.Marked.{ascii}

@@ -20,10 +20,10 @@ use Rattle.form.proofs.Answer.{got-no}
 use Rattle.form.proofs.Strings.{utf8-judged}
 use Rattle.form.proofs.Places.{part-over}
 use Rattle.form.proofs.Table.{over-length}
-use Rattle.text_form.specs.Lexing.{among}
-use Rattle.text_form.specs.Lexing.{judgedText}
-use Rattle.text_form.specs.Text.{documentOf, outputAfter}
-use Rattle.text_form.proofs.Gives.{gives-it}
+use Rattle.snbt_form.specs.Lexing.{among}
+use Rattle.snbt_form.specs.Lexing.{judgedText}
+use Rattle.snbt_form.specs.Text.{documentOf, outputAfter}
+use Rattle.snbt_form.proofs.Gives.{gives-it}
 use Rattle.demands.specs.Texts.{TextJudged, IsTextJudged, IsLawfulText, IsTextFills, IsTextConsumed, IsTextOutput, IsTextReadBack, IsTextNeverZero, IsOneTextAnswer}
 use Rattle.demands.proofs.Meant.{parsed-fine}
 use Rattle.demands.proofs.Numbers.{parse-numbers}

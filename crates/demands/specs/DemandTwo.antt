@@ -15,7 +15,7 @@ use Rattle.form.specs.Tables.{IsTable, Within}
 use Rattle.form.specs.Reading.{roomOf}
 use Rattle.form.specs.Cut as cut
 use Rattle.form.specs.Cut.{Kept, keptOf, lineWords}
-use Rattle.text_form.specs.Text.{Block, parsed, documentOf}
+use Rattle.snbt_form.specs.Text.{Block, parsed, documentOf}
 use Rattle.calls.specs.Calls.{ReadCalled, WriteCalled, RescueCalled, ParseCalled}
 use Rattle.demands.specs.Reading.{Bytes}
 use Rattle.demands.specs.Writing.{tableValue}

@@ -15,9 +15,9 @@ use Rattle.form.specs.Table.{none, node, flat}
 use Rattle.form.specs.Reading.{One, documentAt}
 use Rattle.form.specs.Writing.{written}
 use Rattle.form.specs.Query.{asked}
-use Rattle.text_form.specs.Numbers.{byte, short, int, long, float, double}
-use Rattle.text_form.specs.Lexing.{Stops, default, later, hexOf, Token, openCurly, closedCurly, openSquare, closedSquare, comma, colon, semicolon, string, numeral, Lexed, found, ended, lexed, content}
-use Rattle.text_form.specs.Text.{Block, parsed, documentOf}
+use Rattle.snbt_form.specs.Numbers.{byte, short, int, long, float, double}
+use Rattle.snbt_form.specs.Lexing.{Stops, default, later, hexOf, Token, openCurly, closedCurly, openSquare, closedSquare, comma, colon, semicolon, string, numeral, Lexed, found, ended, lexed, content}
+use Rattle.snbt_form.specs.Text.{Block, parsed, documentOf}
 
 -- The bytes of an ASCII text.
 unfoldable pub ascii : text.String → List ℕ

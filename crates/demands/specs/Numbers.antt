@@ -15,8 +15,8 @@ use Rattle.form.specs.Cut.{rescued}
 use Rattle.form.specs.Stored.{badLine, WriteLinesIs, linesIn, linesRead}
 use Rattle.form.specs.Moved.{Edition, MoveIs}
 use Rattle.form.specs.Query.{asked, refused, within, Count, failed, QueryIs}
-use Rattle.text_form.specs.Lexing.{among, Stops, lexed, content}
-use Rattle.text_form.specs.Text.{parsed}
+use Rattle.snbt_form.specs.Lexing.{among, Stops, lexed, content}
+use Rattle.snbt_form.specs.Text.{parsed}
 use Rattle.demands.specs.Reading.{Bytes}
 
 -- ---- reading

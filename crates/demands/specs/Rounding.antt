@@ -1,4 +1,4 @@
--- What is claimed of the roundings of rule 13: each is IEEE 754's, as the property that text_form's specs/Nearest.antt tells, which has
+-- What is claimed of the roundings of rule 13: each is IEEE 754's, as the property that snbt_form's specs/Nearest.antt tells, which has
 -- no algorithm in it and leaves one answer. The proofs are in proofs/Rounding.antt, under the names given here.
 -- Assumes nothing.
 use Prim.Native.Nat.{ℕ, suc, _-_, _*_, _^_, _<_}
@@ -9,9 +9,9 @@ use mathlib.Core.List.{List}
 use lib.IntN.{ℤ, pos, negsuc, natAbs}
 use lib.Ieee.{Float, nan, inf, fin, Format, binary32, binary64, up, down, ofBits, toBits, ofInt}
 use Rattle.form.specs.Answer.{got}
-use Rattle.text_form.specs.Values.{signed, nearestTo, scaled, toSingle}
-use Rattle.text_form.specs.Nearest.{Rounded}
-use Rattle.text_form.specs.Numbers.{float, double, suffixed, number}
+use Rattle.snbt_form.specs.Values.{signed, nearestTo, scaled, toSingle}
+use Rattle.snbt_form.specs.Nearest.{Rounded}
+use Rattle.snbt_form.specs.Numbers.{float, double, suffixed, number}
 
 -- ---- the property
 

@@ -10,8 +10,8 @@ use Rattle.form.specs.Answer.{Out, got, no, overLimit, badText, documentLimit, 
 use Rattle.form.specs.Strings.{WellFormedUtf8}
 use Rattle.form.specs.Tree.{Lawful, entriesCount}
 use Rattle.form.specs.Layout.{layout}
-use Rattle.text_form.specs.Lexing.{judgedText}
-use Rattle.text_form.specs.Text.{Block, parsed, documentOf, Lengths, ParseIs}
+use Rattle.snbt_form.specs.Lexing.{judgedText}
+use Rattle.snbt_form.specs.Text.{Block, parsed, documentOf, Lengths, ParseIs}
 use Rattle.demands.specs.Reading.{Complete}
 
 -- What is judged before any token, refusals 9 and 15, told by the declared UTF-8 (form/specs/Strings.antt) and not by its computed test.

@@ -2,7 +2,7 @@
 // document has at most 4,096 bytes and 512 records.
 use lines::Hex;
 use lines::Line;
-use reader::Answer;
+use nbt_reader::Answer;
 
 // One record: its number, kind, name length, payload length and count.
 fn print_record(table: &[u32], i: usize) {
@@ -46,7 +46,7 @@ fn print_answer(answer: Answer, table: &[u32]) {
 // The first n bytes as a document.
 fn print_document(doc: &[u8], n: usize, table: &mut [u32]) {
     if n <= doc.len() {
-        let answer = reader::read(&doc[..n], table);
+        let answer = nbt_reader::read(&doc[..n], table);
         print_answer(answer, table);
     }
 }

@@ -18,9 +18,9 @@ use Rattle.form.specs.Query.{spelt, shallow, asked, within, Count, counted, fai
 use Rattle.form.proofs.Table.{sets-over, size-one}
 use Rattle.form.proofs.Tables.{table-sits, table-length, fair-inner}
 use Rattle.form.proofs.Paths.{paths-length, which-length, tree-paths}
-use Rattle.steps.specs.Steps.{stepsFrom}
-use Rattle.steps.specs.Spelling.{TakenIs}
-use Rattle.steps.specs.declared.Taken.{Taken}
+use Rattle.query_steps.specs.Steps.{stepsFrom}
+use Rattle.query_steps.specs.Spelling.{TakenIs}
+use Rattle.query_steps.specs.declared.Taken.{Taken}
 use Rattle.query.specs.Found.{depthOut}
 use Rattle.query.specs.declared.Depth.{Depth}
 use Rattle.query.specs.declared.Depth.the-variants.{Fine, TooDeep}

@@ -16,16 +16,16 @@ use Rattle.form.specs.Records.{Stands, recordPaths}
 use Rattle.form.proofs.Tables.{sits-first, sits-inner, table-sits, fair-name, fair-inner}
 use Rattle.form.proofs.Depths.{shallow-parts}
 use Rattle.form.proofs.Paths.{tree-paths}
-use Rattle.steps.specs.Steps.{stepsFrom}
-use Rattle.steps.specs.declared.Query.{Query}
-use Rattle.reach.specs.Levels.{RecordIn}
-use Rattle.reach.specs.Reached.{lastOf}
-use Rattle.reach.specs.Sets.{has}
-use Rattle.reach.specs.Plans.{planned, Laid, Reaches}
+use Rattle.query_steps.specs.Steps.{stepsFrom}
+use Rattle.query_steps.specs.declared.Query.{Query}
+use Rattle.query_reach.specs.Levels.{RecordIn}
+use Rattle.query_reach.specs.Reached.{lastOf}
+use Rattle.query_reach.specs.Sets.{has}
+use Rattle.query_reach.specs.Plans.{planned, Laid, Reaches}
 use Rattle.query.specs.Sides.{Held, levelsBelow, Walkable}
 use Rattle.query.specs.Walks.{Walks, hit, goesIn, foundIn, Done}
-use Rattle.reach.proofs.Reached.{reaches-fits}
-use Rattle.reach.proofs.Plans.{laid-steps}
+use Rattle.query_reach.proofs.Reached.{reaches-fits}
+use Rattle.query_reach.proofs.Plans.{laid-steps}
 use Rattle.query.proofs.Levels.{levels-are, levels-low}
 use Rattle.query.proofs.Walking.{walks-then, one-more, which-first, passed-over}
 

@@ -15,13 +15,13 @@ use Rattle.form.specs.Table.{Forest, none, word}
 use Rattle.form.specs.Paths.{Hop, Step, fits, which}
 use Rattle.form.specs.Records.{recordPaths}
 use Rattle.form.proofs.Paths.{paths-length, which-append, which-below}
-use Rattle.reach.specs.Levels.{nameOf, hopTo, RecordIn}
-use Rattle.reach.specs.Reached.{lastOf}
-use Rattle.reach.specs.Sets.{has, goesOn}
-use Rattle.reach.specs.Plans.{planned, Reaches}
+use Rattle.query_reach.specs.Levels.{nameOf, hopTo, RecordIn}
+use Rattle.query_reach.specs.Reached.{lastOf}
+use Rattle.query_reach.specs.Sets.{has, goesOn}
+use Rattle.query_reach.specs.Plans.{planned, Reaches}
 use Rattle.query.specs.Sides.{Side, Held, levelsBelow, Walkable}
 use Rattle.query.specs.Walks.{putAt, noted, Walks, hit, goesIn, foundIn, Done}
-use Rattle.reach.proofs.Reached.{reaches-fits, reaches-off}
+use Rattle.query_reach.proofs.Reached.{reaches-fits, reaches-off}
 use Rattle.query.proofs.Sides.{First, first, side-none, one-side}
 use Rattle.query.proofs.Levels.{levels, levels-inner, levels-later, levels-are}
 

@@ -11,8 +11,8 @@ use Rattle.form.specs.Table.{Forest, size, word}
 use Rattle.form.specs.Tables.{Fair}
 use Rattle.form.specs.Paths.{Hop}
 use Rattle.form.specs.Records.{Sits}
-use Rattle.reach.specs.Levels.{RecordIn}
-use Rattle.reach.specs.Plans.{Reaches}
+use Rattle.query_reach.specs.Levels.{RecordIn}
+use Rattle.query_reach.specs.Plans.{Reaches}
 
 -- The records from `from` up to `end`, with those in them: they stand in the table, and are as rule 7 has them over a document of d bytes.
 pub record Side (d : ℕ) (t : List ℕ) (from end : ℕ) : Type 0 where

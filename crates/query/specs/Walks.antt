@@ -10,9 +10,9 @@ use Rattle.form.specs.Answer.{pick}
 use Rattle.form.specs.Table.{Forest, word}
 use Rattle.form.specs.Paths.{Hop, Step, fits, which}
 use Rattle.form.specs.Records.{recordPaths}
-use Rattle.reach.specs.Reached.{lastOf}
-use Rattle.reach.specs.Sets.{goesOn}
-use Rattle.reach.specs.Plans.{planned, Reaches}
+use Rattle.query_reach.specs.Reached.{lastOf}
+use Rattle.query_reach.specs.Sets.{goesOn}
+use Rattle.query_reach.specs.Plans.{planned, Reaches}
 use Rattle.query.specs.Sides.{Held}
 
 -- A match, v, put at place c of the list if there is room for it.

@@ -1,6 +1,6 @@
 // Rule 9 and demand 3: the numbers of the tags of a table that match a query. One walk in file order hands down from each record to those in
 // it the set of the steps that may come next, and passes over a record in which nothing can match.
-use steps::Query;
+use query_steps::Query;
 use table::Verdict;
 ghost use mathlib.Core.Path.{_≡_};
 ghost use Prim.Native.Nat.{ℕ, _*_, _≤_};
@@ -10,8 +10,8 @@ ghost use Rattle.form.specs.Table.{node, none, valueOf};
 ghost use Rattle.form.specs.Tables.{IsTable};
 ghost use Rattle.form.specs.Paths.{matches};
 ghost use Rattle.form.specs.Query.{shallow, asked, within, failed, Finds, QueryIs};
-ghost use Rattle.steps.specs.Steps.{stepsFrom, QueryIn};
-ghost use Rattle.reach.specs.Sets.{has as hasIn};
+ghost use Rattle.query_steps.specs.Steps.{stepsFrom, QueryIn};
+ghost use Rattle.query_reach.specs.Sets.{has as hasIn};
 ghost use Rattle.query.specs.Found.{foundCount, depthOut};
 ghost use Rattle.query.specs.Sides.{Side, Walkable};
 ghost use Rattle.query.specs.Walks.{Walks, hit, goesIn, Done};
@@ -66,7 +66,7 @@ fn note(list: &mut [u32], count: usize, set: u32, n: usize) -> usize
     requires { ⌜ (count ≤ recordLimit) × (n ≤ recordLimit) ⌝ }
     ensures { λ r. ⌜ Walks (hit (hasIn set 0) n) count (now (list .entry)) r (now (list .exit)) ⌝ }
 {
-    if !reach::has(set, 0) {
+    if !query_reach::has(set, 0) {
         return count;
     }
     if count < list.len() {
@@ -82,7 +82,7 @@ fn goes_in(set: u32, n: usize, end: usize) -> bool
     ensures { λ r. ⌜ r ≡ goesIn set n end ⌝ }
 {
     if n + 1 < end {
-        return reach::goes_on(set);
+        return query_reach::goes_on(set);
     }
     false
 }
@@ -93,7 +93,7 @@ fn visit_all(
     doc: &[u8],
     table: &[u32],
     q: &[u8],
-    plan: &[u32; reach::PLAN],
+    plan: &[u32; query_reach::PLAN],
     n: usize,
     set: u32,
     list: &mut [u32],
@@ -107,7 +107,7 @@ fn visit_all(
     let mut i = n + 1;
     let mut index: usize = 0;
     while i < end {
-        let own = reach::next(doc, table, q, plan, set, n, i, index);
+        let own = query_reach::next(doc, table, q, plan, set, n, i, index);
         more = note(list, more, own, i);
         let next = table::word(table, i, table::END);
         if goes_in(own, i, next) {
@@ -124,9 +124,9 @@ fn walk(doc: &[u8], table: &[u32], q: &[u8], query: Query, list: &mut [u32]) -> 
     requires { ⌜ ((i : IsTable (length (now doc)) (now table)) × (shallow depthLimit 0 (node (i .head) (i .inner) none) ≡ got tt)) × (length (now table) ≤ 9 * recordLimit) × (QueryIn (now q) query) ⌝ }
     ensures { λ r. ⌜ ((i : IsTable (length (now (doc .entry))) (now (table .entry))) → Walks (matches (valueOf (now (doc .entry)) (i .head) (i .inner)) (stepsFrom (now (q .entry)) query 0)) 0 (now (list .entry)) r (now (list .exit))) ⌝ }
 {
-    let mut plan = [0u32; reach::PLAN];
-    reach::lay(query, &mut plan);
-    let set = reach::start(&plan, query.count);
+    let mut plan = [0u32; query_reach::PLAN];
+    query_reach::lay(query, &mut plan);
+    let set = query_reach::start(&plan, query.count);
     let more = note(list, 0, set, 0);
     if goes_in(set, 0, table::word(table, 0, table::END)) {
         return visit_all(doc, table, q, &plan, 0, set, list, more);
@@ -147,7 +147,7 @@ fn ask(doc: &[u8], table: &[u32], q: &[u8], list: &mut [u32]) -> Found
         Depth::TooDeep(n) => return refused(form::TOO_DEEP, n),
         Depth::Fine => {}
     }
-    let taken = steps::take_apart(q);
+    let taken = query_steps::take_apart(q);
     let query = taken.query;
     if !taken.ok {
         return refused(form::BAD_QUERY, taken.place);

@@ -3,7 +3,7 @@
 // prints first. The answers in stdout are of a second reader: tests/replay/depths.py made them.
 use lines::Hex;
 use lines::Line;
-use reader::Answer;
+use nbt_reader::Answer;
 
 // The answer to a document.
 fn print_answer(answer: Answer) {
@@ -25,7 +25,7 @@ fn print_answer(answer: Answer) {
 // The answer to the first n bytes as a document.
 fn print_document(doc: &[u8], n: usize, table: &mut [u32]) {
     if n <= doc.len() {
-        print_answer(reader::read(&doc[..n], table));
+        print_answer(nbt_reader::read(&doc[..n], table));
     }
 }
 

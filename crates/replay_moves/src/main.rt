@@ -6,7 +6,7 @@
 // with AA before: that it was kept; else its bytes, after `U` and `D` with `/` for a line feed, a dash for each byte that was kept and all
 // digits as they are. The answers in stdout are of a second reading of the paper: tests/replay/moves.py made them.
 use lines::Line;
-use store::Answer;
+use table_store::Answer;
 
 // What stands in the output before.
 const FILLED: u8 = 0xAA;
@@ -79,9 +79,9 @@ fn print_output(plain: bool, out: &[u8]) {
 // The answer to lines, up or down.
 fn moved(up: bool, doc_len: usize, text: &[u8], out: &mut [u8]) -> Answer {
     if up {
-        return moves::lines_up(doc_len, text, out);
+        return table_moves::lines_up(doc_len, text, out);
     }
-    moves::lines_down(doc_len, text, out)
+    table_moves::lines_down(doc_len, text, out)
 }
 
 // The answer to lines over a document of so many bytes, and what moving them left in the output.

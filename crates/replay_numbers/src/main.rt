@@ -1,8 +1,8 @@
 // Replays recorded numbers: for each token of a line it prints the tag's kind and the 64 bits, of a float the single's 32 bits
 // too, or the refusal; for each double's bits the single's. The answers in stdout are Python's: tests/replay/numbers.py made them.
 use lines::Line;
-use numbers::Number;
-ghost use Rattle.numbers.specs.Answers.{quiet};
+use snbt_numbers::Number;
+ghost use Rattle.snbt_numbers.specs.Answers.{quiet};
 ghost use mathlib.Core.Bool.{not};
 ghost use Prim.Native.Nat.{_≤_};
 ghost use lib.Dec.{T};
@@ -24,7 +24,7 @@ fn print_float(x: f64)
     io::write_all(1, b"5 ");
     io::print_hex(1, f64::to_bits(x), 16);
     io::write_all(1, b" ");
-    io::print_hex(1, floats::single::f32_bits(x) as u64, 8);
+    io::print_hex(1, snbt_floats::single::f32_bits(x) as u64, 8);
     io::write_all(1, b"\n");
 }
 
@@ -80,7 +80,11 @@ fn print_single(bits: u64) {
         io::write_all(1, b"nan\n");
         return;
     }
-    io::print_hex(1, floats::single::f32_bits(f64::from_bits(bits)) as u64, 8);
+    io::print_hex(
+        1,
+        snbt_floats::single::f32_bits(f64::from_bits(bits)) as u64,
+        8,
+    );
     io::write_all(1, b"\n");
 }
 
@@ -98,7 +102,7 @@ fn print_line(line: &[u8], len: usize) {
         print_single(bits_in(line, 2, len));
         return;
     }
-    print_number(numbers::number_at(line, 2, len));
+    print_number(snbt_numbers::number_at(line, 2, len));
 }
 
 // Every line in turn. The turns are for the loop to be seen to end: no input uses them up.

@@ -4,7 +4,7 @@
 // AAAAAAAA before, as the table was, and every word of the table, or that each is 0. The answers in stdout are of a second rescue, which
 // goes forward with a stack of what is open: tests/replay/rescue.py made them.
 use lines::Line;
-use rescue::Answer;
+use nbt_rescue::Answer;
 
 // The answer to a rescue.
 fn print_answer(answer: Answer) {
@@ -33,7 +33,7 @@ fn print_answer(answer: Answer) {
 
 // The answer to a document, and what the rescue left.
 fn print_answers(doc: &[u8], table: &mut [u32], out: &mut [u8], changes: &mut [u32]) {
-    print_answer(rescue::rescue(doc, table, out, changes));
+    print_answer(nbt_rescue::rescue(doc, table, out, changes));
     lines::print_bytes(out);
     io::write_all(1, b";");
     lines::print_words(changes);

@@ -5,7 +5,7 @@
 // was filled with AAAAAAAA before, or that each is 0; after a writing the whole output, which was filled with AA before. The answers in
 // stdout are of a second reading of the paper: tests/replay/store.py made them.
 use lines::Line;
-use store::Answer;
+use table_store::Answer;
 
 // The answer to a reading or a writing.
 fn print_answer(answer: Answer) {
@@ -27,7 +27,7 @@ fn print_answer(answer: Answer) {
 
 // The answer to lines, and what reading them back left in the table.
 fn print_read(text: &[u8], table: &mut [u32]) {
-    print_answer(store::read_lines(text, table));
+    print_answer(table_store::read_lines(text, table));
     lines::print_table(table);
     io::write_all(1, b"\n");
 }
@@ -63,7 +63,7 @@ fn print_reading(
 
 // The answer to a table over a document of so many bytes, and what writing its lines left in the output.
 fn print_written(doc_len: usize, table: &[u32], out: &mut [u8]) {
-    print_answer(store::write_lines(doc_len, table, out));
+    print_answer(table_store::write_lines(doc_len, table, out));
     io::write_all(1, b" ");
     lines::print_bytes(out);
     io::write_all(1, b"\n");

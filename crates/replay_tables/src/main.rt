@@ -6,8 +6,8 @@
 ghost use mathlib.Core.Path.{_≡_};
 ghost use lib.ListN.{length};
 use lines::Line;
+use nbt_writer::Answer;
 use table::Verdict;
-use writer::Answer;
 
 // Whether the words form a table.
 fn print_verdict(verdict: Verdict) {
@@ -55,7 +55,7 @@ fn changed(bytes: &[u8], table: &[u32]) -> bool {
 // The answers to a table, and what the write left.
 fn print_answers(doc: &[u8], bytes: &[u8], table: &mut [u32], out: &mut [u8]) {
     print_verdict(table::is_table(doc.len(), table));
-    print_answer(writer::write(doc, table, out));
+    print_answer(nbt_writer::write(doc, table, out));
     lines::print_bytes(out);
     if changed(bytes, table) {
         io::write_all(1, b" changed");

@@ -2,12 +2,12 @@
 // 2 value, 3 first element, 4 later element), a start in decimal and a text in hexadecimal digits. For each line it prints the token's number
 // (1 to 15, as in include/tikfazrul.h), index, width, next place, and the bits of a number or the content of a string; the end and its place;
 // or a refusal. The answers in stdout are quartz_nbt's: tests/replay/tokens.py recorded them.
-use contents::Contents;
 use lines::Line;
-use tokens::Lexed;
-use tokens::Stops;
-use tokens::Token;
-ghost use Rattle.tokens.specs.Quiet.{Quiet};
+use snbt_contents::Contents;
+use snbt_tokens::Lexed;
+use snbt_tokens::Stops;
+use snbt_tokens::Token;
+ghost use Rattle.snbt_tokens.specs.Quiet.{Quiet};
 ghost use mathlib.Core.Bool.{not};
 ghost use lib.Dec.{T};
 ghost use lib.Ieee.{isNan};
@@ -43,7 +43,7 @@ fn print_front(out: &[u8], n: usize) {
 
 // The content of a string token.
 fn print_content(text: &[u8], start: usize, end: usize, quoted: bool, out: &mut [u8]) {
-    match contents::content(text, start, end, quoted, out) {
+    match snbt_contents::content(text, start, end, quoted, out) {
         Contents::Is { bytes } => print_front(out, bytes),
         Contents::Refused { number, place } => print_refusal(number, place),
     }
@@ -112,7 +112,7 @@ fn print_token(text: &[u8], token: Token, index: usize, width: usize, next: usiz
 
 // The answer to a text.
 fn print_lexed(text: &[u8], start: usize, set: Stops, out: &mut [u8]) {
-    match lexer::token(text, start, set) {
+    match snbt_lexer::token(text, start, set) {
         Lexed::Found { data, next } => {
             let token = data.token;
             let index = data.index;

@@ -11,11 +11,11 @@ use Rattle.form.specs.Tree as tree
 use Rattle.form.specs.Tree.{Entries, ended}
 use Rattle.form.specs.Layout.{payload}
 use Rattle.form.proofs.Table.{over-none, over-length, over-over}
-use Rattle.text_form.specs.Text.{Block, Then, goesOn, closes, Last, otherwise, afterComma, Reads, behind, closeAt, entriesBy, valueAt}
-use Rattle.keys.specs.Keys.{Kept, namesIn}
-use Rattle.keys.proofs.Runs.{kept-none}
-use Rattle.placing.specs.declared.Done.{Done}
-use Rattle.placing.specs.declared.Done.the-variants.{To, No}
+use Rattle.snbt_form.specs.Text.{Block, Then, goesOn, closes, Last, otherwise, afterComma, Reads, behind, closeAt, entriesBy, valueAt}
+use Rattle.snbt_keys.specs.Keys.{Kept, namesIn}
+use Rattle.snbt_keys.proofs.Runs.{kept-none}
+use Rattle.snbt_placing.specs.declared.Done.{Done}
+use Rattle.snbt_placing.specs.declared.Done.the-variants.{To, No}
 use Rattle.snbt_entries.specs.declared.Block.{Block as Open}
 use Rattle.snbt_entries.specs.declared.EntryTurn.{EntryTurn}
 use Rattle.snbt_entries.specs.Entries.{Entered, entryTurn, CloseIs}
@@ -23,7 +23,7 @@ use Rattle.snbt.specs.Turns.{inner, before, nameBefore, enteredBytes, Tu
 use Rattle.snbt.specs.Steps.{Grown, Closed, ParsedEntry, ParsedEntries, ParsedCompound}
 use Rattle.snbt.proofs.Reading.{joined, afterTurn, entries-turn, entries-known, compound-in, inner-is}
 use Rattle.snbt.proofs.Bytes.{_and_, laid, and-before, laid-before, laid-ended, compound-kind, compound-bytes}
-use Rattle.keys.proofs.Names.{names-none}
+use Rattle.snbt_keys.proofs.Names.{names-none}
 
 -- the entries so far, then the rest
 abbrev afterEntries : Entries → Out Block → Out Block

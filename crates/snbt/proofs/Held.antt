@@ -12,15 +12,15 @@ use Rattle.form.specs.Answer.{Out, got, _>>_, guard, mixedList}
 use Rattle.form.specs.Tree.{kindOf}
 use Rattle.form.specs.Layout.{payload}
 use Rattle.form.proofs.Table.{over-length}
-use Rattle.text_form.proofs.Moves.{token-moves}
-use Rattle.text_form.specs.Lexing.{Stops, TokenData, found, tokenAt}
-use Rattle.text_form.specs.Text.{Value, Reads, signOf, valueBy, valueAt, scalarValue}
-use Rattle.tokens.specs.Answers.{tokenIs}
-use Rattle.tokens.specs.declared.Token.{Token}
-use Rattle.tokens.proofs.Rests.{tagOf, other-sign}
-use Rattle.placing.specs.declared.Done.{Done}
-use Rattle.placing.specs.declared.Done.the-variants.{To, No}
-use Rattle.placing.specs.Done.{Did, Puts}
+use Rattle.snbt_form.proofs.Moves.{token-moves}
+use Rattle.snbt_form.specs.Lexing.{Stops, TokenData, found, tokenAt}
+use Rattle.snbt_form.specs.Text.{Value, Reads, signOf, valueBy, valueAt, scalarValue}
+use Rattle.snbt_tokens.specs.Answers.{tokenIs}
+use Rattle.snbt_tokens.specs.declared.Token.{Token}
+use Rattle.snbt_tokens.proofs.Rests.{tagOf, other-sign}
+use Rattle.snbt_placing.specs.declared.Done.{Done}
+use Rattle.snbt_placing.specs.declared.Done.the-variants.{To, No}
+use Rattle.snbt_placing.specs.Done.{Did, Puts}
 use Rattle.snbt_due.specs.Due.{valueFrom}
 use Rattle.snbt_due.proofs.Reading.{from-found}
 use Rattle.snbt_due.proofs.Steps.{met-at}

@@ -12,11 +12,11 @@ use Rattle.form.specs.Tree as tree
 use Rattle.form.specs.Tree.{Tag, Tags, nil, more, many}
 use Rattle.form.specs.Layout.{payload, elementBytes}
 use Rattle.form.proofs.Table.{over-none, over-length, over-over}
-use Rattle.text_form.specs.Lexing.{first, later}
-use Rattle.text_form.specs.Text.{Value, Row, Reads, arrayAt, elementsBy, squareAt, valueAt}
-use Rattle.placing.specs.declared.Done.{Done}
-use Rattle.placing.specs.declared.Done.the-variants.{To, No}
-use Rattle.placing.specs.Done.{Did, Agrees, Ahead, Wide, bytes, ints, longs}
+use Rattle.snbt_form.specs.Lexing.{first, later}
+use Rattle.snbt_form.specs.Text.{Value, Row, Reads, arrayAt, elementsBy, squareAt, valueAt}
+use Rattle.snbt_placing.specs.declared.Done.{Done}
+use Rattle.snbt_placing.specs.declared.Done.the-variants.{To, No}
+use Rattle.snbt_placing.specs.Done.{Did, Agrees, Ahead, Wide, bytes, ints, longs}
 use Rattle.snbt_due.specs.Due.{valueFrom}
 use Rattle.snbt_lists.specs.declared.NextElement.{NextElement}
 use Rattle.snbt_lists.specs.declared.Opened.{Opened}

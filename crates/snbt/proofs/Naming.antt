@@ -12,13 +12,13 @@ use Rattle.form.proofs.Places.{part-over}
 use Rattle.form.specs.Tree.{kindOf}
 use Rattle.form.specs.Layout.{payload, stringBytes}
 use Rattle.form.proofs.Table.{over-none, over-length, over-over}
-use Rattle.text_form.specs.Lexing.{value}
-use Rattle.text_form.specs.Text.{Then, goesOn, closes, Last, following, valueAt, known}
-use Rattle.keys.specs.Keys.{Kept, nameAt, namesIn, Named, Comes, Added}
-use Rattle.keys.proofs.Keys.{named-put, named-name, part-take}
-use Rattle.keys.proofs.Shifts.{take-less}
-use Rattle.keys.proofs.Runs.{kept-same, names-kept, free-same}
-use Rattle.placing.specs.Done.{Did}
+use Rattle.snbt_form.specs.Lexing.{value}
+use Rattle.snbt_form.specs.Text.{Then, goesOn, closes, Last, following, valueAt, known}
+use Rattle.snbt_keys.specs.Keys.{Kept, nameAt, namesIn, Named, Comes, Added}
+use Rattle.snbt_keys.proofs.Keys.{named-put, named-name, part-take}
+use Rattle.snbt_keys.proofs.Shifts.{take-less}
+use Rattle.snbt_keys.proofs.Runs.{kept-same, names-kept, free-same}
+use Rattle.snbt_placing.specs.Done.{Did}
 use Rattle.snbt_due.specs.Due.{valueFrom}
 use Rattle.snbt_entries.specs.declared.Block.{Block as Open}
 use Rattle.snbt_entries.specs.declared.EntryTurn.{EntryTurn}

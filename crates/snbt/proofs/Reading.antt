@@ -10,9 +10,9 @@ use lib.Dec.{eqb}
 use lib.ListN.{length}
 use Rattle.form.specs.Answer.{Out, got, no, _>>=_, _>>_, tooDeep, outputFull, unmatchedBrace}
 use Rattle.form.specs.Tree as tree
-use Rattle.text_form.specs.Lexing.{key, TokenData}
-use Rattle.text_form.specs.Text.{Value, Block, Next, Then, goesOn, closes, Last, otherwise, afterComma, noComma, Reads}
-use Rattle.text_form.specs.Text.{signOf, due, following, alike, known, keyOf, closeAt, behind, entryAt, entriesBy, squareAt, compoundAt, valueBy, valueAt, scalarValue}
+use Rattle.snbt_form.specs.Lexing.{key, TokenData}
+use Rattle.snbt_form.specs.Text.{Value, Block, Next, Then, goesOn, closes, Last, otherwise, afterComma, noComma, Reads}
+use Rattle.snbt_form.specs.Text.{signOf, due, following, alike, known, keyOf, closeAt, behind, entryAt, entriesBy, squareAt, compoundAt, valueBy, valueAt, scalarValue}
 use Rattle.snbt_due.proofs.Reading.{bind-cong}
 use Rattle.snbt_entries.specs.Entries.{Entered, stops, enters, turnBy, entryTurn}
 use Rattle.snbt.specs.Turns.{inner, thenOf, usedOf, before, nameBefore, blockValue, held}

@@ -15,12 +15,12 @@ use Rattle.form.specs.Tree as tree
 use Rattle.form.specs.Tree.{Tag, kindOf}
 use Rattle.form.specs.Layout.{payload}
 use Rattle.form.proofs.Digits.{digits-length}
-use Rattle.text_form.specs.Values.{toSingle}
-use Rattle.text_form.specs.Numbers.{Number, byte, short, int, long, float, double}
-use Rattle.text_form.specs.Lexing.{later, Token, openCurly, closedCurly, openSquare, closedSquare, comma, colon, semicolon, string, numeral, TokenData, Lexed, found, ended, tokenAt}
-use Rattle.text_form.specs.Text.{Value, Ints, Next, Last, otherwise, afterComma, noComma, signOf, orElse, inRange, numberTag, elementInt, arrayTag}
-use Rattle.text_form.specs.Text.{fits, due, stringOf, scalarTag, alike, scalarValue, intsBy, arrayAt}
-use Rattle.text_form.proofs.Moves.{Holds, holds-bind, from-got, token-moves}
+use Rattle.snbt_form.specs.Values.{toSingle}
+use Rattle.snbt_form.specs.Numbers.{Number, byte, short, int, long, float, double}
+use Rattle.snbt_form.specs.Lexing.{later, Token, openCurly, closedCurly, openSquare, closedSquare, comma, colon, semicolon, string, numeral, TokenData, Lexed, found, ended, tokenAt}
+use Rattle.snbt_form.specs.Text.{Value, Ints, Next, Last, otherwise, afterComma, noComma, signOf, orElse, inRange, numberTag, elementInt, arrayTag}
+use Rattle.snbt_form.specs.Text.{inRoom, due, stringOf, scalarTag, alike, scalarValue, intsBy, arrayAt}
+use Rattle.snbt_form.proofs.Moves.{Holds, holds-bind, from-got, token-moves}
 use Rattle.snbt_due.specs.Due.{Met}
 use Rattle.snbt_due.proofs.Sizes.{InToken, met-within, met-in, guard-any, Short, string-size}
 
@@ -74,10 +74,10 @@ module _ {t : List ℕ} {d : TokenData} {n : ℕ} (met : Met t d n) (room want u
   unfolding scalarValue
   scalar-holds =
       holds-bind P (scalarTag t room (d .token) (d .index))
-      (λ (tag : Tag). alike t room want tag (d .index) >> (fits t room (u + length (payload tag)) (d .index) >> made tag))
+      (λ (tag : Tag). alike t room want tag (d .index) >> (inRoom t room (u + length (payload tag)) (d .index) >> made tag))
       (λ tag g.
       let small = from-got (Small (d .index) n) _ tag (tag-size (d .index) n (met-within met .0) (d .index) t room (d .token) (met-in met)) g in
-      guard-any P (eqb want 0 || eqb (kindOf tag) want) 11 (d .index) (fits t room (u + length (payload tag)) (d .index) >> made tag)
+      guard-any P (eqb want 0 || eqb (kindOf tag) want) 11 (d .index) (inRoom t room (u + length (payload tag)) (d .index) >> made tag)
       (guard-any P (leb (u + length (payload tag)) room) 13 (d .index) (made tag) (refl, small)))
 
   -- A scalar ends with its token, and its payload is small.
@@ -119,7 +119,7 @@ module _ (t : List ℕ) (room w brace : ℕ) (wide : w ≤ 8) where
     theEnd = noComma last >> got (record { values = []; next = x .next; used = u })
 
     abbrev theInt : ℤ → Out Ints
-    theInt z = fits t room (u + w) (x .td .index) >> (intsBy t room f w brace otherwise (x .next) (u + w) >>= more z)
+    theInt z = inRoom t room (u + w) (x .td .index) >> (intsBy t room f w brace otherwise (x .next) (u + w) >>= more z)
 
     by-int : (z : ℤ) → Holds (Spent p u) (theInt z)
     by-int z =

@@ -18,14 +18,14 @@ use Rattle.form.specs.Layout.{payload, entryBytes, layout}
 use Rattle.form.proofs.Answer.{got-no}
 use Rattle.form.proofs.Picks.{lt-or}
 use Rattle.form.proofs.Table.{over-before}
-use Rattle.text_form.specs.Lexing.{default, TokenData, found, tokenAt, judgedText}
-use Rattle.text_form.specs.Text.{Value, Block, Reads, signOf, due, compoundAt, valueAt, parsed, ParseIs, lengthsOf, outputAfter, documentOf}
-use Rattle.text_keys.specs.Keys.{KeyRoom}
-use Rattle.tokens.specs.Answers.{tokenIs}
-use Rattle.tokens.specs.declared.Token.{Token}
-use Rattle.tokens.proofs.Rests.{tagOf, other-sign}
-use Rattle.placing.specs.declared.Done.{Done}
-use Rattle.placing.specs.declared.Done.the-variants.{To, No}
+use Rattle.snbt_form.specs.Lexing.{default, TokenData, found, tokenAt, judgedText}
+use Rattle.snbt_form.specs.Text.{Value, Block, Reads, signOf, due, compoundAt, valueAt, parsed, ParseIs, lengthsOf, outputAfter, documentOf}
+use Rattle.snbt_key_text.specs.Keys.{KeyRoom}
+use Rattle.snbt_tokens.specs.Answers.{tokenIs}
+use Rattle.snbt_tokens.specs.declared.Token.{Token}
+use Rattle.snbt_tokens.proofs.Rests.{tagOf, other-sign}
+use Rattle.snbt_placing.specs.declared.Done.{Done}
+use Rattle.snbt_placing.specs.declared.Done.the-variants.{To, No}
 use Rattle.snbt_due.proofs.Reading.{due-found}
 use Rattle.snbt.specs.Turns.{Ready, inner, blockValue, rootOf, Rooted}
 use Rattle.snbt.specs.Steps.{RootIs, ParsedCompound}

@@ -1,7 +1,7 @@
 -- The answer of a parse as that of the definitions (rules 14 and 15).
 -- Assumes nothing.
 use Rattle.form.specs.Answer.{Out, got, no}
-use Rattle.text_form.specs.Text.{Lengths}
+use Rattle.snbt_form.specs.Text.{Lengths}
 use Rattle.snbt.specs.declared.Parsed.{Parsed}
 use Rattle.snbt.specs.declared.Parsed.the-variants.{Document, Refused}
 

@@ -7,17 +7,17 @@ use mathlib.Core.List.{List, []}
 use lib.Dec.{eqb}
 use lib.ListN.{length, take}
 use Rattle.form.specs.Answer.{Out, no, mixedList}
-use Rattle.text_form.specs.Lexing.{Stops}
-use Rattle.text_form.specs.Text.{Value, Row, Block, goesOn, closes, Last, otherwise, elementsBy, squareAt, known, entriesBy, compoundAt, valueAt}
-use Rattle.placing.specs.declared.Done.{Done}
-use Rattle.placing.specs.declared.Done.the-variants.{To, No}
+use Rattle.snbt_form.specs.Lexing.{Stops}
+use Rattle.snbt_form.specs.Text.{Value, Row, Block, goesOn, closes, Last, otherwise, elementsBy, squareAt, known, entriesBy, compoundAt, valueAt}
+use Rattle.snbt_placing.specs.declared.Done.{Done}
+use Rattle.snbt_placing.specs.declared.Done.the-variants.{To, No}
 use Rattle.snbt_due.specs.Due.{valueFrom}
 use Rattle.snbt_entries.specs.Entries.{Entered, entryTurn}
 use Rattle.snbt_entries.specs.declared.Block.{Block as Open}
 use Rattle.snbt_entries.specs.declared.EntryTurn.{EntryTurn}
 use Rattle.snbt.specs.Turns.{Ran, inner, nameBefore, Turned, Went, blockValue, Rooted}
-use Rattle.keys.specs.Keys.{Kept, namesIn}
-use Rattle.placing.specs.Done.{Did}
+use Rattle.snbt_keys.specs.Keys.{Kept, namesIn}
+use Rattle.snbt_placing.specs.Done.{Did}
 use Rattle.snbt.specs.declared.values.Elements.{Elements}
 
 -- ---- one turn of a compound

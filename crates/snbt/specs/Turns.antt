@@ -10,10 +10,10 @@ use Rattle.form.specs.Spans.{over}
 use Rattle.form.specs.Tree as tree
 use Rattle.form.specs.Tree.{Entries, kindOf, many, entry}
 use Rattle.form.specs.Layout.{payload, elementBytes, stringBytes, layout}
-use Rattle.text_keys.specs.Keys.{KeyRoom}
+use Rattle.snbt_key_text.specs.Keys.{KeyRoom}
 use Rattle.snbt_entries.specs.Entries.{Entered, stops, enters}
-use Rattle.text_form.specs.Lexing.{default}
-use Rattle.text_form.specs.Text.{Value, Row, Block, Then, closes, Reads, signOf, due, alike, compoundAt, valueAt, documentOf}
+use Rattle.snbt_form.specs.Lexing.{default}
+use Rattle.snbt_form.specs.Text.{Value, Row, Block, Then, closes, Reads, signOf, due, alike, compoundAt, valueAt, documentOf}
 
 -- A text within its limit, room for a word for each three bytes of it, and room for a key.
 pub record Ready (t keys buffer : List ℕ) : Type 0 where

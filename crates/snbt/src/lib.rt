@@ -1,11 +1,11 @@
-// Rules 14 and 15: a text read into a document. Each function names the definition of text_form/specs/Text.antt that it meets.
+// Rules 14 and 15: a text read into a document. Each function names the definition of snbt_form/specs/Text.antt that it meets.
 // The cycle of values stands in values.rt; `scratch` lends it the least memory that a text needs.
 mod scratch;
 mod values;
 
-use placing::Done;
-use texts::Text;
-ghost use Rattle.text_form.specs.Text.{parsed, ParseIs};
+use snbt_placing::Done;
+use snbt_text::Text;
+ghost use Rattle.snbt_form.specs.Text.{parsed, ParseIs};
 ghost use Rattle.snbt.specs.Answers.{parsedOut};
 ghost use Rattle.snbt.specs.Steps.{RootIs};
 ghost use lib.ListN.{length};
@@ -20,7 +20,7 @@ pub enum Parsed {
 fn judged(text: &[u8], out: &mut [u8]) -> Done
     ensures { λ r. ⌜ RootIs (parsed (now (text .entry)) (length (now (out .entry)))) (now (out .entry)) r (now (out .exit)) ⌝ }
 {
-    if let Text::Refused { number } = texts::judged_text(text) {
+    if let Text::Refused { number } = snbt_text::judged_text(text) {
         return Done::No { number, place: 0 };
     }
     scratch::stepped(text, out, 512)

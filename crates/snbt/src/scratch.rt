@@ -1,18 +1,18 @@
 // A text that was judged, in scratch for its keys that is as large as it needs: an entry of the keys for each three bytes of the text.
 use crate::values;
 use form::kinds;
-use placing::Done;
 use snbt_due::Due;
-use tokens::Index;
-use tokens::Stops;
-use tokens::Token;
+use snbt_placing::Done;
+use snbt_tokens::Index;
+use snbt_tokens::Stops;
+use snbt_tokens::Token;
 ghost use mathlib.Core.Path.{_≡_};
 ghost use mathlib.Core.List.{[], _∷_};
 ghost use Prim.Native.Nat.{_-_, _≤_, _<_};
 ghost use lib.ListN.{length};
 ghost use Rattle.form.specs.Answer.{depthLimit};
 ghost use Rattle.form.specs.Spans.{over};
-ghost use Rattle.text_form.specs.Text.{compoundAt, valueAt};
+ghost use Rattle.snbt_form.specs.Text.{compoundAt, valueAt};
 ghost use Rattle.snbt.specs.Turns.{Ready, rootOf};
 ghost use Rattle.snbt.specs.Steps.{RootIs};
 

@@ -1,23 +1,23 @@
 // The cycle of rules 14 and 15: values, lists and compounds call each other, and the containers that may still be opened, from 512,
 // become one fewer at each opening brace. The names are those of snbt.rs in the crate.
-use arrays::parse_prim_list;
 use form::kinds;
-use placing::Done;
+use snbt_arrays::parse_prim_list;
 use snbt_entries::Block;
 use snbt_entries::EntryTurn;
 use snbt_entries::Key;
 use snbt_lists::NextElement;
 use snbt_lists::Opened;
-use tokens::Index;
-use tokens::Last;
-use tokens::Lexed;
-use tokens::Stops;
-use tokens::Token;
+use snbt_placing::Done;
+use snbt_tokens::Index;
+use snbt_tokens::Last;
+use snbt_tokens::Lexed;
+use snbt_tokens::Stops;
+use snbt_tokens::Token;
 ghost use mathlib.Core.Path.{_≡_};
 ghost use Prim.Native.Nat.{_+_, _*_, _≤_};
 ghost use lib.ListN.{length};
-ghost use Rattle.tokens.specs.Answers.{stopsIs, lastIs};
-ghost use Rattle.keys.specs.Keys.{Kept};
+ghost use Rattle.snbt_tokens.specs.Answers.{stopsIs, lastIs};
+ghost use Rattle.snbt_keys.specs.Keys.{Kept};
 ghost use Rattle.snbt.specs.Turns.{Ready};
 ghost use Rattle.snbt.specs.Steps.{ParsedValue, ParsedList, ParsedElements, ParsedCompound, ParsedEntries, ParsedEntry, heldDone};
 
@@ -41,7 +41,7 @@ fn alike(done: Done, want: u8, index: Index) -> Done
     match done {
         Done::No { number, place } => Done::No { number, place },
         Done::To { next, used, kind } => {
-            if placing::is_alike(want, kind) {
+            if snbt_placing::is_alike(want, kind) {
                 return Done::To { next, used, kind };
             }
             Done::No {
@@ -68,7 +68,7 @@ fn parse_value(
     requires { ⌜ (Ready (now text) (now keys) (now buffer)) × (place ≤ length (now text)) × (at ≤ 16 * place) × (3 * top ≤ place) ⌝ }
     ensures { λ r. ⌜ ParsedValue (now (text .entry)) (now (out .entry)) (now (keys .entry)) (stopsIs set) want place at top left r (now (out .exit)) (now (keys .exit)) ⌝ }
 {
-    match lexer::token_at(text, place, set) {
+    match snbt_lexer::token_at(text, place, set) {
         Lexed::Refused { number, place } => Done::No { number, place },
         Lexed::Ended { place: _ } => Done::No {
             number: form::TEXT_ENDS,
@@ -86,7 +86,7 @@ fn parse_value(
                     let r = parse_list(text, index, next, out, at, keys, top, buffer, left);
                     alike(r, want, index)
                 }
-                _ => scalars::scalar(text, td, next, want, out, at),
+                _ => snbt_scalars::scalar(text, td, next, want, out, at),
             }
         }
     }

@@ -7,12 +7,12 @@ use mathlib.Core.List.{List}
 use native.Mathlib.Omega.{arith}
 use lib.ListN.{length}
 use Rattle.form.specs.Answer.{got, no, unexpectedToken}
-use Rattle.text_form.specs.Lexing.{default, Token, comma, closedSquare, closedCurly, TokenData, found, tokenAt}
-use Rattle.text_form.specs.Text.{signOf, following}
-use Rattle.text_form.proofs.Moves.{token-moves}
-use Rattle.lexer.specs.Answers.{PeekedIs}
-use Rattle.lexer.specs.declared.Peeked.{Peeked}
-use Rattle.lexer.proofs.Fronts.{front-sign, front-token}
+use Rattle.snbt_form.specs.Lexing.{default, Token, comma, closedSquare, closedCurly, TokenData, found, tokenAt}
+use Rattle.snbt_form.specs.Text.{signOf, following}
+use Rattle.snbt_form.proofs.Moves.{token-moves}
+use Rattle.snbt_lexer.specs.Answers.{PeekedIs}
+use Rattle.snbt_lexer.specs.declared.Peeked.{Peeked}
+use Rattle.snbt_lexer.proofs.Fronts.{front-sign, front-token}
 use Rattle.snbt_due.specs.declared.After.{After}
 use Rattle.snbt_due.specs.Due.{AfterIs}
 use Rattle.snbt_due.proofs.Steps.{after-comma, after-close, after-other}

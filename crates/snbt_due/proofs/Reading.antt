@@ -6,8 +6,8 @@ use mathlib.Core.List.{List}
 use borrow.Author.Tests.{eq-eqb, ne-eqb}
 use lib.ListN.{length}
 use Rattle.form.specs.Answer.{Out, got, no, _>>=_, _>>_, unexpectedToken, textEnds}
-use Rattle.text_form.specs.Lexing.{Stops, default, TokenData, found, ended, tokenAt}
-use Rattle.text_form.specs.Text.{Next, goesOn, closes, Reads, signOf, due, following}
+use Rattle.snbt_form.specs.Lexing.{Stops, default, TokenData, found, ended, tokenAt}
+use Rattle.snbt_form.specs.Text.{Next, goesOn, closes, Reads, signOf, due, following}
 use Rattle.snbt_due.specs.Due.{valueFrom}
 
 -- ---- answers in a row

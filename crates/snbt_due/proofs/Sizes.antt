@@ -11,11 +11,11 @@ use Rattle.form.specs.Strings.{unitBytes, scalarBytes, encodeBy, highHalf, lowH
 use Rattle.form.proofs.Picks.{pick-le, lt-or}
 use mathlib.Core.Logic.{_⊎_, inl, inr}
 use borrow.Author.Tests.{le-leb, lt-leb}
-use Rattle.text_form.specs.Numbers.{Number, isDigit, number}
-use Rattle.text_form.specs.Lexing.{Stops, Token, openCurly, closedCurly, openSquare, closedSquare, comma, colon, semicolon, string, numeral, TokenData, Lexed, found, ended, frontOf, Front, scalarsBy, contentOf, made, unquoted, unquotedAt, word, quoted, Quoted, quotedAt, tokenBy, skip, tokenAt}
-use Rattle.text_form.specs.Text.{stringOf}
+use Rattle.snbt_form.specs.Numbers.{Number, isDigit, number}
+use Rattle.snbt_form.specs.Lexing.{Stops, Token, openCurly, closedCurly, openSquare, closedSquare, comma, colon, semicolon, string, numeral, TokenData, Lexed, found, ended, frontOf, Front, scalarsBy, contentOf, made, unquoted, unquotedAt, word, quoted, Quoted, quotedAt, tokenBy, skip, tokenAt}
+use Rattle.snbt_form.specs.Text.{stringOf}
 use Rattle.form.specs.Spans.{part}
-use Rattle.text_form.proofs.Moves.{Holds, holds-bind, either-way, from-got, word-reach, token-moves}
+use Rattle.snbt_form.proofs.Moves.{Holds, holds-bind, either-way, from-got, word-reach, token-moves}
 use Rattle.snbt_due.specs.Due.{Met}
 
 -- ---- a string's span lies in its token

@@ -5,10 +5,10 @@ use mathlib.Core.List.{List}
 use mathlib.Core.Path.{_≡_, refl}
 use lib.ListN.{length}
 use Rattle.form.specs.Answer.{got}
-use Rattle.text_form.specs.Lexing.{Stops, Token, openCurly, closedCurly, openSquare, closedSquare, comma, colon, semicolon, string, numeral, TokenData, found, tokenAt}
-use Rattle.text_form.proofs.Moves.{token-span}
-use Rattle.lexer.proofs.Quiet.{token-quiet}
-use Rattle.placing.specs.Done.{TokenFits, Spanned}
+use Rattle.snbt_form.specs.Lexing.{Stops, Token, openCurly, closedCurly, openSquare, closedSquare, comma, colon, semicolon, string, numeral, TokenData, found, tokenAt}
+use Rattle.snbt_form.proofs.Moves.{token-span}
+use Rattle.snbt_lexer.proofs.Quiet.{token-quiet}
+use Rattle.snbt_placing.specs.Done.{TokenFits, Spanned}
 use Rattle.snbt_due.specs.Due.{Met}
 
 -- What the lexer finds can be made a scalar or a key.

@@ -6,9 +6,9 @@ use mathlib.Core.List.{List}
 use native.Mathlib.Omega.{arith}
 use lib.ListN.{length}
 use Rattle.form.specs.Answer.{got, no, unexpectedToken}
-use Rattle.text_form.specs.Lexing.{Stops, default, TokenData, found, tokenAt}
-use Rattle.text_form.specs.Text.{goesOn, closes, signOf, following}
-use Rattle.text_form.proofs.Moves.{token-moves}
+use Rattle.snbt_form.specs.Lexing.{Stops, default, TokenData, found, tokenAt}
+use Rattle.snbt_form.specs.Text.{goesOn, closes, signOf, following}
+use Rattle.snbt_form.proofs.Moves.{token-moves}
 use Rattle.snbt_due.specs.Due.{Met}
 use Rattle.snbt_due.proofs.Reading.{due-found, following-comma, following-close, following-other}
 

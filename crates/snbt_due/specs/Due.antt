@@ -5,9 +5,9 @@ use mathlib.Core.Path.{_≡_}
 use mathlib.Core.List.{List}
 use lib.ListN.{length}
 use Rattle.form.specs.Answer.{Out, got, no, _>>=_, textEnds}
-use Rattle.text_form.specs.Lexing.{Stops, TokenData, found, tokenAt}
-use Rattle.text_form.specs.Text.{Value, goesOn, closes, Reads, due, following}
-use Rattle.tokens.specs.Answers.{dataIs}
+use Rattle.snbt_form.specs.Lexing.{Stops, TokenData, found, tokenAt}
+use Rattle.snbt_form.specs.Text.{Value, goesOn, closes, Reads, due, following}
+use Rattle.snbt_tokens.specs.Answers.{dataIs}
 use Rattle.snbt_due.specs.declared.Due.{Due}
 use Rattle.snbt_due.specs.declared.After.{After}
 

@@ -1,13 +1,13 @@
 // Tokens that are due in a text that was judged (rules 14 and 15): any token, and a comma or a closing brace, known by its character.
-use tokens::Index;
-use tokens::Lexed;
-use tokens::Stops;
-use tokens::TokenData;
+use snbt_tokens::Index;
+use snbt_tokens::Lexed;
+use snbt_tokens::Stops;
+use snbt_tokens::TokenData;
 ghost use mathlib.Core.Path.{_≡_};
 ghost use mathlib.Core.Logic.{_⊎_};
 ghost use Prim.Native.Nat.{_≤_};
 ghost use lib.ListN.{length};
-ghost use Rattle.tokens.specs.Answers.{stopsIs};
+ghost use Rattle.snbt_tokens.specs.Answers.{stopsIs};
 ghost use Rattle.snbt_due.specs.Due.{DueIs, AfterIs};
 
 // A token that is due.
@@ -28,7 +28,7 @@ pub fn due_at(text: &[u8], place: usize, set: Stops, number: u8, end: usize) -> 
     requires { ⌜ place ≤ length (now text) ⌝ }
     ensures { λ r. ⌜ DueIs (now (text .entry)) (stopsIs set) place number end r ⌝ }
 {
-    match lexer::token_at(text, place, set) {
+    match snbt_lexer::token_at(text, place, set) {
         Lexed::Found { data: td, next } => Due::Is { td, next },
         Lexed::Ended { place: _ } => Due::No { number, place: end },
         Lexed::Refused {
@@ -46,7 +46,7 @@ pub fn following(text: &[u8], place: usize, closing: u8, number: u8, end: usize)
     requires { ⌜ (place ≤ length (now text)) × ((closing ≡ 93) ⊎ (closing ≡ 125)) ⌝ }
     ensures { λ r. ⌜ AfterIs (now (text .entry)) closing place number end r ⌝ }
 {
-    let peeked = lexer::peek_at(text, place);
+    let peeked = snbt_lexer::peek_at(text, place);
     let b = peeked.byte;
     let index = peeked.index;
     if b == b',' {

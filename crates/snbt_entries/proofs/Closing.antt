@@ -14,7 +14,7 @@ use Rattle.form.specs.Spans.{part, over}
 use Rattle.form.specs.Layout.{stringBytes}
 use Rattle.form.proofs.Digits.{digits-length}
 use Rattle.form.proofs.Table.{over-over}
-use Rattle.text_form.specs.Text.{closeAt}
+use Rattle.snbt_form.specs.Text.{closeAt}
 
 -- ---- the end byte
 

@@ -6,12 +6,12 @@ use mathlib.Core.List.{List}
 use native.Mathlib.Omega.{arith}
 use lib.ListN.{length}
 use Rattle.form.specs.Answer.{got, no, unexpectedToken, unmatchedBrace}
-use Rattle.text_form.specs.Lexing.{default, colon, TokenData, found, tokenAt}
-use Rattle.text_form.specs.Text.{signOf, colonAt}
-use Rattle.text_form.proofs.Moves.{token-moves}
-use Rattle.lexer.specs.Answers.{PeekedIs}
-use Rattle.lexer.specs.declared.Peeked.{Peeked}
-use Rattle.lexer.proofs.Fronts.{front-sign, front-token}
+use Rattle.snbt_form.specs.Lexing.{default, colon, TokenData, found, tokenAt}
+use Rattle.snbt_form.specs.Text.{signOf, colonAt}
+use Rattle.snbt_form.proofs.Moves.{token-moves}
+use Rattle.snbt_lexer.specs.Answers.{PeekedIs}
+use Rattle.snbt_lexer.specs.declared.Peeked.{Peeked}
+use Rattle.snbt_lexer.proofs.Fronts.{front-sign, front-token}
 use Rattle.snbt_due.proofs.Reading.{due-found}
 use Rattle.snbt_due.proofs.Fronts.{ahead}
 use Rattle.snbt_entries.specs.declared.Colon.{Colon}

@@ -8,18 +8,18 @@ use borrow.Author.Tests.{eqb-false}
 use types.Run.{OneOf}
 use lib.ListN.{length, take, length-take}
 use Rattle.form.specs.Answer.{Out, got, _>>_, unmatchedBrace}
-use Rattle.text_form.specs.Lexing.{Stops, key, value, TokenData, found, tokenAt}
-use Rattle.text_form.specs.Text.{Last, Reads, signOf, noComma, keyOf}
-use Rattle.text_form.proofs.Moves.{token-moves}
-use Rattle.tokens.specs.Answers.{tokenIs, dataIs}
-use Rattle.tokens.specs.declared.Token.{Token}
-use Rattle.tokens.specs.declared.TokenData.{TokenData as Data}
-use Rattle.tokens.proofs.Rests.{tagOf, other-sign}
-use Rattle.keys.specs.Keys.{FreeAt, SpotIs, namesIn}
-use Rattle.keys.specs.declared.Spot.{Spot}
-use Rattle.text_keys.specs.Keys.{KeyIn, KeyAgrees}
-use Rattle.text_keys.specs.declared.KeyText.{KeyText}
-use Rattle.text_keys.proofs.Keys.{key-stands}
+use Rattle.snbt_form.specs.Lexing.{Stops, key, value, TokenData, found, tokenAt}
+use Rattle.snbt_form.specs.Text.{Last, Reads, signOf, noComma, keyOf}
+use Rattle.snbt_form.proofs.Moves.{token-moves}
+use Rattle.snbt_tokens.specs.Answers.{tokenIs, dataIs}
+use Rattle.snbt_tokens.specs.declared.Token.{Token}
+use Rattle.snbt_tokens.specs.declared.TokenData.{TokenData as Data}
+use Rattle.snbt_tokens.proofs.Rests.{tagOf, other-sign}
+use Rattle.snbt_keys.specs.Keys.{FreeAt, SpotIs, namesIn}
+use Rattle.snbt_keys.specs.declared.Spot.{Spot}
+use Rattle.snbt_key_text.specs.Keys.{KeyIn, KeyAgrees}
+use Rattle.snbt_key_text.specs.declared.KeyText.{KeyText}
+use Rattle.snbt_key_text.proofs.Keys.{key-stands}
 use Rattle.snbt_due.specs.Due.{DueIs, Met, valueFrom}
 use Rattle.snbt_due.specs.declared.Due.{Due}
 use Rattle.snbt_due.proofs.Reading.{due-found}

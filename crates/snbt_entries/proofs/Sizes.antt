@@ -5,10 +5,10 @@ use mathlib.Core.Path.{_≡_}
 use mathlib.Core.List.{List}
 use lib.ListN.{length}
 use Rattle.form.specs.Answer.{got}
-use Rattle.text_form.specs.Lexing.{Token, openCurly, closedCurly, openSquare, closedSquare, comma, colon, semicolon, string, numeral}
-use Rattle.text_form.specs.Lexing.{TokenData}
-use Rattle.text_form.specs.Text.{keyOf}
-use Rattle.text_form.proofs.Moves.{Holds, from-got}
+use Rattle.snbt_form.specs.Lexing.{Token, openCurly, closedCurly, openSquare, closedSquare, comma, colon, semicolon, string, numeral}
+use Rattle.snbt_form.specs.Lexing.{TokenData}
+use Rattle.snbt_form.specs.Text.{keyOf}
+use Rattle.snbt_form.proofs.Moves.{Holds, from-got}
 use Rattle.snbt_due.specs.Due.{Met}
 use Rattle.snbt_due.proofs.Sizes.{InToken, met-in, Short, string-size}
 

@@ -7,8 +7,8 @@ use mathlib.Core.List.{List}
 use borrow.Author.Tests.{eq-eqb, ne-eqb}
 use lib.ListN.{length}
 use Rattle.form.specs.Answer.{Out, got, no, _>>=_, _>>_, nameTwice, unexpectedToken, textEnds, unmatchedBrace}
-use Rattle.text_form.specs.Lexing.{default, key, value}
-use Rattle.text_form.specs.Text.{Value, Next, Last, noComma, Reads, signOf, due, following, colonAt, known, keyOf, entryAt}
+use Rattle.snbt_form.specs.Lexing.{default, key, value}
+use Rattle.snbt_form.specs.Text.{Value, Next, Last, noComma, Reads, signOf, due, following, colonAt, known, keyOf, entryAt}
 use Rattle.snbt_due.specs.Due.{valueFrom}
 use Rattle.snbt_due.proofs.Reading.{bind-assoc}
 use Rattle.snbt_entries.specs.Entries.{stops, enters, entryTurn}

@@ -13,17 +13,17 @@ use lib.ListN.{length, getD, take}
 use Rattle.form.specs.Answer.{got, nameTwice}
 use Rattle.form.specs.Spans.{part, over}
 use Rattle.form.proofs.Spans.{part-length}
-use Rattle.text_form.specs.Numbers.{isDigit}
-use Rattle.text_form.specs.Lexing.{among, default, key, colon, string, Scan, word, begun, stops, found, made, skip, tokenBy, tokenAt, contentOf}
-use Rattle.text_form.specs.Text.{Last, keyOf, known}
-use Rattle.lexer.proofs.Among.{blank-out}
-use Rattle.lexer.proofs.Slurps.{Ordinary, Run, Going, going-start, going-run, going-stop, skip-stop}
-use Rattle.lexer.proofs.Finds.{unquoted-string, by-word, token-here}
+use Rattle.snbt_form.specs.Numbers.{isDigit}
+use Rattle.snbt_form.specs.Lexing.{among, default, key, colon, string, Scan, word, begun, stops, found, made, skip, tokenBy, tokenAt, contentOf}
+use Rattle.snbt_form.specs.Text.{Last, keyOf, known}
+use Rattle.snbt_lexer.proofs.Among.{blank-out}
+use Rattle.snbt_lexer.proofs.Slurps.{Ordinary, Run, Going, going-start, going-run, going-stop, skip-stop}
+use Rattle.snbt_lexer.proofs.Finds.{unquoted-string, by-word, token-here}
 use Rattle.plain.specs.Runs.{IsPlain, Plain}
-use Rattle.contents.proofs.Sofar.{sofar-start, sofar-plain, sofar-end}
-use Rattle.text_keys.specs.Keys.{KeyRoom}
-use Rattle.text_keys.proofs.Keys.{key-string, string-got, taken}
-use Rattle.keys.specs.Keys.{FreeAt, namesIn}
+use Rattle.snbt_contents.proofs.Sofar.{sofar-start, sofar-plain, sofar-end}
+use Rattle.snbt_key_text.specs.Keys.{KeyRoom}
+use Rattle.snbt_key_text.proofs.Keys.{key-string, string-got, taken}
+use Rattle.snbt_keys.specs.Keys.{FreeAt, namesIn}
 use Rattle.snbt_due.specs.Due.{Met}
 use Rattle.snbt_due.proofs.Steps.{met-at}
 use Rattle.snbt_entries.specs.declared.Key.{Key}

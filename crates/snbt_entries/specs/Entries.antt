@@ -9,11 +9,11 @@ use lib.ListN.{length, take}
 use Rattle.form.specs.Answer.{Out, got, no, _>>=_, _>>_, unmatchedBrace}
 use Rattle.form.specs.Spans.{over}
 use Rattle.form.specs.Tree as tree
-use Rattle.text_form.specs.Lexing.{key, value, TokenData}
-use Rattle.text_form.specs.Text.{Value, Next, Then, goesOn, closes, Last, noComma, Reads, signOf, due, following, colonAt, closeAt, entryAt}
-use Rattle.placing.specs.declared.Done.{Done}
-use Rattle.placing.specs.declared.Done.the-variants.{To, No}
-use Rattle.keys.specs.Keys.{FreeAt, namesIn}
+use Rattle.snbt_form.specs.Lexing.{key, value, TokenData}
+use Rattle.snbt_form.specs.Text.{Value, Next, Then, goesOn, closes, Last, noComma, Reads, signOf, due, following, colonAt, closeAt, entryAt}
+use Rattle.snbt_placing.specs.declared.Done.{Done}
+use Rattle.snbt_placing.specs.declared.Done.the-variants.{To, No}
+use Rattle.snbt_keys.specs.Keys.{FreeAt, namesIn}
 use Rattle.snbt_due.specs.Due.{valueFrom}
 use Rattle.snbt_entries.specs.declared.Colon.{Colon}
 use Rattle.snbt_entries.specs.declared.Key.{Key}

@@ -7,7 +7,7 @@ use mathlib.Core.List.{List}
 use lib.ListN.{length}
 use Rattle.form.specs.Answer.{got}
 use Rattle.form.specs.Spans.{part}
-use Rattle.text_form.specs.Lexing.{default, key, string, colon, TokenData, found, skip, made, tokenAt, contentOf}
+use Rattle.snbt_form.specs.Lexing.{default, key, string, colon, TokenData, found, skip, made, tokenAt, contentOf}
 use Rattle.snbt_entries.specs.declared.WordKey.{WordKey}
 
 -- The token of an unquoted string from i up to j, of ASCII characters only.

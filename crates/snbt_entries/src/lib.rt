@@ -1,25 +1,25 @@
 // Entries of a compound around their values (rule 15): keys, the colon behind them, what follows a value, and the compound's end.
 // A key's bytes go through a lent buffer, and its place in the output stands among the keys of the open compounds.
 use form::kinds;
-use keys::Spot;
-use placing::Done;
 use snbt_due::After;
 use snbt_due::Due;
-use text_keys::KeyText;
-use tokens::Index;
-use tokens::Last;
-use tokens::Stops;
-use tokens::Token;
-use tokens::TokenData;
+use snbt_key_text::KeyText;
+use snbt_keys::Spot;
+use snbt_placing::Done;
+use snbt_tokens::Index;
+use snbt_tokens::Last;
+use snbt_tokens::Stops;
+use snbt_tokens::Token;
+use snbt_tokens::TokenData;
 ghost use mathlib.Core.Path.{_≡_};
 ghost use mathlib.Core.List.{[], _∷_};
 ghost use Prim.Native.Nat.{ℕ, _+_, _≤_};
 ghost use lib.ListN.{length, take};
 ghost use Rattle.form.specs.Spans.{over};
 ghost use Rattle.form.specs.Layout.{stringBytes};
-ghost use Rattle.tokens.specs.Answers.{dataIs, lastIs};
-ghost use Rattle.keys.specs.Keys.{Kept, Comes, Added};
-ghost use Rattle.text_keys.specs.Keys.{KeyRoom};
+ghost use Rattle.snbt_tokens.specs.Answers.{dataIs, lastIs};
+ghost use Rattle.snbt_keys.specs.Keys.{Kept, Comes, Added};
+ghost use Rattle.snbt_key_text.specs.Keys.{KeyRoom};
 ghost use Rattle.snbt_due.specs.Due.{Met};
 ghost use Rattle.snbt_entries.specs.Words.{wordData, Worded, WordedIs};
 ghost use Rattle.snbt_entries.specs.Entries.{ColonIs, NamedIs, EndedIs, KeyedIs, SettledIs, CloseIs};
@@ -82,7 +82,7 @@ fn behind_key(text: &[u8], place: usize, brace: Index) -> Colon
     requires { ⌜ place ≤ length (now text) ⌝ }
     ensures { λ r. ⌜ ColonIs (now (text .entry)) (brace .0) place r ⌝ }
 {
-    let peeked = lexer::peek_at(text, place);
+    let peeked = snbt_lexer::peek_at(text, place);
     let index = peeked.index;
     if peeked.byte == b':' {
         return Colon::To { next: index.0 + 1 };
@@ -112,9 +112,16 @@ fn named(
 {
     let index = td.index;
     let brace = block.brace;
-    match text_keys::take_key(text, td, buffer) {
+    match snbt_key_text::take_key(text, td, buffer) {
         KeyText::No { number, place } => Key::No { number, place },
-        KeyText::Is { bytes } => match keys::spot_of(out, keys, block.base, top, buffer, bytes) {
+        KeyText::Is { bytes } => match snbt_keys::spot_of(
+            out,
+            keys,
+            block.base,
+            top,
+            buffer,
+            bytes,
+        ) {
             Spot::Taken => Key::No {
                 number: form::NAME_TWICE,
                 place: index.0,
@@ -182,7 +189,7 @@ fn word_key(text: &[u8], i: usize) -> WordKey
     if text[i] < 60 {
         return WordKey::Other;
     }
-    let end = lexer::characters::run_end(text, i);
+    let end = snbt_lexer::characters::run_end(text, i);
     if text.len() <= end {
         return WordKey::Other;
     }
@@ -211,7 +218,7 @@ fn worded(
 {
     let size = j - i;
     slices::copy(text, i, size, buffer, 0);
-    match keys::spot_of(out, keys, base, top, buffer, size) {
+    match snbt_keys::spot_of(out, keys, base, top, buffer, size) {
         Spot::Taken => Key::No {
             number: form::NAME_TWICE,
             place: i,
@@ -238,7 +245,7 @@ pub fn key_at(
     requires { ⌜ (place ≤ length (now text)) × (Kept (now out) (now keys) (block .base) top (length (now out))) × (KeyRoom (length (now text)) (length (now buffer))) ⌝ }
     ensures { λ r. ⌜ KeyedIs (now (text .entry)) (block .brace .0) (lastIs last) place (now (out .entry)) (now (keys .entry)) (block .base) top (now (buffer .exit)) r ⌝ }
 {
-    let i = lexer::characters::skip_blank(text, place);
+    let i = snbt_lexer::characters::skip_blank(text, place);
     match word_key(text, i) {
         WordKey::To { end } => worded(text, i, end, out, keys, block.base, top, buffer),
         WordKey::Other => any_key(text, place, last, block, out, keys, top, buffer),
@@ -277,7 +284,7 @@ pub fn settle(
 {
     let brace = block.brace;
     out[at] = kind;
-    keys::add(out, keys, block.base, top, spot, (at + 1) as u32);
+    snbt_keys::add(out, keys, block.base, top, spot, (at + 1) as u32);
     match snbt_due::following(text, place, b'}', form::UNMATCHED_BRACE, brace.0) {
         After::Comma { index, next } => EntryTurn::More {
             comma: index,

@@ -5,9 +5,9 @@ use mathlib.Core.Path.{refl, sym}
 use mathlib.Core.List.{List}
 use lib.ListN.{length}
 use Rattle.form.specs.Answer.{textEnds}
-use Rattle.text_form.specs.Lexing.{later}
-use Rattle.text_form.specs.Text.{due, elementsBy}
-use Rattle.tokens.specs.declared.Index.{Index}
+use Rattle.snbt_form.specs.Lexing.{later}
+use Rattle.snbt_form.specs.Text.{due, elementsBy}
+use Rattle.snbt_tokens.specs.declared.Index.{Index}
 use Rattle.snbt_due.specs.declared.After.{After}
 use Rattle.snbt_due.specs.Due.{AfterIs, valueFrom}
 use Rattle.snbt_due.proofs.Reading.{bind-assoc}

@@ -12,7 +12,7 @@ use Rattle.form.specs.Tree.{kindOf, many}
 use Rattle.form.specs.Layout.{payload, elementBytes}
 use Rattle.form.proofs.Digits.{digits-length}
 use Rattle.form.proofs.Table.{sets-over, over-over}
-use Rattle.placing.specs.Done.{Did}
+use Rattle.snbt_placing.specs.Done.{Did}
 use Rattle.snbt_lists.specs.Lists.{emptyAt}
 
 -- A byte, and others right behind it.

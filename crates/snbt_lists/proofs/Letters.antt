@@ -8,9 +8,9 @@ use borrow.Author.Tests.{eq-eqb, ne-eqb}
 use lib.Dec.{eqb}
 use lib.ListN.{getD}
 use Rattle.form.specs.Answer.{pick}
-use Rattle.text_form.specs.Lexing.{Token, openCurly, closedCurly, openSquare, closedSquare, comma, colon, semicolon, string, numeral}
-use Rattle.text_form.specs.Text.{letterWidth}
-use Rattle.tokens.proofs.Rests.{Unstrung}
+use Rattle.snbt_form.specs.Lexing.{Token, openCurly, closedCurly, openSquare, closedSquare, comma, colon, semicolon, string, numeral}
+use Rattle.snbt_form.specs.Text.{letterWidth}
+use Rattle.snbt_tokens.proofs.Rests.{Unstrung}
 
 -- The width by the letter: B, I, L, or another.
 abbrev pub widthOf : ℕ → ℕ

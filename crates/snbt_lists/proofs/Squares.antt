@@ -10,14 +10,14 @@ use lib.Dec.{eqb}
 use lib.ListN.{length}
 use types.Run.{OneOf}
 use Rattle.form.specs.Answer.{got, no, tooDeep, outputFull, unmatchedBrace}
-use Rattle.text_form.specs.Lexing.{first, default, TokenData, found, ended, tokenAt}
-use Rattle.text_form.specs.Text.{Reads, signOf, letterWidth, openedBy, squareAt, listAt, listFrom, arrayAt}
-use Rattle.text_form.proofs.Moves.{token-moves}
-use Rattle.tokens.specs.declared.Token.{Token}
-use Rattle.tokens.specs.Answers.{tokenIs}
-use Rattle.tokens.proofs.Rests.{tagOf, other-sign}
-use Rattle.placing.specs.Done.{Wide, bytes, ints, longs}
-use Rattle.placing.specs.declared.Admitted.{Admitted}
+use Rattle.snbt_form.specs.Lexing.{first, default, TokenData, found, ended, tokenAt}
+use Rattle.snbt_form.specs.Text.{Reads, signOf, letterWidth, openedBy, squareAt, listAt, listFrom, arrayAt}
+use Rattle.snbt_form.proofs.Moves.{token-moves}
+use Rattle.snbt_tokens.specs.declared.Token.{Token}
+use Rattle.snbt_tokens.specs.Answers.{tokenIs}
+use Rattle.snbt_tokens.proofs.Rests.{tagOf, other-sign}
+use Rattle.snbt_placing.specs.Done.{Wide, bytes, ints, longs}
+use Rattle.snbt_placing.specs.declared.Admitted.{Admitted}
 use Rattle.snbt_due.proofs.Reading.{from-found}
 use Rattle.snbt_lists.specs.declared.Letter.{Letter}
 use Rattle.snbt_lists.specs.declared.Opened.{Opened}

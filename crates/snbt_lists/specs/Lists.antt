@@ -7,10 +7,10 @@ use lib.ListN.{length}
 use Rattle.form.specs.Answer.{Out, got, no, _>>=_}
 use Rattle.form.specs.Tree as tree
 use Rattle.form.specs.Tree.{kindOf}
-use Rattle.text_form.specs.Lexing.{later, first, TokenData, Lexed, found, ended}
-use Rattle.text_form.specs.Text.{Value, Row, Reads, letterWidth, listAt, elementsBy, squareAt, arrayAt}
-use Rattle.placing.specs.Done.{Wide}
-use Rattle.placing.specs.declared.Admitted.{Admitted}
+use Rattle.snbt_form.specs.Lexing.{later, first, TokenData, Lexed, found, ended}
+use Rattle.snbt_form.specs.Text.{Value, Row, Reads, letterWidth, listAt, elementsBy, squareAt, arrayAt}
+use Rattle.snbt_placing.specs.Done.{Wide}
+use Rattle.snbt_placing.specs.declared.Admitted.{Admitted}
 use Rattle.snbt_due.specs.Due.{valueFrom}
 use Rattle.snbt_lists.specs.declared.NextElement.{NextElement}
 use Rattle.snbt_lists.specs.declared.Letter.{Letter}

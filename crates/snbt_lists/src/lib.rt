@@ -1,13 +1,13 @@
 // Lists up to their elements (rules 14 and 15): what a `[` opens, what stands behind an element, and a list's head in the output.
 use form::kinds;
-use placing::Admitted;
-use placing::Done;
 use snbt_due::After;
-use tokens::Index;
-use tokens::Lexed;
-use tokens::Stops;
-use tokens::Token;
-use tokens::TokenData;
+use snbt_placing::Admitted;
+use snbt_placing::Done;
+use snbt_tokens::Index;
+use snbt_tokens::Lexed;
+use snbt_tokens::Stops;
+use snbt_tokens::Token;
+use snbt_tokens::TokenData;
 ghost use mathlib.Core.Path.{_≡_};
 ghost use mathlib.Core.List.{_∷_};
 ghost use Prim.Native.Nat.{_+_, _≤_};
@@ -16,8 +16,8 @@ ghost use Rattle.form.specs.Answer.{got};
 ghost use Rattle.form.specs.Numbers.{bytesOf};
 ghost use Rattle.form.specs.Spans.{over};
 ghost use Rattle.form.specs.Tree.{list, nil};
-ghost use Rattle.tokens.specs.Answers.{dataIs};
-ghost use Rattle.placing.specs.Done.{Agrees, Spanned};
+ghost use Rattle.snbt_tokens.specs.Answers.{dataIs};
+ghost use Rattle.snbt_placing.specs.Done.{Agrees, Spanned};
 ghost use Rattle.snbt_lists.specs.Lists.{ElementIs, LetterIs, ListAdmitted, ListedIs, UnmatchedIs, OpenedIs};
 
 // What stands behind an element of a list: its end, or a comma and the next one's place.
@@ -143,14 +143,14 @@ pub fn opened_at(
     requires { ⌜ (place ≤ length (now text)) × (at ≤ 16777216) ⌝ }
     ensures { λ r. ⌜ OpenedIs (now (text .entry)) room left (brace .0) place at r ⌝ }
 {
-    match lexer::token_at(text, place, Stops::First) {
+    match snbt_lexer::token_at(text, place, Stops::First) {
         Lexed::Refused { number, place: p } => Opened::No { number, place: p },
         Lexed::Ended { place: _ } => unmatched(brace, left, room, at),
         Lexed::Found { data: td, next } => {
             let Letter::Array { width } = letter_of(text, td) else {
                 return listed(td, next, brace, left, room, at);
             };
-            match lexer::token_at(text, next, Stops::Default) {
+            match snbt_lexer::token_at(text, next, Stops::Default) {
                 Lexed::Refused { number, place: p } => Opened::No { number, place: p },
                 Lexed::Ended { place: _ } => listed(td, next, brace, left, room, at),
                 Lexed::Found { data: d, next: m } => {

@@ -2,7 +2,7 @@
 -- Assumes nothing.
 use borrow.Author.Needs.{needs}
 use mathlib.Core.Path.{sym, ap}
-use Rattle.store.specs.Steps.{answerOut}
+use Rattle.table_store.specs.Steps.{answerOut}
 use Rattle.calls.specs.Words.{countWords}
 use Rattle.call_moves.proofs.answered.Statement.{statement}
 use Rattle.call_moves.proofs.answered.Tie as tie

@@ -2,7 +2,7 @@
 -- Assumes nothing.
 use mathlib.Core.Path.{refl, subst, _∙_}
 use borrow.Author.Needs.{needs}
-use Rattle.tokens.specs.Quiet.{Quiet}
+use Rattle.snbt_tokens.specs.Quiet.{Quiet}
 use Rattle.call_token.proofs.Words.{bits-kept}
 use Rattle.call_token.proofs.carried_first.Statement.{statement}
 use Rattle.call_token.proofs.carried_first.Tie as tie

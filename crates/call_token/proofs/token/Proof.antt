@@ -1,7 +1,7 @@
 -- `call_token::token` meets its contract: the words of the lexer's answer.
 -- Assumes nothing.
 use borrow.Author.Needs.{needs}
-use Rattle.lexer.proofs.Answered.{found-quiet}
+use Rattle.snbt_lexer.proofs.Answered.{found-quiet}
 use Rattle.call_token.proofs.Words.{token-found, token-ended, token-refused}
 use Rattle.call_token.proofs.token.Statement.{statement}
 use Rattle.call_token.proofs.token.Tie as tie

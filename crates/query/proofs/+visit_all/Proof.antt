@@ -28,7 +28,7 @@ use Rattle.query.proofs.visit_all.Kinds as kinds
 use Rattle.query.proofs.+visit_all.Lts-visit_all as lts
 use Rattle.query.proofs.goes_in.Reads as goes-in-reads
 use Rattle.query.proofs.note.Reads as note-reads
-use Rattle.reach.proofs.next.Reads as next-reads
+use Rattle.query_reach.proofs.next.Reads as next-reads
 use Rattle.table.proofs.word.Reads as word-reads
 use Rattle.query.proofs.+visit_all.{statement}
 use Rattle.query.proofs.+visit_all.Tie.{close}

@@ -2,7 +2,7 @@
 -- Assumes nothing.
 use borrow.Author.Needs.{needs}
 use native.Mathlib.Omega.{arith}
-use Rattle.reach.proofs.Plans.{laid-in}
+use Rattle.query_reach.proofs.Plans.{laid-in}
 use Rattle.query.proofs.Roots.{root-own, root-ready, root-done, root-alone}
 use Rattle.query.proofs.walk.Statement.{statement}
 use Rattle.query.proofs.walk.Tie as tie

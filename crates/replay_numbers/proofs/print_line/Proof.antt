@@ -1,6 +1,6 @@
 -- `print_line` is safe: a number that the code answers carries no NaN.
 -- Assumes nothing.
-use Rattle.numbers.proofs.NoNan.{number-quiet}
+use Rattle.snbt_numbers.proofs.NoNan.{number-quiet}
 use borrow.Author.Needs.{needs}
 use Rattle.replay_numbers.proofs.print_line.Statement.{statement}
 use Rattle.replay_numbers.proofs.print_line.Tie as tie

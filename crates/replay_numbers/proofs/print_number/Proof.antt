@@ -1,7 +1,7 @@
 -- `print_number` is safe: what the number carries is no NaN.
 -- Assumes nothing.
 use mathlib.Core.Path.{subst}
-use Rattle.numbers.specs.Answers.{quiet}
+use Rattle.snbt_numbers.specs.Answers.{quiet}
 use borrow.Author.Needs.{needs}
 use Rattle.replay_numbers.proofs.print_number.Statement.{statement}
 use Rattle.replay_numbers.proofs.print_number.Tie as tie

@@ -1,7 +1,7 @@
 -- `replay_tokens::print_lexed` is safe: a token that the lexer answers carries no NaN.
 -- Assumes nothing.
 use borrow.Author.Needs.{needs}
-use Rattle.lexer.proofs.Answered.{found-quiet}
+use Rattle.snbt_lexer.proofs.Answered.{found-quiet}
 use Rattle.replay_tokens.proofs.print_lexed.Statement.{statement}
 use Rattle.replay_tokens.proofs.print_lexed.Tie as tie
 

@@ -2,7 +2,7 @@
 -- Assumes nothing.
 use mathlib.Core.Path.{subst}
 use borrow.Author.Needs.{needs}
-use Rattle.tokens.specs.Quiet.{Quiet}
+use Rattle.snbt_tokens.specs.Quiet.{Quiet}
 use Rattle.replay_tokens.proofs.print_value.Statement.{statement}
 use Rattle.replay_tokens.proofs.print_value.Tie as tie
 

@@ -5,8 +5,8 @@ use native.Mathlib.Omega.{arith}
 use borrow.Author.Needs.{needs}
 use lib.ListN.{length}
 use Rattle.form.specs.Answer.{got}
-use Rattle.text_form.specs.Lexing.{judgedText}
-use Rattle.texts.specs.Answers.{textOut}
+use Rattle.snbt_form.specs.Lexing.{judgedText}
+use Rattle.snbt_text.specs.Answers.{textOut}
 use Rattle.snbt.proofs.Tops.{root-as, parsed-no, parsed-on, judged-within}
 use Rattle.snbt.proofs.judged.Statement.{statement}
 use Rattle.snbt.proofs.judged.Tie as tie

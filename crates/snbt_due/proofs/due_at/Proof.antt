@@ -2,7 +2,7 @@
 -- Assumes nothing.
 use mathlib.Core.Path.{sym, ap, _∙_}
 use borrow.Author.Needs.{needs}
-use Rattle.tokens.specs.Answers.{lexedOut, stopsIs}
+use Rattle.snbt_tokens.specs.Answers.{lexedOut, stopsIs}
 use Rattle.snbt_due.proofs.Reading.{due-ended, due-no}
 use Rattle.snbt_due.proofs.due_at.Statement.{statement}
 use Rattle.snbt_due.proofs.due_at.Tie as tie

@@ -2,7 +2,7 @@
 -- Assumes nothing.
 use native.Mathlib.Omega.{arith}
 use borrow.Author.Needs.{needs}
-use Rattle.text_form.specs.Lexing.{comma}
+use Rattle.snbt_form.specs.Lexing.{comma}
 use Rattle.snbt_due.proofs.Reading.{following-no}
 use Rattle.snbt_due.proofs.Fronts.{sign-within, close-within, front-comma, front-close, front-other}
 use Rattle.snbt_due.proofs.following.Statement.{statement}

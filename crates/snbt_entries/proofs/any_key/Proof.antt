@@ -4,10 +4,10 @@ use Prim.Native.Nat.{_-_}
 use mathlib.Core.Path.{_≡_, ap}
 use borrow.Author.Needs.{needs}
 use Rattle.form.specs.Answer.{got}
-use Rattle.text_form.specs.Lexing.{key, found, tokenAt}
-use Rattle.text_form.specs.Text.{signOf}
-use Rattle.tokens.specs.Answers.{tokenIs, dataIs, lastIs}
-use Rattle.keys.specs.Keys.{namesIn}
+use Rattle.snbt_form.specs.Lexing.{key, found, tokenAt}
+use Rattle.snbt_form.specs.Text.{signOf}
+use Rattle.snbt_tokens.specs.Answers.{tokenIs, dataIs, lastIs}
+use Rattle.snbt_keys.specs.Keys.{namesIn}
 use Rattle.snbt_due.proofs.Steps.{met-at}
 use Rattle.snbt_entries.proofs.Turns.{turn-no}
 use Rattle.snbt_entries.proofs.Keyed.{due-is, not-closed, keyed-named, keyed-ended}

@@ -2,7 +2,7 @@
 -- Assumes nothing.
 use native.Mathlib.Omega.{arith}
 use borrow.Author.Needs.{needs}
-use Rattle.text_form.specs.Lexing.{colon}
+use Rattle.snbt_form.specs.Lexing.{colon}
 use Rattle.snbt_due.proofs.Fronts.{sign-within}
 use Rattle.snbt_entries.proofs.Turns.{colon-no}
 use Rattle.snbt_entries.proofs.Colons.{front-colon, front-none}

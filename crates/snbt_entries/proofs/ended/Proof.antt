@@ -2,8 +2,8 @@
 -- Assumes nothing.
 use mathlib.Core.Path.{ap}
 use borrow.Author.Needs.{needs}
-use Rattle.text_form.specs.Text.{noComma}
-use Rattle.tokens.specs.Answers.{lastIs}
+use Rattle.snbt_form.specs.Text.{noComma}
+use Rattle.snbt_tokens.specs.Answers.{lastIs}
 use Rattle.snbt_entries.proofs.ended.Statement.{statement}
 use Rattle.snbt_entries.proofs.ended.Tie as tie
 

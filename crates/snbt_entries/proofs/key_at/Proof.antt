@@ -1,7 +1,7 @@
 -- `key_at` meets its contract: by the word that stands there, or as any key.
 -- Assumes nothing.
 use borrow.Author.Needs.{needs}
-use Rattle.tokens.specs.Answers.{lastIs}
+use Rattle.snbt_tokens.specs.Answers.{lastIs}
 use Rattle.snbt_entries.specs.Words.{Worded}
 use Rattle.snbt_entries.proofs.Words.{word-found, keyed-word}
 use Rattle.snbt_entries.proofs.key_at.Statement.{statement}

@@ -5,11 +5,11 @@ use mathlib.Core.Path.{refl}
 use mathlib.Core.List.{List}
 use native.Mathlib.Omega.{arith}
 use borrow.Author.Needs.{needs}
-use Rattle.text_form.specs.Lexing.{TokenData}
-use Rattle.text_form.specs.Text.{Next, keyOf}
-use Rattle.tokens.specs.Answers.{dataIs}
-use Rattle.keys.specs.Keys.{namesIn}
-use Rattle.text_keys.specs.Keys.{KeyIn}
+use Rattle.snbt_form.specs.Lexing.{TokenData}
+use Rattle.snbt_form.specs.Text.{Next, keyOf}
+use Rattle.snbt_tokens.specs.Answers.{dataIs}
+use Rattle.snbt_keys.specs.Keys.{namesIn}
+use Rattle.snbt_key_text.specs.Keys.{KeyIn}
 use Rattle.snbt_due.proofs.Sizes.{met-within}
 use Rattle.snbt_due.proofs.Spanning.{met-spanned}
 use Rattle.snbt_entries.proofs.Turns.{entry-key-no, entry-twice, entry-colon-no}

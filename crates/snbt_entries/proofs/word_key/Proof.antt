@@ -4,7 +4,7 @@ use Prim.Native.Nat.{ℕ}
 use mathlib.Core.Path.{sym, subst}
 use native.Mathlib.Omega.{arith}
 use borrow.Author.Needs.{needs}
-use Rattle.lexer.proofs.Slurps.{Run, run-is}
+use Rattle.snbt_lexer.proofs.Slurps.{Run, run-is}
 use Rattle.snbt_entries.proofs.Words.{word-ends}
 use Rattle.snbt_entries.proofs.word_key.Statement.{statement}
 use Rattle.snbt_entries.proofs.word_key.Tie as tie

@@ -5,10 +5,10 @@ use mathlib.Core.Path.{_≡_, ap, _∙_}
 use native.Mathlib.Omega.{arith}
 use borrow.Author.Needs.{needs}
 use lib.ListN.{getD}
-use Rattle.placing.specs.Done.{bytes, ints, longs}
-use Rattle.text_form.specs.Text.{letterWidth}
-use Rattle.tokens.specs.Answers.{tokenIs}
-use Rattle.tokens.proofs.Rests.{no-string}
+use Rattle.snbt_placing.specs.Done.{bytes, ints, longs}
+use Rattle.snbt_form.specs.Text.{letterWidth}
+use Rattle.snbt_tokens.specs.Answers.{tokenIs}
+use Rattle.snbt_tokens.proofs.Rests.{no-string}
 use Rattle.snbt_lists.proofs.Letters.{widthOf, other-letter, quoted-none, longer-none, by-letter, unstrung-none}
 use Rattle.snbt_lists.proofs.letter_of.Statement.{statement}
 use Rattle.snbt_lists.proofs.letter_of.Tie as tie

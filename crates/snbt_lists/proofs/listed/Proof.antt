@@ -2,9 +2,9 @@
 -- Assumes nothing.
 use mathlib.Core.Path.{ap}
 use borrow.Author.Needs.{needs}
-use Rattle.text_form.specs.Lexing.{found}
-use Rattle.text_form.specs.Text.{signOf}
-use Rattle.tokens.specs.Answers.{tokenIs, dataIs}
+use Rattle.snbt_form.specs.Lexing.{found}
+use Rattle.snbt_form.specs.Text.{signOf}
+use Rattle.snbt_tokens.specs.Answers.{tokenIs, dataIs}
 use Rattle.snbt_lists.proofs.Squares.{no-close, list-empty, list-first}
 use Rattle.snbt_lists.proofs.listed.Statement.{statement}
 use Rattle.snbt_lists.proofs.listed.Tie as tie

@@ -5,10 +5,10 @@ use mathlib.Core.Path.{_≡_, sym, ap, subst, _∙_}
 use borrow.Author.Needs.{needs}
 use lib.ListN.{length}
 use Rattle.form.specs.Answer.{got}
-use Rattle.text_form.specs.Lexing.{first, default, found, tokenAt}
-use Rattle.text_form.specs.Text.{signOf}
-use Rattle.text_form.proofs.Moves.{token-moves}
-use Rattle.tokens.specs.Answers.{tokenIs, dataIs, lexedOut}
+use Rattle.snbt_form.specs.Lexing.{first, default, found, tokenAt}
+use Rattle.snbt_form.specs.Text.{signOf}
+use Rattle.snbt_form.proofs.Moves.{token-moves}
+use Rattle.snbt_tokens.specs.Answers.{tokenIs, dataIs, lexedOut}
 use Rattle.snbt_due.proofs.Spanning.{token-spanned}
 use Rattle.snbt_lists.specs.declared.Letter.{Letter}
 use Rattle.snbt_lists.specs.Lists.{LetterIs}

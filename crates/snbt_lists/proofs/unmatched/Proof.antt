@@ -1,7 +1,7 @@
 -- `unmatched` meets its contract: the list's head, then the brace that has no match.
 -- Assumes nothing.
 use borrow.Author.Needs.{needs}
-use Rattle.text_form.specs.Lexing.{ended}
+use Rattle.snbt_form.specs.Lexing.{ended}
 use Rattle.snbt_lists.proofs.Squares.{list-ended}
 use Rattle.snbt_lists.proofs.unmatched.Statement.{statement}
 use Rattle.snbt_lists.proofs.unmatched.Tie as tie

@@ -6,10 +6,10 @@ use native.Mathlib.Omega.{arith}
 use borrow.Author.Needs.{needs}
 use lib.ListN.{length}
 use Rattle.form.specs.Answer.{got}
-use Rattle.text_form.specs.Lexing.{default, found, tokenAt}
-use Rattle.text_form.specs.Text.{signOf}
-use Rattle.text_form.proofs.Moves.{token-moves}
-use Rattle.tokens.specs.Answers.{tokenIs, dataIs}
+use Rattle.snbt_form.specs.Lexing.{default, found, tokenAt}
+use Rattle.snbt_form.specs.Text.{signOf}
+use Rattle.snbt_form.proofs.Moves.{token-moves}
+use Rattle.snbt_tokens.specs.Answers.{tokenIs, dataIs}
 use Rattle.snbt.proofs.Tops.{not-curly, root-no, root-other, root-in, root-as}
 use Rattle.snbt.proofs.scratch.root.Statement.{statement}
 use Rattle.snbt.proofs.scratch.root.Tie as tie

@@ -5,7 +5,7 @@ use mathlib.Core.Path.{_≡_, refl, _∙_}
 use native.Mathlib.Omega.{arith}
 use borrow.Fn.Kinds.{In, Out}
 use lib.ListN.{length}
-use Rattle.tokens.specs.Answers.{lastIs}
+use Rattle.snbt_tokens.specs.Answers.{lastIs}
 use Rattle.snbt.proofs.Tops.{ready-kept}
 use Rattle.snbt.proofs.Entering.{Entering, entering-start, entering-no, entering-more, entering-last}
 use Rattle.snbt.proofs.values.parse_entries.Reads as entries

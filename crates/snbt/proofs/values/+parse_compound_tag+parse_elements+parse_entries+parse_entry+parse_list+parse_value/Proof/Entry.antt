@@ -5,8 +5,8 @@ use mathlib.Core.Path.{_≡_, refl, _∙_}
 use native.Mathlib.Omega.{arith}
 use borrow.Fn.Kinds.{In, Out}
 use lib.ListN.{length}
-use Rattle.tokens.specs.Answers.{lastIs}
-use Rattle.keys.proofs.Runs.{kept-whole}
+use Rattle.snbt_tokens.specs.Answers.{lastIs}
+use Rattle.snbt_keys.proofs.Runs.{kept-whole}
 use Rattle.snbt_entries.specs.Entries.{Keyed}
 use Rattle.snbt.proofs.Tops.{ready-kept}
 use Rattle.snbt.proofs.Naming.{keyed-within, entry-end, entry-value-no, entry-comes, entry-settled}

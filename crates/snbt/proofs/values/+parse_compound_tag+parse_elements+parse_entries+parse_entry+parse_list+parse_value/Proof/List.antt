@@ -4,8 +4,8 @@ use Prim.Native.Nat.{ℕ, _+_, _-_}
 use native.Mathlib.Omega.{arith}
 use borrow.Fn.Kinds.{In, Out}
 use lib.ListN.{length}
-use Rattle.text_form.specs.Lexing as Lexing
-use Rattle.placing.specs.declared.Done.the-variants.{To}
+use Rattle.snbt_form.specs.Lexing as Lexing
+use Rattle.snbt_placing.specs.declared.Done.the-variants.{To}
 use Rattle.snbt_lists.specs.declared.Opened.{Opened}
 use Rattle.snbt_lists.specs.Lists.{OpenedIs}
 use Rattle.snbt.specs.Steps.{ParsedValue}
@@ -14,7 +14,7 @@ use Rattle.snbt.proofs.Listing.{list-array, list-empty, list-value-no, 
 use Rattle.snbt.proofs.values.parse_list.Reads as list
 use Rattle.snbt.proofs.values.parse_list.Kinds as kinds
 use Rattle.snbt_lists.proofs.opened_at.Reads as opened-at
-use Rattle.arrays.proofs.parse_prim_list.Reads as parse-prim-list
+use Rattle.snbt_arrays.proofs.parse_prim_list.Reads as parse-prim-list
 use Rattle.snbt_lists.proofs.put_empty.Reads as put-empty
 use Rattle.snbt.proofs.values.parse_value.Reads as value
 use Rattle.snbt.proofs.values.parse_elements.Reads as elements

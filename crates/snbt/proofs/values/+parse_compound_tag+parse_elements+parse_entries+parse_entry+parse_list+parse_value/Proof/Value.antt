@@ -6,20 +6,20 @@ use native.Mathlib.Omega.{arith}
 use borrow.Fn.Kinds.{In, Out}
 use lib.ListN.{length}
 use Rattle.form.specs.Answer.{got}
-use Rattle.text_form.specs.Lexing.{found, tokenAt}
-use Rattle.text_form.specs.Text.{signOf, valueAt}
-use Rattle.tokens.specs.Answers.{tokenIs, dataIs, lexedOut, stopsIs}
+use Rattle.snbt_form.specs.Lexing.{found, tokenAt}
+use Rattle.snbt_form.specs.Text.{signOf, valueAt}
+use Rattle.snbt_tokens.specs.Answers.{tokenIs, dataIs, lexedOut, stopsIs}
 use Rattle.snbt_due.proofs.Reading.{from-no, from-ended}
 use Rattle.snbt_due.proofs.Steps.{met-at}
 use Rattle.snbt_due.proofs.Spanning.{met-spanned}
 use Rattle.snbt.proofs.Held.{no-curly, no-square, by-compound, by-list, by-scalar, behind-token}
 use Rattle.snbt.proofs.values.parse_value.Reads as value
 use Rattle.snbt.proofs.values.parse_value.Kinds as kinds
-use Rattle.lexer.proofs.token_at.Reads as token-at
+use Rattle.snbt_lexer.proofs.token_at.Reads as token-at
 use Rattle.snbt.proofs.values.parse_compound_tag.Reads as compound-tag
 use Rattle.snbt.proofs.values.alike.Reads as alike
 use Rattle.snbt.proofs.values.parse_list.Reads as list
-use Rattle.scalars.proofs.scalar.Reads as scalar
+use Rattle.snbt_scalars.proofs.scalar.Reads as scalar
 use Rattle.snbt.proofs.values.+parse_compound_tag+parse_elements+parse_entries+parse_entry+parse_list+parse_value.Lts-parse_value as lts
 use Rattle.snbt.proofs.values.+parse_compound_tag+parse_elements+parse_entries+parse_entry+parse_list+parse_value.Proof.Common.{value-at, compound-tag-below, list-below}
 

@@ -1,0 +1,118 @@
+-- Rule 8 cut at the joints of the code: what is asked of one record, and the bytes of one record, taken from its words. proofs/Pieces.antt
+-- and nbt_writer/proofs/Laid.antt put the pieces together: they are `judged` and `layout`.
+-- Assumes nothing.
+use Prim.Native.Nat.{ℕ, _+_, _-_}
+use mathlib.Core.List.{List, [], _++_}
+use mathlib.Core.Bool.{Bool, true, false, not, _||_}
+use lib.Dec.{ltb, eqb}
+use Rattle.form.specs.Answer.{Out, guard, _>>_, nameTwice, tooDeep, mixedList}
+use Rattle.form.specs.Numbers.{bytesOf}
+use Rattle.form.specs.Spans.{part}
+use Rattle.form.specs.Table.{Head, Forest, none, node, word, holds}
+use Rattle.form.specs.Writing.{stringFine, payloadFine, judged}
+use Rattle.nbt_siblings.specs.declared.Repeat.{Repeat}
+use Rattle.nbt_siblings.specs.Names.{firstRepeat}
+
+-- The words of record n but the last.
+abbrev pub headOf : List ℕ → ℕ → Head
+headOf t n = record {
+  kind = word t n 0;
+  name = word t n 1;
+  name-length = word t n 2;
+  start = word t n 3;
+  size = word t n 4;
+  count = word t n 5;
+  list-kind = word t n 6;
+}
+
+-- ---- what is asked of a record
+
+-- A container where none may stand any more (7).
+abbrev pub deep : ℕ → ℕ → Bool
+deep kind left = not (not (holds kind) || ltb 0 left)
+
+-- An element of another kind than its list's, which is k (11).
+abbrev pub mixed : Bool → ℕ → ℕ → Bool
+mixed list kind k = not (not list || eqb kind k)
+
+-- The first record from n up to `end` whose name an earlier one has; elements of a list have no names.
+abbrev pub firstTwice : List ℕ → List ℕ → ℕ → ℕ → Bool → Repeat
+firstTwice doc t n end true = Repeat.Nothing
+firstTwice doc t n end false = firstRepeat doc t n end
+
+-- Whether the answer to `first_repeat` is record i.
+abbrev pub isAt : Repeat → ℕ → Bool
+isAt (Repeat.At r) i = eqb r i
+isAt Repeat.Nothing i = false
+
+-- What stands before the bytes of a payload: a string's length, an array's count.
+unfoldable pub lengthBytes : Head → List ℕ
+lengthBytes h = elim (eqb (h .kind) 8) [
+  | true ↦ bytesOf 2 (h .size)
+  | false ↦ elim (ltb 6 (h .kind)) [ true ↦ bytesOf 4 (h .count) | false ↦ [] ]
+]
+
+-- A list's id and count.
+unfoldable pub listBytes : Head → List ℕ
+listBytes h = bytesOf 1 (h .list-kind) ++ bytesOf 4 (h .count)
+
+module _ (doc : List ℕ) where
+  -- What comes after a record's name: depth (7), kind (11), string payload (12, 4).
+  unfoldable pub restFine : ℕ → Bool → ℕ → ℕ → Head → Out (Unit {0})
+  restFine left list k n h = do
+    guard (not (deep (h .kind) left)) tooDeep n
+    guard (not (mixed list (h .kind) k)) mixedList n
+    payloadFine doc h n
+
+  -- A record by itself, `twice` being whether an earlier one beside it has its name.
+  unfoldable pub ownFine : ℕ → Bool → ℕ → Bool → ℕ → Head → Out (Unit {0})
+  ownFine left list k twice n h = do
+    stringFine doc (h .name) (h .name-length) n
+    guard (not twice) nameTwice n
+    restFine left list k n h
+
+  -- A record and those in it.
+  unfoldable pub oneJudged : ℕ → Bool → ℕ → Bool → ℕ → Head → Forest → Out (Unit {0})
+  oneJudged left list k twice n h inner =
+      ownFine left list k twice n h >> judged doc (left - 1) (eqb (h .kind) 9) (h .list-kind) none (n + 1) inner
+
+  -- ---- the bytes of a record
+
+  -- What stands before the payload: an entry's id and name; nothing of an element of a list.
+  unfoldable pub nameBytes : Bool → Head → List ℕ
+  nameBytes true h = []
+  nameBytes false h = bytesOf 1 (h .kind) ++ (bytesOf 2 (h .name-length) ++ part doc (h .name) (h .name-length))
+
+  -- The payload of what holds no records.
+  unfoldable pub leafBytes : Head → List ℕ
+  leafBytes h = lengthBytes h ++ part doc (h .start) (h .size)
+
+  -- A payload; bs are the bytes of the records in it: a list's id and count come before them, a compound's end byte after.
+  unfoldable pub bodyBytes : Head → List ℕ → List ℕ
+  bodyBytes h bs = elim (eqb (h .kind) 9) [
+    | true ↦ listBytes h ++ bs
+    | false ↦ elim (eqb (h .kind) 10) [ true ↦ bs ++ bytesOf 1 0 | false ↦ leafBytes h ]
+  ]
+
+  -- Records side by side and those in them; a compound's end byte stands with its own record.
+  unfoldable pub laid : Bool → Forest → List ℕ
+  laid list none = []
+  laid list (node h inner later) = nameBytes list h ++ (bodyBytes h (laid (eqb (h .kind) 9) inner) ++ laid list later)
+
+-- How many bytes a payload takes, without those of the records in it.
+unfoldable pub bodySize : Head → ℕ
+bodySize h = elim (ltb (h .kind) 7) [
+  | true ↦ h .size
+  | false ↦ elim (eqb (h .kind) 8) [
+    | true ↦ h .size + 2
+    | false ↦ elim (eqb (h .kind) 9) [
+      | true ↦ 5
+      | false ↦ elim (eqb (h .kind) 10) [ true ↦ 1 | false ↦ h .size + 4 ]
+    ]
+  ]
+]
+
+-- How many bytes a record takes, without those of the records in it.
+unfoldable pub ownSize : Bool → Head → ℕ
+ownSize true h = bodySize h
+ownSize false h = bodySize h + (h .name-length + 3)

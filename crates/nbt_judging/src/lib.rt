@@ -1,0 +1,236 @@
+// Rule 8, the first half: a table's records judged, and their bytes counted. Each function has the name of the definition that it meets,
+// in form/specs/Writing.antt or specs/Pieces.antt; io.rs of the crate judges in the same order.
+ghost use mathlib.Core.Path.{_≡_};
+ghost use mathlib.Core.Bool.{false};
+ghost use Prim.Native.Nat.{_+_, _*_, _≤_};
+ghost use lib.ListN.{length};
+ghost use Rattle.form.specs.Table.{word as wordOf};
+ghost use Rattle.form.specs.Writing.{stringFine, payloadFine};
+ghost use Rattle.nbt_siblings.specs.Lists.{Family};
+ghost use Rattle.nbt_judging.specs.Pieces.{headOf, deep as deepOf, mixed as mixedOf, isAt, firstTwice, restFine, ownFine, bodySize, ownSize};
+ghost use Rattle.nbt_judging.specs.Steps.{fineOut, Placed, Some, One, JudgedIs, OneJudgedIs};
+use nbt_siblings::Repeat;
+use table::kinds;
+
+// A record passes, or its refusal.
+enum Fine {
+    Yes,
+    No { number: u8, place: usize },
+}
+
+// How many bytes records take, or the first refusal among them.
+pub enum Size {
+    Is(usize),
+    No { number: u8, place: usize },
+}
+
+// A container where none may stand any more (7).
+fn deep(kind: usize, left: usize) -> bool
+    ensures { λ r. ⌜ r ≡ deepOf kind left ⌝ }
+{
+    if 0 < left {
+        false
+    } else {
+        table::is_container(kind)
+    }
+}
+
+// An element of another kind than its list's, which is k (11).
+fn mixed(list: bool, kind: usize, k: usize) -> bool
+    ensures { λ r. ⌜ r ≡ mixedOf list kind k ⌝ }
+{
+    if list { kind != k } else { false }
+}
+
+// Whether the answer to `first_repeat` is record i.
+fn is_at(found: Repeat, i: usize) -> bool
+    ensures { λ r. ⌜ r ≡ isAt found i ⌝ }
+{
+    match found {
+        Repeat::At(r) => r == i,
+        Repeat::Nothing => false,
+    }
+}
+
+// A name or a string payload of record n: its length fits a u16 (12), and it is well formed (4).
+fn string_fine(doc: &[u8], start: usize, size: usize, n: usize) -> Fine
+    requires { ⌜ start + size ≤ length (now doc) ⌝ }
+    ensures { λ r. ⌜ fineOut r ≡ stringFine (now (doc .entry)) start size n ⌝ }
+{
+    if form::STRING < size {
+        return Fine::No {
+            number: form::LONG_STRING,
+            place: n,
+        };
+    }
+    let end = start + size;
+    if mutf8::is_well_formed(&doc[start..end]) {
+        return Fine::Yes;
+    }
+    Fine::No {
+        number: form::BAD_STRING,
+        place: n,
+    }
+}
+
+// The string payload of a record, if it has one.
+fn payload_fine(doc: &[u8], table: &[u32], n: usize) -> Fine
+    requires { ⌜ Placed (now doc) (now table) n ⌝ }
+    ensures { λ r. ⌜ fineOut r ≡ payloadFine (now (doc .entry)) (headOf (now (table .entry)) n) n ⌝ }
+{
+    match table::word(table, n, table::KIND) {
+        kinds::STRING => {
+            let start = table::word(table, n, table::START);
+            string_fine(doc, start, table::word(table, n, table::LENGTH), n)
+        }
+        _ => Fine::Yes,
+    }
+}
+
+// What comes after a record's name: depth (7), kind (11), string payload (12, 4).
+fn rest_fine(doc: &[u8], table: &[u32], n: usize, left: usize, list: bool, k: usize) -> Fine
+    requires { ⌜ Placed (now doc) (now table) n ⌝ }
+    ensures { λ r. ⌜ fineOut r ≡ restFine (now (doc .entry)) left list k n (headOf (now (table .entry)) n) ⌝ }
+{
+    let kind = table::word(table, n, table::KIND);
+    if deep(kind, left) {
+        return Fine::No {
+            number: form::TOO_DEEP,
+            place: n,
+        };
+    }
+    if mixed(list, kind, k) {
+        return Fine::No {
+            number: form::MIXED_LIST,
+            place: n,
+        };
+    }
+    payload_fine(doc, table, n)
+}
+
+// A record by itself, in the order of rule 8: name (12, 4, 6), depth (7), kind (11), string payload (12, 4).
+fn own_fine(
+    doc: &[u8],
+    table: &[u32],
+    n: usize,
+    left: usize,
+    list: bool,
+    k: usize,
+    twice: bool,
+) -> Fine
+    requires { ⌜ Placed (now doc) (now table) n ⌝ }
+    ensures { λ r. ⌜ fineOut r ≡ ownFine (now (doc .entry)) left list k twice n (headOf (now (table .entry)) n) ⌝ }
+{
+    let start = table::word(table, n, table::NAME);
+    match string_fine(doc, start, table::word(table, n, table::NAME_LENGTH), n) {
+        Fine::No { number, place } => Fine::No { number, place },
+        Fine::Yes => {
+            if twice {
+                return Fine::No {
+                    number: form::NAME_TWICE,
+                    place: n,
+                };
+            }
+            rest_fine(doc, table, n, left, list, k)
+        }
+    }
+}
+
+// How many bytes a record's payload takes, without those of the records in it.
+fn body_size(table: &[u32], n: usize) -> usize
+    requires { ⌜ (9 * n + 9 ≤ length (now table)) × (wordOf (now table) n 4 ≤ 16777216) ⌝ }
+    ensures { λ r. ⌜ r ≡ bodySize (headOf (now (table .entry)) n) ⌝ }
+{
+    let size = table::word(table, n, table::LENGTH);
+    match table::word(table, n, table::KIND) {
+        kinds::END..=kinds::DOUBLE => size,
+        kinds::STRING => size + 2,
+        kinds::LIST => 5,
+        kinds::COMPOUND => 1,
+        _ => size + 4,
+    }
+}
+
+// How many bytes a record takes, without those of the records in it: an entry's id and name stand before its payload.
+fn own_size(table: &[u32], n: usize, list: bool) -> usize
+    requires { ⌜ (9 * n + 9 ≤ length (now table)) × (wordOf (now table) n 4 ≤ 16777216) × (wordOf (now table) n 2 ≤ 16777216) ⌝ }
+    ensures { λ r. ⌜ r ≡ ownSize list (headOf (now (table .entry)) n) ⌝ }
+{
+    let body = body_size(table, n);
+    if list {
+        return body;
+    }
+    body + (table::word(table, n, table::NAME_LENGTH) + 3)
+}
+
+// The first record from n up to `end` whose name an earlier one has; elements of a list have no names.
+fn first_twice(doc: &[u8], table: &mut [u32], n: usize, end: usize, list: bool) -> Repeat
+    requires { ⌜ (list ≡ false → Family (now doc) (now table) n end) ⌝ }
+    ensures { λ r. ⌜ (r ≡ firstTwice (now (doc .entry)) (now (table .entry)) n end list) × (now (table .exit) ≡ now (table .entry)) ⌝ }
+{
+    if list {
+        return Repeat::Nothing;
+    }
+    nbt_siblings::first_repeat(doc, table, n, end)
+}
+
+// The records side by side from n up to `end`, and those in them: their bytes, or the first refusal.
+pub fn judged(
+    doc: &[u8],
+    table: &mut [u32],
+    n: usize,
+    end: usize,
+    left: usize,
+    list: bool,
+    k: usize,
+) -> Size
+    requires { ⌜ Some (now doc) (now table) list n end ⌝ }
+    ensures { λ r. ⌜ JudgedIs (now (doc .entry)) (now (table .entry)) left list k n end r (now (table .exit)) ⌝ }
+{
+    let repeat = first_twice(doc, table, n, end, list);
+    let mut i = n;
+    let mut total: usize = 0;
+    while i < end {
+        let next = table::word(table, i, table::END);
+        let twice = is_at(repeat, i);
+        match one_judged(doc, table, i, next, left, list, k, twice) {
+            Size::No { number, place } => return Size::No { number, place },
+            Size::Is(size) => {
+                total += size;
+            }
+        }
+        i = next;
+    }
+    Size::Is(total)
+}
+
+// Record n, which ends at `end`, and those in it; what holds no records, an empty container too, is done with no second walk.
+fn one_judged(
+    doc: &[u8],
+    table: &mut [u32],
+    n: usize,
+    end: usize,
+    left: usize,
+    list: bool,
+    k: usize,
+    twice: bool,
+) -> Size
+    requires { ⌜ One (now doc) (now table) list n end ⌝ }
+    ensures { λ r. ⌜ OneJudgedIs (now (doc .entry)) (now (table .entry)) left list k twice n end r (now (table .exit)) ⌝ }
+{
+    match own_fine(doc, table, n, left, list, k, twice) {
+        Fine::No { number, place } => Size::No { number, place },
+        Fine::Yes => {
+            let own = own_size(table, n, list);
+            if end == n + 1 {
+                return Size::Is(own);
+            }
+            let elements = table::word(table, n, table::KIND) == kinds::LIST;
+            let inner = table::word(table, n, table::LIST_KIND);
+            match judged(doc, table, n + 1, end, left - 1, elements, inner) {
+                Size::No { number, place } => Size::No { number, place },
+                Size::Is(size) => Size::Is(own + size),
+            }
+        }
+    }
+}

@@ -1,0 +1,245 @@
+-- Records written one after the other: how far a walk has come, and what one record gives.
+-- Assumes nothing.
+use Prim.Native.Nat.{ℕ, _+_, _≤_, _<_}
+use mathlib.Core.Bool.{Bool, true, false}
+use mathlib.Core.List.{List, _++_}
+use mathlib.Core.Path.{_≡_, refl, sym, ap, subst, _∙_}
+use native.Mathlib.Omega.{arith}
+use borrow.Author.Tests.{eq-eqb, ne-eqb}
+use lib.ListN.{length, length-append}
+use lib.Dec.{eqb}
+use Rattle.form.specs.Numbers.{bytesOf}
+use Rattle.form.specs.Spans.{over}
+use Rattle.form.specs.Table.{Head, Forest, none, node, _⊕_, word}
+use Rattle.form.specs.Tables.{Within}
+use Rattle.form.proofs.Digits.{digits-length as bytes-length}
+use Rattle.nbt_judging.specs.Pieces.{headOf, nameBytes, listBytes, leafBytes, bodyBytes, laid}
+use Rattle.nbt_judging.specs.Steps.{Rows}
+use Rattle.nbt_writer.specs.Steps.{SomeRoom, OneRoom, Puts}
+use Rattle.nbt_writer.proofs.Puts.{puts-none, puts-number, puts-length, puts-then}
+use Rattle.nbt_judging.proofs.Bytes.{laid-none, laid-one, laid-node, laid-append, list-length, body-list, body-compound, body-leaf}
+use Rattle.nbt_judging.proofs.Rows.{Here, rows-here, walk-all, walk-more, here-on, here-rest, here-one, rows-head, rows-inner}
+
+-- ---- how far a walk over records side by side has come
+
+-- The bytes of the records so far are written, and there is room for those left.
+pub record Way (doc t : List ℕ) (list : Bool) (end : ℕ) (f : Forest) (o : List ℕ) (at : ℕ) (o₁ : List ℕ) (i here : ℕ) : Type 0 where
+  pub done : Forest
+  pub rest : Forest
+  pub split : f ≡ done ⊕ rest
+  pub rows : Rows doc t list i end rest
+  pub puts : Puts (laid doc list done) o at o₁ here
+  pub room : at + length (laid doc list done) + length (laid doc list rest) ≤ length o
+
+module _ (doc t : List ℕ) (list : Bool) (end : ℕ) (o : List ℕ) (at : ℕ) where
+  -- At the start nothing is done.
+  pub way-start : {n : ℕ} (p : SomeRoom doc t list n end o at) → Way doc t list end (p .some .forest) o at o n at
+  unfolding _⊕_
+  way-start p =
+      let r = p .room in
+      record {
+        done = none;
+        rest = p .some .forest;
+        split = refl;
+        rows = p .some .rows;
+        puts = rw (laid-none doc list) (puts-none o at);
+        room = omega (arith, ap length (laid-none doc list));
+      }
+
+  module _ {f : Forest} {o₁ : List ℕ} {i here : ℕ} (w : Way doc t list end f o at o₁ i here) where
+    -- The output is as long as it was.
+    pub way-length : length o₁ ≡ length o
+    way-length = let r = w .room in puts-length (w .puts) (omega arith)
+
+    -- At the end all are done.
+    pub way-end : end ≤ i → Puts (laid doc list f) o at o₁ here
+    way-end l =
+        subst (λ g. Puts (laid doc list g) o at o₁ here) (sym (walk-all (w .done) (w .split) (w .rows) l)) (w .puts)
+
+    module _ (l : i < end) where
+      -- The first of those left.
+      first : Here doc t list i end (w .rest)
+      first = rows-here doc t list i end (w .rest) (w .rows) l
+
+      -- It alone, with those in it.
+      abbrev one : Forest
+      one = node (first .head) (first .inner) none
+
+      -- The bytes left are its own and those after it.
+      parted : length (laid doc list (w .rest)) ≡ length (laid doc list one) + length (laid doc list (first .later))
+      parted =
+          ap (λ g. length (laid doc list g)) (first .is)
+          ∙ ap length (laid-node doc list (first .head) (first .inner) (first .later))
+          ∙ length-append (laid doc list one) (laid doc list (first .later))
+
+      module _ {next : ℕ} (e : next ≡ word t i 7) where
+        -- The next record comes after this one, and no later than the end.
+        pub way-on : (i < next) × (next ≤ end)
+        way-on = here-on first refl e
+
+        -- There is room for this one.
+        pub way-one : Within (length doc) t → OneRoom doc t list i next o₁ here
+        way-one s = record { one = here-one first refl e s; room = omega (arith, way-length, w .puts .next, w .room, parted) }
+
+        -- It is written.
+        pub way-next : (s : Within (length doc) t) {o₂ : List ℕ} {there : ℕ}
+            → ((p : OneRoom doc t list i next o₁ here) → Puts (laid doc list (node (p .one .head) (p .one .inner) none)) o₁ here o₂ there)
+            → Way doc t list end f o at o₂ next there
+        unfolding way-one
+        way-next s told =
+            let more = laid-append doc list (w .done) one in
+            let b = w .room in
+            record {
+              done = w .done ⊕ one;
+              rest = first .later;
+              split = walk-more (w .done) (w .split) first;
+              rows = here-rest first refl e;
+              puts = rw more (puts-then (w .puts) (omega arith) (told (way-one s)));
+              room = omega (arith, parted, ap length more, length-append (laid doc list (w .done)) (laid doc list one));
+            }
+
+-- ---- one record
+
+module _ (doc t : List ℕ) (list : Bool) (n end : ℕ) (o : List ℕ) (at : ℕ) (p : OneRoom doc t list n end o at) where
+  -- The record.
+  abbrev pub h : Head
+  h = p .one .head
+
+  -- The records in it.
+  abbrev pub inner : Forest
+  inner = p .one .inner
+
+  -- Its words are those of the head.
+  head : headOf t n ≡ h
+  head = rows-head doc t list n end h inner (p .one .rows)
+
+  -- The bytes before its payload.
+  name : List ℕ
+  name = nameBytes doc list h
+
+  -- Its head has the kind that its words have.
+  pub kind-is : {k : ℕ} → word t n 0 ≡ k → h .kind ≡ k
+  kind-is e = ap (λ x. x .kind) (sym head) ∙ e
+
+  -- The records in it stand in the table.
+  pub held-rows : {b : Bool} → eqb (h .kind) 9 ≡ b → Rows doc t b (n + 1) end inner
+  held-rows e = subst (λ x. Rows doc t x (n + 1) end inner) e (rows-inner doc t list n end h inner (p .one .rows))
+
+  -- Its payload.
+  body : List ℕ
+  body = bodyBytes doc h (laid doc (eqb (h .kind) 9) inner)
+
+  -- Together they are all.
+  whole : length (laid doc list (node h inner none)) ≡ length name + length body
+  unfolding name body
+  whole = ap length (laid-one doc list h inner) ∙ length-append (nameBytes doc list h) (bodyBytes doc h (laid doc (eqb (h .kind) 9) inner))
+
+  -- There is room for its name.
+  pub name-room : at + length (nameBytes doc list (headOf t n)) ≤ length o
+  unfolding name
+  name-room = rw head (omega (arith, p .room, whole))
+
+  module _ {o₁ : List ℕ} {from : ℕ} (a : Puts (nameBytes doc list (headOf t n)) o at o₁ from) where
+    -- The name is written.
+    named : Puts name o at o₁ from
+    unfolding name
+    named = rw head at a
+
+    -- It fits.
+    name-fits : at + length name ≤ length o
+    name-fits = omega (arith, p .room, whole)
+
+    -- The output is as long as it was.
+    long : length o₁ ≡ length o
+    long = puts-length named name-fits
+
+    -- There is room for the payload.
+    left : from + length body ≤ length o₁
+    left = omega (arith, long, named .next, p .room, whole)
+
+    -- The name and the payload make the record.
+    joined : {bs : List ℕ} {o₂ : List ℕ} {r : ℕ} → body ≡ bs → Puts bs o₁ from o₂ r → Puts (laid doc list (node h inner none)) o at o₂ r
+    unfolding name body
+    joined e b = rw (laid-one doc list h inner) (puts-then named name-fits (rw e b))
+
+    -- A leaf.
+    module _ (e : word t n 0 ≡ 9 → ⊥) (f : word t n 0 ≡ 10 → ⊥) where
+      -- Its payload is a leaf's.
+      leaf : body ≡ leafBytes doc h
+      unfolding body
+      leaf = body-leaf doc h _ (λ q. e (ap (λ x. x .kind) head ∙ q)) (λ q. f (ap (λ x. x .kind) head ∙ q))
+
+      -- There is room for it.
+      pub leaf-room : from + length (leafBytes doc (headOf t n)) ≤ length o₁
+      leaf-room = rw head (omega (arith, left, ap length leaf))
+
+      -- It is written.
+      pub put-leaf : {o₂ : List ℕ} {r : ℕ} → Puts (leafBytes doc (headOf t n)) o₁ from o₂ r → Puts (laid doc list (node h inner none)) o at o₂ r
+      put-leaf b = joined leaf (rw head at b)
+
+    -- A list: its id and count, then the elements.
+    module _ (e : word t n 0 ≡ 9) where
+      -- Its payload is a head and elements.
+      listed : body ≡ listBytes h ++ laid doc true inner
+      unfolding body
+      listed = body-list doc h _ (kind-is e) ∙ ap (λ b. listBytes h ++ laid doc b inner) (eq-eqb (h .kind) 9 (kind-is e))
+
+      -- There is room for the head.
+      pub list-room : from + 5 ≤ length o₁
+      list-room = omega (arith, left, ap length listed, length-append (listBytes h) (laid doc true inner), list-length h)
+
+      module _ {o₂ : List ℕ} {first : ℕ} (b : Puts (listBytes (headOf t n)) o₁ from o₂ first) where
+        -- The head is written.
+        started : Puts (listBytes h) o₁ from o₂ first
+        started = rw head at b
+
+        -- It fits.
+        list-fits : from + length (listBytes h) ≤ length o₁
+        list-fits = omega (arith, list-length h, list-room)
+
+        -- There is room for the elements.
+        pub elements-fit : first + length (laid doc true inner) ≤ length o₂
+        elements-fit = omega (arith, left, ap length listed, length-append (listBytes h) (laid doc true inner), started .next, puts-length started list-fits)
+
+        -- So they may be written.
+        abbrev pub list-some : SomeRoom doc t true (n + 1) end o₂ first
+        list-some = record {
+          some = record { small = p .one .small; forest = inner; rows = held-rows (eq-eqb (h .kind) 9 (kind-is e)) };
+          room = elements-fit;
+        }
+
+        -- They are written.
+        pub put-list : {o₃ : List ℕ} {r : ℕ} → ((q : SomeRoom doc t true (n + 1) end o₂ first) → Puts (laid doc true (q .some .forest)) o₂ first o₃ r)
+            → Puts (laid doc list (node h inner none)) o at o₃ r
+        put-list told = joined listed (puts-then started list-fits (told list-some))
+
+    -- A compound: the entries, then the end byte.
+    module _ (e : word t n 0 ≡ 10) where
+      -- So it is no list.
+      pub no-list : eqb (h .kind) 9 ≡ false
+      no-list = ne-eqb (h .kind) 9 (λ q. omega (arith, kind-is e))
+
+      -- Its payload is entries and an end byte.
+      entered : body ≡ laid doc false inner ++ bytesOf 1 0
+      unfolding body
+      entered = body-compound doc h _ (kind-is e) ∙ ap (λ b. laid doc b inner ++ bytesOf 1 0) no-list
+
+      -- There is room for them.
+      pub entries-fit : from + length (laid doc false inner) + 1 ≤ length o₁
+      entries-fit = omega (arith, left, ap length entered, length-append (laid doc false inner) (bytesOf 1 0), bytes-length 1 0)
+
+      -- So they may be written.
+      abbrev pub compound-some : SomeRoom doc t false (n + 1) end o₁ from
+      compound-some = record {
+        some = record { small = p .one .small; forest = inner; rows = held-rows no-list };
+        room = omega (arith, entries-fit);
+      }
+
+      module _ {o₂ : List ℕ} {last : ℕ} (told : (q : SomeRoom doc t false (n + 1) end o₁ from) → Puts (laid doc false (q .some .forest)) o₁ from o₂ last) where
+        -- There is room for the end byte.
+        pub end-room : last + 1 ≤ length o₂
+        end-room = let b = told compound-some in omega (arith, entries-fit, b .next, puts-length b (omega (arith, entries-fit)))
+
+        -- They are written, and the end byte.
+        pub put-compound : {o₃ : List ℕ} → o₃ ≡ over o₂ last (bytesOf 1 0) → Puts (laid doc list (node h inner none)) o at o₃ (last + 1)
+        put-compound g = joined entered (puts-then (told compound-some) (omega (arith, entries-fit)) (puts-number 1 0 (last + 1) refl refl g))

@@ -1,0 +1,171 @@
+// Rule 8: the document that a table stands for, written where its records are judged to keep the rules. Each function has the name of the
+// definition that it meets, in form/specs/Writing.antt or nbt_judging/specs/Pieces.antt; io.rs of the crate writes in the same order.
+ghost use mathlib.Core.Path.{_≡_};
+ghost use Prim.Native.Nat.{_+_, _*_, _≤_};
+ghost use lib.ListN.{length};
+ghost use Rattle.nbt_judging.specs.Pieces.{headOf, nameBytes, lengthBytes, leafBytes, listBytes};
+ghost use Rattle.nbt_judging.specs.Steps.{Placed};
+ghost use Rattle.nbt_writer.specs.Steps.{answerOut, SomeRoom, OneRoom, Puts, PutAllIs, PutOneIs, Formed, WrittenIs, WroteIs, Fits, PutIs};
+use nbt_judging::Size;
+use table::Verdict;
+use table::kinds;
+
+// The answer to a write: the number of bytes written, or the number and the place of the refusal.
+pub enum Answer {
+    Written { bytes: usize },
+    Refused { number: u8, place: usize },
+}
+
+// What stands before a payload, and the place after it: an entry's id and name (rule 3), nothing of an element of a list.
+fn put_name(doc: &[u8], table: &[u32], n: usize, list: bool, out: &mut [u8], at: usize) -> usize
+    requires { ⌜ (Placed (now doc) (now table) n) × (at + length (nameBytes (now doc) list (headOf (now table) n)) ≤ length (now out)) ⌝ }
+    ensures { λ r. ⌜ Puts (nameBytes (now (doc .entry)) list (headOf (now (table .entry)) n)) (now (out .entry)) at (now (out .exit)) r ⌝ }
+{
+    if list {
+        return at;
+    }
+    let size = table::word(table, n, table::NAME_LENGTH);
+    raw::put_number(out, at, 1, table::word(table, n, table::KIND) as u64);
+    raw::put_number(out, at + 1, 2, size as u64);
+    slices::copy(doc, table::word(table, n, table::NAME), size, out, at + 3);
+    at + 3 + size
+}
+
+// A string's length or an array's count (rule 4), and the place after it.
+fn put_length(table: &[u32], n: usize, out: &mut [u8], at: usize) -> usize
+    requires { ⌜ (9 * n + 9 ≤ length (now table)) × (at + length (lengthBytes (headOf (now table) n)) ≤ length (now out)) ⌝ }
+    ensures { λ r. ⌜ Puts (lengthBytes (headOf (now (table .entry)) n)) (now (out .entry)) at (now (out .exit)) r ⌝ }
+{
+    match table::word(table, n, table::KIND) {
+        kinds::END..=kinds::DOUBLE => at,
+        kinds::STRING => {
+            raw::put_number(out, at, 2, table::word(table, n, table::LENGTH) as u64);
+            at + 2
+        }
+        _ => {
+            raw::put_number(out, at, 4, table::word(table, n, table::COUNT) as u64);
+            at + 4
+        }
+    }
+}
+
+// The payload of what holds no records (rule 4), and the place after it.
+fn put_leaf(doc: &[u8], table: &[u32], n: usize, out: &mut [u8], at: usize) -> usize
+    requires { ⌜ (Placed (now doc) (now table) n) × (at + length (leafBytes (now doc) (headOf (now table) n)) ≤ length (now out)) ⌝ }
+    ensures { λ r. ⌜ Puts (leafBytes (now (doc .entry)) (headOf (now (table .entry)) n)) (now (out .entry)) at (now (out .exit)) r ⌝ }
+{
+    let from = put_length(table, n, out, at);
+    let size = table::word(table, n, table::LENGTH);
+    slices::copy(doc, table::word(table, n, table::START), size, out, from);
+    from + size
+}
+
+// A list's id and count (rule 4), and the place after them; of an empty list five zero bytes.
+fn put_list(table: &[u32], n: usize, out: &mut [u8], at: usize) -> usize
+    requires { ⌜ (9 * n + 9 ≤ length (now table)) × (at + 5 ≤ length (now out)) ⌝ }
+    ensures { λ r. ⌜ Puts (listBytes (headOf (now (table .entry)) n)) (now (out .entry)) at (now (out .exit)) r ⌝ }
+{
+    raw::put_number(out, at, 1, table::word(table, n, table::LIST_KIND) as u64);
+    raw::put_number(out, at + 1, 4, table::word(table, n, table::COUNT) as u64);
+    at + 5
+}
+
+// Record n, which ends at `end`, and those in it, written at `at`; the place after them.
+fn put_one(
+    doc: &[u8],
+    table: &[u32],
+    n: usize,
+    end: usize,
+    list: bool,
+    out: &mut [u8],
+    at: usize,
+) -> usize
+    requires { ⌜ OneRoom (now doc) (now table) list n end (now out) at ⌝ }
+    ensures { λ r. ⌜ PutOneIs (now (doc .entry)) (now (table .entry)) list n end (now (out .entry)) at (now (out .exit)) r ⌝ }
+{
+    let from = put_name(doc, table, n, list, out, at);
+    match table::word(table, n, table::KIND) {
+        kinds::LIST => {
+            let first = put_list(table, n, out, from);
+            put_all(doc, table, n + 1, end, true, out, first)
+        }
+        kinds::COMPOUND => {
+            let last = put_all(doc, table, n + 1, end, false, out, from);
+            raw::put_number(out, last, 1, 0);
+            last + 1
+        }
+        _ => put_leaf(doc, table, n, out, from),
+    }
+}
+
+// The records side by side from n up to `end`, and those in them, written at `at`; the place after them.
+fn put_all(
+    doc: &[u8],
+    table: &[u32],
+    n: usize,
+    end: usize,
+    list: bool,
+    out: &mut [u8],
+    at: usize,
+) -> usize
+    requires { ⌜ SomeRoom (now doc) (now table) list n end (now out) at ⌝ }
+    ensures { λ r. ⌜ PutAllIs (now (doc .entry)) (now (table .entry)) list n end (now (out .entry)) at (now (out .exit)) r ⌝ }
+{
+    let mut i = n;
+    let mut here = at;
+    while i < end {
+        let next = table::word(table, i, table::END);
+        here = put_one(doc, table, i, next, list, out, here);
+        i = next;
+    }
+    here
+}
+
+// Writes a table whose records are known to keep the rules, where the output is known to have room: the bytes written.
+pub fn put(doc: &[u8], table: &[u32], out: &mut [u8]) -> usize
+    requires { ⌜ Fits (now doc) (now table) (now out) ⌝ }
+    ensures { λ r. ⌜ PutIs (now (doc .entry)) (now (table .entry)) (now (out .entry)) (now (out .exit)) r ⌝ }
+{
+    let end = table::word(table, 0, table::END);
+    put_all(doc, table, 0, end, false, out, 0)
+}
+
+// A table: its records are judged, then there is room (13), then they are written. The root is taken as records side by side, of which
+// there is one, so that each walk has one loop in which small records are done with no call.
+fn written(doc: &[u8], table: &mut [u32], out: &mut [u8]) -> Answer
+    requires { ⌜ Formed (now doc) (now table) ⌝ }
+    ensures { λ r. ⌜ (WrittenIs (now (doc .entry)) (now (table .entry)) (now (out .entry)) r (now (out .exit))) × (now (table .exit) ≡ now (table .entry)) ⌝ }
+{
+    let end = table::word(table, 0, table::END);
+    match nbt_judging::judged(doc, table, 0, end, form::DEPTH, false, 0) {
+        Size::No { number, place } => Answer::Refused { number, place },
+        Size::Is(bytes) => {
+            if out.len() < bytes {
+                return Answer::Refused {
+                    number: form::OUTPUT_FULL,
+                    place: 0,
+                };
+            }
+            put_all(doc, table, 0, end, false, out, 0);
+            Answer::Written { bytes }
+        }
+    }
+}
+
+// Writes the document that a table stands for: a limit first (9), then whether the words form a table (10), then its records. The table
+// is lent to be changed, since the search for repeated names uses the records' free words; it comes back as it was.
+pub fn write(doc: &[u8], table: &mut [u32], out: &mut [u8]) -> Answer
+    ensures { λ r. ⌜ WroteIs (now (doc .entry)) (now (table .entry)) (now (table .exit)) (now (out .entry)) (answerOut r) (now (out .exit)) ⌝ }
+{
+    match table::is_table(doc.len(), table) {
+        Verdict::OverLimit => Answer::Refused {
+            number: form::OVER_LIMIT,
+            place: 0,
+        },
+        Verdict::NoTable => Answer::Refused {
+            number: form::NO_TABLE,
+            place: 0,
+        },
+        Verdict::Table => written(doc, table, out),
+    }
+}
