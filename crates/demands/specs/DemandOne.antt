@@ -11,7 +11,8 @@ use lib.ListN.{length, drop, getD, replicate}
 use Rattle.form.specs.Answer.{badString, overLimit, badText, moreMatches}
 use Rattle.form.specs.Moved.{Edition}
 use Rattle.snbt_form.specs.Lexing.{among}
-use Rattle.calls.specs.Calls.{Mutf8Called, Utf8Called, ReadCalled, TableCalled, WriteCalled, RescueCalled, WriteLinesCalled, ReadLinesCalled, MoveCalled, QueryCalled, TokenCalled, ContentCalled, ParseCalled}
+use Rattle.calls.specs.Calls.{Mutf8Called, Utf8Called, ReadCalled, TableCalled, WriteCalled, RescueCalled, WriteLinesCalled, ReadLinesCalled, MoveCalled, QueryCalled, TokenCalled}
+use Rattle.calls.specs.Calls.{ContentCalled, ParseCalled}
 use Rattle.demands.specs.Reading.{Bytes}
 use Rattle.demands.specs.Numbers.{readNumbers, writeNumbers, rescueNumbers, writeLinesNumbers, readLinesNumbers, moveNumbers, queryNumbers, tokenNumbers, contentNumbers, parseNumbers}
 

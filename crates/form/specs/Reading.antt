@@ -7,7 +7,8 @@ use mathlib.Core.Bool.{Bool, true, false, not, _||_, _&&_}
 use mathlib.Core.Path.{_≡_}
 use lib.ListN.{length, getD, replicate}
 use lib.Dec.{ltb, leb, eqb}
-use Rattle.form.specs.Answer.{Out, got, no, _>>=_, _>>_, guard, dataEnds, rootId, tagId, badString, negativeCount, nameTwice, tooDeep, tableFull, overLimit, documentLimit, recordLimit, depthLimit}
+use Rattle.form.specs.Answer.{Out, got, no, _>>=_, _>>_, guard, dataEnds, rootId, tagId, badString, negativeCount, nameTwice, tooDeep, tableFull, overLimit, documentLimit, recordLimit}
+use Rattle.form.specs.Answer.{depthLimit}
 use Rattle.form.specs.Spans.{part, same}
 use Rattle.form.specs.Numbers.{bigEndian}
 use Rattle.form.specs.Decoding.{wellFormed}

@@ -15,7 +15,8 @@ use Rattle.query_reach.specs.Sets.{has, Bits, Shut, Gathers, gathered}
 use Rattle.query_reach.proofs.Bools.{no-way, or-left, or-right, or-cases, or-swap, or-false, or-implied}
 use Rattle.form.proofs.Picks.{or-assoc}
 use Rattle.query_reach.proofs.Sets.{has-none, has-or, has-one}
-use Rattle.query_reach.proofs.Reached.{among-cons, among-append, from, end-end, end-hop, one-end, one-hop, deep-end, deep-hop, last-passed, none-left, deep-last, one-last, reached-own, reached-shut}
+use Rattle.query_reach.proofs.Reached.{among-cons, among-append, from, end-end, end-hop, one-end, one-hop, deep-end, deep-hop, last-passed, none-left, deep-last, one-last}
+use Rattle.query_reach.proofs.Reached.{reached-own, reached-shut}
 
 -- The path left, where it is not nothing.
 left-hop : (left : ℕ) (h : Hop) → (left ≡ 0 → ⊥) → leftOf left h ≡ h ∷ []

@@ -12,7 +12,8 @@ use Rattle.form.proofs.Picks.{pick-le, lt-or}
 use mathlib.Core.Logic.{_⊎_, inl, inr}
 use borrow.Author.Tests.{le-leb, lt-leb}
 use Rattle.snbt_form.specs.Numbers.{Number, isDigit, number}
-use Rattle.snbt_form.specs.Lexing.{Stops, Token, openCurly, closedCurly, openSquare, closedSquare, comma, colon, semicolon, string, numeral, TokenData, Lexed, found, ended, frontOf, Front, scalarsBy, contentOf, made, unquoted, unquotedAt, word, quoted, Quoted, quotedAt, tokenBy, skip, tokenAt}
+use Rattle.snbt_form.specs.Lexing.{Stops, Token, openCurly, closedCurly, openSquare, closedSquare, comma, colon, semicolon, string, numeral, TokenData, Lexed, found, ended, frontOf, Front}
+use Rattle.snbt_form.specs.Lexing.{scalarsBy, contentOf, made, unquoted, unquotedAt, word, quoted, Quoted, quotedAt, tokenBy, skip, tokenAt}
 use Rattle.snbt_form.specs.Text.{stringOf}
 use Rattle.form.specs.Spans.{part}
 use Rattle.snbt_form.proofs.Moves.{Holds, holds-bind, either-way, from-got, word-reach, token-moves}

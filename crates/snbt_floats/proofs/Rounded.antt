@@ -3,7 +3,8 @@
 use mathlib.Core.Path.{_≡_, sym, ap, ap₂, _∙_, subst}
 use mathlib.Core.Logic.{_⊎_, inl, inr}
 use Prim.Native.Nat.{ℕ, zero, suc, _+_, _-_, _*_, _/_, _%_, _^_, _≤_, _<_, compare}
-use native.Mathlib.Nat.{le-trans, le-of-eq, le-antisymm, lt-of-lt-of-le, lt-of-le-of-lt, lt-of-not-le, lt-irrefl, le-of-suc-le-suc, eq-or-lt-of-le, eq-zero-or-pos, mul-one, mul-comm, mul-assoc, suc-mul, mul-le-mul-right, mul-div-cancel, div-div-eq-div-mul, le-div-iff-mul-le, le-of-mul-le-mul-right, add-assoc, pow-succ'}
+use native.Mathlib.Nat.{le-trans, le-of-eq, le-antisymm, lt-of-lt-of-le, lt-of-le-of-lt, lt-of-not-le, lt-irrefl, le-of-suc-le-suc, eq-or-lt-of-le, eq-zero-or-pos, mul-one, mul-comm}
+use native.Mathlib.Nat.{mul-assoc, suc-mul, mul-le-mul-right, mul-div-cancel, div-div-eq-div-mul, le-div-iff-mul-le, le-of-mul-le-mul-right, add-assoc, pow-succ'}
 use native.Mathlib.Omega.{arith}
 use mathlib.Core.Bool.{Bool, true, false, not, cond}
 use lib.Dec.{T, ltb, ltb→lt, nltb→le}

@@ -13,7 +13,8 @@ use lib.Ieee.Bits.{toBits-lt}
 use Rattle.form.specs.Answer.{Out, pick}
 use Rattle.form.specs.Numbers.{valuesIn}
 use Rattle.snbt_form.specs.Values.{nearestTo, scaled, toSingle}
-use Rattle.snbt_form.specs.Numbers.{Number, byte, short, int, long, float, double, isDigit, isPoint, isLetter, empty, has, before, behind, digits, worth, power, exponent, exponentIn, lastOf, butLast, stem, negative, unsigned, suffixed, wholeOf, wholeNumber, decimalBy, decimalOf, decimal, realNumber, decimalNumber, number}
+use Rattle.snbt_form.specs.Numbers.{Number, byte, short, int, long, float, double, isDigit, isPoint, isLetter, empty, has, before, behind, digits, worth, power, exponent, exponentIn}
+use Rattle.snbt_form.specs.Numbers.{lastOf, butLast, stem, negative, unsigned, suffixed, wholeOf, wholeNumber, decimalBy, decimalOf, decimal, realNumber, decimalNumber, number}
 use Rattle.snbt_form.specs.Lexing.{among}
 use Rattle.snbt_form.proofs.Gives.{ofNumber, Gives, Any, gives-got, gives-no, gives-bind, gives-guard, gives-pick}
 

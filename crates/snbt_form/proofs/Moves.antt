@@ -11,7 +11,9 @@ use Rattle.form.specs.Answer.{Out, got, no, _>>=_, pick}
 use Rattle.form.specs.Spans.{part}
 use Rattle.form.proofs.Picks.{pick-le}
 use Rattle.snbt_form.specs.Numbers.{Number, isDigit, number}
-use Rattle.snbt_form.specs.Lexing.{Stops, blank, begins, Token, openCurly, closedCurly, openSquare, closedSquare, comma, colon, semicolon, string, numeral, TokenData, Lexed, found, ended, Scan, Word, stops, after, slurp, begun, word, unquoted, Escape, stands, bad, cut, escapeOf, Quoted, onEscape, quotedBy, quoted, skipBy, skip, made, sign, unquotedAt, quotedAt, tokenBy, tokenAt}
+use Rattle.snbt_form.specs.Lexing.{Stops, blank, begins, Token, openCurly, closedCurly, openSquare, closedSquare, comma, colon, semicolon, string, numeral, TokenData, Lexed, found}
+use Rattle.snbt_form.specs.Lexing.{ended, Scan, Word, stops, after, slurp, begun, word, unquoted, Escape, stands, bad, cut, escapeOf, Quoted, onEscape, quotedBy, quoted, skipBy, skip}
+use Rattle.snbt_form.specs.Lexing.{made, sign, unquotedAt, quotedAt, tokenBy, tokenAt}
 
 -- ---- an answer whose value has a property
 

@@ -13,7 +13,8 @@ use Rattle.form.specs.Answer.{Out, got, pick, textLimit}
 use Rattle.form.specs.Decoding.{utf8Verdict, isGood}
 use Rattle.form.specs.Spans.{part}
 use Rattle.snbt_form.specs.Numbers.{isDigit, number}
-use Rattle.snbt_form.specs.Lexing.{among, judgedText, Stops, Token, openCurly, closedCurly, openSquare, closedSquare, comma, colon, semicolon, string, numeral, Lexed, found, ended, word, begins, unquoted, Escape, stands, bad, cut, escapeOf, Quoted, onEscape, quotedBy, quoted, skip, unquotedAt, quotedAt, tokenBy, tokenAt}
+use Rattle.snbt_form.specs.Lexing.{among, judgedText, Stops, Token, openCurly, closedCurly, openSquare, closedSquare, comma, colon, semicolon, string, numeral, Lexed, found, ended}
+use Rattle.snbt_form.specs.Lexing.{word, begins, unquoted, Escape, stands, bad, cut, escapeOf, Quoted, onEscape, quotedBy, quoted, skip, unquotedAt, quotedAt, tokenBy, tokenAt}
 use Rattle.snbt_form.specs.Text.{Next, orElse, due}
 use Rattle.snbt_form.proofs.Gives.{ofWhole, ofEscape, ofToken, allIn, among-all, Gives, Any, gives-got, gives-no, gives-bind, gives-guard, gives-test, gives-pick, gives-also, gives-all}
 use Rattle.snbt_form.proofs.Contents.{Stands, escape-stands}

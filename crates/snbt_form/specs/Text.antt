@@ -10,7 +10,8 @@ use lib.Dec.{ltb, leb, eqb}
 use lib.IntN.{ℤ, pos, negsuc}
 use lib.ListN.{length, getD, replicate}
 use lib.Ieee.{binary32, binary64, toBits}
-use Rattle.form.specs.Answer.{Out, got, no, _>>=_, _>>_, guard, pick, nameTwice, tooDeep, mixedList, longString, outputFull, unexpectedToken, textEnds, trailingComma, unmatchedBrace, depthLimit, stringLimit}
+use Rattle.form.specs.Answer.{Out, got, no, _>>=_, _>>_, guard, pick, nameTwice, tooDeep, mixedList, longString, outputFull, unexpectedToken, textEnds, trailingComma, unmatchedBrace}
+use Rattle.form.specs.Answer.{depthLimit, stringLimit}
 use Rattle.form.specs.Numbers.{valuesIn}
 use Rattle.form.specs.Spans.{same, over}
 use Rattle.form.specs.Tree as tree
@@ -18,7 +19,8 @@ use Rattle.form.specs.Tree.{Tag, Tags, Entries, nil, more, entry, kindOf, Docum
 use Rattle.form.specs.Layout.{payload, layout}
 use Rattle.snbt_form.specs.Values.{toSingle}
 use Rattle.snbt_form.specs.Numbers.{Number, byte, short, int, long, float, double}
-use Rattle.snbt_form.specs.Lexing.{Stops, default, key, value, first, later, Token, openCurly, closedCurly, openSquare, closedSquare, comma, colon, semicolon, string, numeral, TokenData, Lexed, found, ended, tokenAt, contentOf, judgedText}
+use Rattle.snbt_form.specs.Lexing.{Stops, default, key, value, first, later, Token, openCurly, closedCurly, openSquare, closedSquare, comma, colon, semicolon, string, numeral}
+use Rattle.snbt_form.specs.Lexing.{TokenData, Lexed, found, ended, tokenAt, contentOf, judgedText}
 
 -- ---- what the definitions give
 

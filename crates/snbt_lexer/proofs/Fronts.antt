@@ -12,7 +12,8 @@ use Rattle.form.specs.Answer.{got}
 use Rattle.form.specs.Spans.{part}
 use Rattle.form.proofs.Picks.{pick-eq, lt-or}
 use Rattle.snbt_form.specs.Numbers.{Number, isDigit, number}
-use Rattle.snbt_form.specs.Lexing.{Stops, Token, openCurly, closedCurly, openSquare, closedSquare, comma, colon, semicolon, string, numeral, TokenData, Lexed, found, ended, word, unquoted, quoted, made, sign, unquotedAt, quotedAt, tokenBy, skip, tokenAt}
+use Rattle.snbt_form.specs.Lexing.{Stops, Token, openCurly, closedCurly, openSquare, closedSquare, comma, colon, semicolon, string, numeral, TokenData, Lexed, found, ended, word, unquoted}
+use Rattle.snbt_form.specs.Lexing.{quoted, made, sign, unquotedAt, quotedAt, tokenBy, skip, tokenAt}
 use Rattle.snbt_form.specs.Text.{signOf}
 use Rattle.snbt_form.proofs.Moves.{Holds, holds-bind, either-way, from-got}
 use Rattle.snbt_lexer.specs.Answers.{PeekedIs}

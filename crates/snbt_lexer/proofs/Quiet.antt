@@ -9,7 +9,8 @@ use lib.ListN.{length, getD}
 use Rattle.form.specs.Answer.{got}
 use Rattle.form.specs.Spans.{part}
 use Rattle.snbt_form.specs.Numbers.{Number, noNan, isDigit, number}
-use Rattle.snbt_form.specs.Lexing.{Stops, Token, openCurly, closedCurly, openSquare, closedSquare, comma, colon, semicolon, string, numeral, TokenData, Lexed, found, ended, word, unquoted, quoted, made, unquotedAt, quotedAt, tokenBy, skip, tokenAt}
+use Rattle.snbt_form.specs.Lexing.{Stops, Token, openCurly, closedCurly, openSquare, closedSquare, comma, colon, semicolon, string, numeral, TokenData, Lexed, found, ended, word, unquoted}
+use Rattle.snbt_form.specs.Lexing.{quoted, made, unquotedAt, quotedAt, tokenBy, skip, tokenAt}
 use Rattle.snbt_form.proofs.Moves.{Holds, holds-bind, either-way, from-got}
 use Rattle.snbt_numbers.proofs.NoNan.{number-no-nan}
 

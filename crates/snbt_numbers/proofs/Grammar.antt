@@ -16,7 +16,8 @@ use lib.Ieee.{Float}
 use Rattle.form.specs.Answer.{Out, got, no, guard, pick, badNumber, _>>=_, _>>_}
 use Rattle.form.proofs.Picks.{lt-or}
 use Rattle.snbt_form.specs.Values.{signed, scaled}
-use Rattle.snbt_form.specs.Numbers.{Number, isDigit, isPoint, isLetter, empty, has, before, behind, digits, worth, wholeNumber, power, exponent, decimalBy, decimalOf, decimal, realNumber, decimalNumber, number}
+use Rattle.snbt_form.specs.Numbers.{Number, isDigit, isPoint, isLetter, empty, has, before, behind, digits, worth, wholeNumber, power, exponent, decimalBy, decimalOf, decimal, realNumber}
+use Rattle.snbt_form.specs.Numbers.{decimalNumber, number}
 use Rattle.snbt_numbers.specs.Rows.{cap, digitsOf, either, FirstAt, counted, powerOf, exponentOf, combine, valueIn, endingOf}
 use Rattle.snbt_numbers.specs.declared.digits.Digits.the-variants.{Value, Bad}
 use Rattle.snbt_numbers.specs.declared.decimals.Exponent.{Exponent}

@@ -23,7 +23,8 @@ use Rattle.nbt_gather.proofs.+gather_compound+gather_elements+gather_la
 use Rattle.nbt_gather.proofs.+gather_compound+gather_elements+gather_larger_body+gather_tag_body.Lts-gather_tag_body as gather-tag-body-lts
 use Rattle.nbt_gather.proofs.+gather_compound+gather_elements+gather_larger_body+gather_tag_body.{statement}
 use Rattle.nbt_gather.proofs.+gather_compound+gather_elements+gather_larger_body+gather_tag_body.Tie.{close}
-use Common.{μ-gather-compound, μ-gather-elements, μ-gather-larger-body, μ-gather-tag-body, gather-compound-at, gather-elements-at, gather-larger-body-at, gather-tag-body-at, gather-compound-below, gather-elements-below, gather-larger-body-below, gather-tag-body-below}
+use Common.{μ-gather-compound, μ-gather-elements, μ-gather-larger-body, μ-gather-tag-body, gather-compound-at, gather-elements-at, gather-larger-body-at, gather-tag-body-at}
+use Common.{gather-compound-below, gather-elements-below, gather-larger-body-below, gather-tag-body-below}
 
 pub +gather-compound+gather-elements+gather-larger-body+gather-tag-body-spec : {M : Type 1} → statement M
 +gather-compound+gather-elements+gather-larger-body+gather-tag-body-spec =

@@ -32,7 +32,8 @@ use Rattle.nbt_reader.proofs.bodies.+read_compound+read_container+read_
 use Rattle.nbt_reader.proofs.bodies.+read_compound+read_container+read_elements+read_larger_body+read_list+read_tag_body.Lts-read_tag_body as read-tag-body-lts
 use Rattle.nbt_reader.proofs.bodies.+read_compound+read_container+read_elements+read_larger_body+read_list+read_tag_body.{statement}
 use Rattle.nbt_reader.proofs.bodies.+read_compound+read_container+read_elements+read_larger_body+read_list+read_tag_body.Tie.{close}
-use Common.{μ-read-compound, μ-read-container, μ-read-elements, μ-read-larger-body, μ-read-list, μ-read-tag-body, read-compound-at, read-container-at, read-elements-at, read-larger-body-at, read-list-at, read-tag-body-at, read-compound-below, read-container-below, read-elements-below, read-larger-body-below, read-list-below, read-tag-body-below}
+use Common.{μ-read-compound, μ-read-container, μ-read-elements, μ-read-larger-body, μ-read-list, μ-read-tag-body, read-compound-at, read-container-at, read-elements-at, read-larger-body-at}
+use Common.{read-list-at, read-tag-body-at, read-compound-below, read-container-below, read-elements-below, read-larger-body-below, read-list-below, read-tag-body-below}
 
 pub +read-compound+read-container+read-elements+read-larger-body+read-list+read-tag-body-spec : {M : Type 1} → statement M
 +read-compound+read-container+read-elements+read-larger-body+read-list+read-tag-body-spec =
