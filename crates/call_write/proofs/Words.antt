@@ -11,6 +11,6 @@ pub write-accepted : (doc t t′ o o′ : List ℕ) {r : Answer} {n : ℕ} → r
     → WriteCalled doc t t′ o o′ (0 ∷ 0 ∷ n ∷ 0 ∷ 0 ∷ 0 ∷ 0 ∷ 0 ∷ [])
 write-accepted doc t t′ o o′ {r} e h = record { result = answerOut r; is = h .is; words-are = rw e refl; kept = h .kept }
 
-pub write-refused : (doc t t′ o o′ : List ℕ) {r : Answer} {n p : ℕ} → r ≡ Answer.Refused n p → WroteIs doc t t′ o (answerOut r) o′
-    → WriteCalled doc t t′ o o′ (n ∷ p ∷ 0 ∷ 0 ∷ 0 ∷ 0 ∷ 0 ∷ 0 ∷ [])
+pub write-refused : (doc t t′ o o′ : List ℕ) {r : Answer} {n p b : ℕ} → r ≡ Answer.Refused n p b → WroteIs doc t t′ o (answerOut r) o′
+    → WriteCalled doc t t′ o o′ (n ∷ p ∷ b ∷ 0 ∷ 0 ∷ 0 ∷ 0 ∷ 0 ∷ [])
 write-refused doc t t′ o o′ {r} e h = record { result = answerOut r; is = h .is; words-are = rw e refl; kept = h .kept }

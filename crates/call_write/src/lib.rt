@@ -11,9 +11,10 @@ pub fn write(doc: &[u8], table: &mut [u32], out: &mut [u8], answer: &mut [u64; 8
         }
         nbt_writer::Answer::Refused {
             number: refusal,
-            place: record,
+            place: at,
+            record: beside,
         } => {
-            *answer = [refusal as u64, record as u64, 0, 0, 0, 0, 0, 0];
+            *answer = [refusal as u64, at as u64, beside as u64, 0, 0, 0, 0, 0];
         }
     }
 }

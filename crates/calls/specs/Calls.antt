@@ -7,7 +7,7 @@ use mathlib.Core.List.{List, [], _∷_}
 use mathlib.Core.Bool.{not}
 use lib.Dec.{eqb}
 use lib.ListN.{length}
-use Rattle.form.specs.Answer.{Out, badString, overLimit, badText}
+use Rattle.form.specs.Answer.{Out, badString, overLimit, badText, Count}
 use Rattle.form.specs.Strings.{scalarBytes, utf8Bytes}
 use Rattle.form.specs.Decoding.{Sequence, Verdict, scalarOf, utf8Of, Judged}
 use Rattle.form.specs.Tables.{IsTable, Within}
@@ -16,11 +16,11 @@ use Rattle.form.specs.Writing.{WriteIs, lengthOf, outputAfter}
 use Rattle.form.specs.Cut.{rescuing, sizesOf, bytesAfter, linesAfter}
 use Rattle.form.specs.Stored.{WriteLinesIs, readingLines, recordsOf, wordsAfter}
 use Rattle.form.specs.Moved.{Edition, MoveIs}
-use Rattle.form.specs.Query.{Count, QueryIs}
+use Rattle.form.specs.Query.{QueryIs}
 use Rattle.snbt_form.specs.Lexing.{lexed, content}
 use Rattle.snbt_form.specs.Text as text
 use Rattle.snbt_form.specs.Text.{parsed, lengthsOf}
-use Rattle.calls.specs.Words.{accepted, refusal, verdictWords, readWords, countWords, rescueWords, queryWords, tokenWords, stopsOf, parseWords}
+use Rattle.calls.specs.Words.{accepted, refusal, verdictWords, readWords, countWords, besideWords, rescueWords, tokenWords, stopsOf, parseWords}
 
 -- A check of a string of some coding, whose refusal has the number n: accepted exactly if the bytes are the encoding of some scalar
 -- values, else refused where the first sequence that can't be read begins.
@@ -50,9 +50,9 @@ pub record TableCalled (d : ℕ) (t answer : List ℕ) : Type 0 where
 
 -- A write: rule 8's answer in the words, every byte of the output, and the table as it was.
 pub record WriteCalled (doc t t′ o o′ answer : List ℕ) : Type 0 where
-  pub result : Out ℕ
+  pub result : Count
   pub is : WriteIs doc t o result o′
-  pub words-are : answer ≡ countWords result
+  pub words-are : answer ≡ besideWords result
   pub kept : t′ ≡ t
 
 -- A rescue ([11]): every word of the answer and of the changes, every byte of the output, and the table as the read leaves it. The form is
@@ -84,7 +84,7 @@ pub record MoveCalled (e : Edition) (d : ℕ) (s o o′ answer : List ℕ) : Typ
 pub record QueryCalled (doc t q l l′ answer : List ℕ) : Type 0 where
   pub result : Count
   pub is : QueryIs doc t q l result l′
-  pub words-are : answer ≡ queryWords result
+  pub words-are : answer ≡ besideWords result
 
 -- A token (rules 10 to 13), for a stop set by its number.
 pub record TokenCalled (t : List ℕ) (start stops : ℕ) (answer : List ℕ) : Type 0 where

@@ -6,10 +6,9 @@ use mathlib.Core.List.{List, [], _∷_}
 use mathlib.Core.Bool.{true, false}
 use lib.Dec.{eqb}
 use lib.Ieee.{binary64, toBits}
-use Rattle.form.specs.Answer.{Out, got, no, pick}
+use Rattle.form.specs.Answer.{Out, got, no, pick, Count, counted, failed}
 use Rattle.form.specs.Decoding.{Verdict, good, bad}
 use Rattle.form.specs.Reading.{Counts}
-use Rattle.form.specs.Query.{Count, counted, failed}
 use Rattle.form.specs.Cut as cut
 use Rattle.form.specs.Cut.{Sizes, sizes}
 use Rattle.form.specs.Numbers.{bitsOf}
@@ -35,15 +34,16 @@ abbrev pub readWords : Out Counts → List ℕ
 readWords (got c) = 0 ∷ 0 ∷ c .consumed ∷ c .records ∷ 0 ∷ 0 ∷ 0 ∷ 0 ∷ []
 readWords (no n p) = refusal n p
 
--- A write, a content or lines: the number of bytes written, or of records read.
+-- A content or lines: the number of bytes written, or of records read.
 abbrev pub countWords : Out ℕ → List ℕ
 countWords (got n) = 0 ∷ 0 ∷ n ∷ 0 ∷ 0 ∷ 0 ∷ 0 ∷ 0 ∷ []
 countWords (no n p) = refusal n p
 
--- A query: the number of matches, which refusal 24 gives too.
-abbrev pub queryWords : Count → List ℕ
-queryWords (counted c) = 0 ∷ 0 ∷ c ∷ 0 ∷ 0 ∷ 0 ∷ 0 ∷ 0 ∷ []
-queryWords (failed n p c) = n ∷ p ∷ c ∷ 0 ∷ 0 ∷ 0 ∷ 0 ∷ 0 ∷ []
+-- A write or a query: the number of bytes written or of matches; a refusal has the third word too, for the record of a write's 4 and the
+-- true count in a query's 24.
+abbrev pub besideWords : Count → List ℕ
+besideWords (counted c) = 0 ∷ 0 ∷ c ∷ 0 ∷ 0 ∷ 0 ∷ 0 ∷ 0 ∷ []
+besideWords (failed n p b) = n ∷ p ∷ b ∷ 0 ∷ 0 ∷ 0 ∷ 0 ∷ 0 ∷ []
 
 -- A rescue: the number of bytes and the number of lines written; refusal 24 gives the true number of lines.
 abbrev pub rescueWords : Sizes → List ℕ

@@ -11,20 +11,21 @@ use lib.Dec.{leb, eqb}
 use borrow.Author.Tests.{leb-true, eq-eqb}
 use lib.ListN.{length, drop, getD, replicate}
 use lib.Seq.{drop-append-seam}
-use Rattle.form.specs.Answer.{Out, got, no as refused, pick, overLimit, noTable, moreMatches, depthLimit}
+use Rattle.form.specs.Answer.{Out, got, no as refused, pick, Count, counted, failed, badString, overLimit, noTable, moreMatches, depthLimit}
 use Rattle.form.specs.Spans.{over}
 use Rattle.form.specs.Decoding.{Sequence, Verdict, good, bad}
-use Rattle.form.specs.Table.{Head, Forest, none, node, size, flat, wrote, valueOf}
+use Rattle.form.specs.Table.{Head, Forest, none, node, size, headOf, flat, wrote, valueOf}
 use Rattle.form.specs.Layout.{layout}
 use Rattle.form.specs.Tables.{IsTable, Within}
 use Rattle.form.specs.Reading.{One, countsOf, tableAfter, reading, roomOf}
-use Rattle.form.specs.Writing.{Gives, outputAfter, lengthOf, WriteIs, judged, written}
+use Rattle.form.specs.Writing.{Gives, outputAfter, lengthOf, WriteGives, WriteIs, judged, written, badPlace, answerOf}
 use Rattle.form.specs.Stored.{WriteLinesIs, tableLines, fitting, storing, readingLines, recordsOf, wordsAfter}
 use Rattle.form.specs.Moved.{Edition, other, treeIn, treeLines, MoveIs}
 use Rattle.form.specs.Cut as cut
 use Rattle.form.specs.Cut.{Line, Rescue, saved, lineWords, rescuing, sizesOf, bytesAfter, linesAfter}
-use Rattle.form.specs.Query.{Count, counted, failed, Answered, matched, within, asked, countOf, listAfter, Finds, QueryIs}
+use Rattle.form.specs.Query.{Answered, matched, within, asked, countOf, listAfter, Finds, QueryIs}
 use Rattle.form.specs.Query as query
+use Rattle.form.proofs.Picks.{differ}
 use Rattle.form.proofs.Answer.{got-no, guard-got, bind-got}
 use Rattle.form.proofs.Table.{over-length, flat-length, size-one}
 use Rattle.form.proofs.Payloads.{room-fits}
@@ -33,7 +34,7 @@ use Rattle.form.proofs.Stored.{fitting-got}
 use Rattle.snbt_form.specs.Lexing.{among, Lexed, found, ended, judgedText, onCharacter, lexed, contentOf, content}
 use Rattle.snbt_form.specs.Text.{Block, parsed, documentOf, lengthsOf}
 use Rattle.snbt_form.specs.Text as text
-use Rattle.calls.specs.Words.{refusal, readWords, countWords, rescueWords, queryWords, tokenWords, stopsOf, parseWords, verdictWords}
+use Rattle.calls.specs.Words.{refusal, readWords, countWords, rescueWords, besideWords, tokenWords, stopsOf, parseWords, verdictWords}
 use Rattle.calls.specs.Calls.{StringCalled, ReadCalled, TableCalled, WriteCalled, RescueCalled, WriteLinesCalled, ReadLinesCalled, MoveCalled, QueryCalled, TokenCalled, ContentCalled, ParseCalled}
 use Rattle.demands.specs.Reading.{Bytes}
 use Rattle.demands.specs.Numbers.{readNumbers, writeNumbers, rescueNumbers, writeLinesNumbers, readLinesNumbers, moveNumbers, queryNumbers, tokenNumbers, contentNumbers, parseNumbers}
@@ -50,13 +51,17 @@ use Rattle.demands.proofs.Outcomes.{one-table-called, one-write-called,
 
 -- ---- answers
 
-refuses : (numbers : List ℕ) (n p : ℕ) → among numbers n ≡ true → Refuses numbers (refusal n p)
-refuses numbers n p h = record { number = n; place = p; count = 0; is = refl; one-of = h; plain = λ _. refl }
+refuses : (numbers : List ℕ) (n p : ℕ) → among numbers n ≡ true → Refuses numbers [] (refusal n p)
+refuses numbers n p h = record { number = n; place = p; beside = 0; is = refl; one-of = h; plain = λ _. refl }
 
 -- A number is among itself alone.
 among-self : (n : ℕ) → among (n ∷ []) n ≡ true
 unfolding among
 among-self n = rw (eq-eqb n n refl) refl
+
+-- What is 0 but beside the number k is 0 beside every number that is not k alone.
+but-beside : (k n c : ℕ) → ((n ≡ k → ⊥) → c ≡ 0) → among (k ∷ []) n ≡ false → c ≡ 0
+but-beside k n c h e = h (λ z. differ (sym (among-self k) ∙ ap (among (k ∷ [])) (sym z) ∙ e))
 
 -- A refusal in place of bytes is a refusal of them.
 of-length : (x : Out (List ℕ)) (n p : ℕ) → lengthOf x ≡ refused n p → x ≡ refused n p
@@ -100,15 +105,15 @@ module _ (doc t : List ℕ) (bytes : Bytes doc) where
       over-changed (9 * (1 + size (x .inner))) t (flat 0 0 f) long (omega (arith, long, s .fits, s .records, room-fits (length t)))
 
   read-each : (t′ a : List ℕ) → ReadCalled doc t t′ a
-      → (Accepts a × Changed (9 * getD a 3 0) t t′) ⊎ (Refuses readNumbers a × (t′ ≡ replicate (length t) 0))
+      → (Accepts a × Changed (9 * getD a 3 0) t t′) ⊎ (Refuses readNumbers [] a × (t′ ≡ replicate (length t) 0))
   read-each t′ a r = go (reading doc t) refl (r .answer-is) (r .table-is)
     where
       go : (o : Out One) → reading doc t ≡ o → a ≡ readWords (countsOf o) → t′ ≡ tableAfter o t
-          → (Accepts a × Changed (9 * getD a 3 0) t t′) ⊎ (Refuses readNumbers a × (t′ ≡ replicate (length t) 0))
+          → (Accepts a × Changed (9 * getD a 3 0) t t′) ⊎ (Refuses readNumbers [] a × (t′ ≡ replicate (length t) 0))
       go (got x) e w k = rw (w, k) (inl ((_, refl, refl), read-changed x e))
       go (refused n p) e w k = rw w (inr (refuses readNumbers n p (read-numbers doc bytes (roomOf (length t)) n p e), k))
 
-  read-answers : Answers (ReadCalled doc t) readNumbers t (replicate (length t) 0) (λ a. 9 * getD a 3 0)
+  read-answers : Answers (ReadCalled doc t) readNumbers [] t (replicate (length t) 0) (λ a. 9 * getD a 3 0)
   read-answers = record {
     one = λ m₁ m₂ a₁ a₂ r s. (r .table-is ∙ sym (s .table-is), r .answer-is ∙ sym (s .answer-is));
     each = read-each;
@@ -116,7 +121,7 @@ module _ (doc t : List ℕ) (bytes : Bytes doc) where
 
 -- ---- a check of a table
 
-table-each : (d : ℕ) (t m a : List ℕ) → Alone (TableCalled d t) m a → (Accepts a × Changed 0 [] m) ⊎ (Refuses (overLimit ∷ []) a × (m ≡ []))
+table-each : (d : ℕ) (t m a : List ℕ) → Alone (TableCalled d t) m a → (Accepts a × Changed 0 [] m) ⊎ (Refuses (overLimit ∷ []) [] a × (m ≡ []))
 table-each d t m a p = go (same-list a (refusal overLimit 0))
   where
     r : TableCalled d t a
@@ -132,11 +137,11 @@ table-each d t m a p = go (same-list a (refusal overLimit 0))
           (λ w i. rw (r .fit w i) refl),
     )
 
-    go : Dec (a ≡ refusal overLimit 0) → (Accepts a × Changed 0 [] m) ⊎ (Refuses (overLimit ∷ []) a × (m ≡ []))
+    go : Dec (a ≡ refusal overLimit 0) → (Accepts a × Changed 0 [] m) ⊎ (Refuses (overLimit ∷ []) [] a × (m ≡ []))
     go (yes e) = inr (rw e (refuses (overLimit ∷ []) overLimit 0 (among-self overLimit)), p .0)
     go (no n) = let b = bit n in inl (rw (b .1) (_, refl, refl), rw (p .0) nothing-changed)
 
--- ---- a write
+-- ---- bytes written
 
 -- An output as the answer has it: the bytes counted have changed, or nothing has.
 abbrev Left : List ℕ → List ℕ → Out ℕ → Type 0
@@ -154,6 +159,32 @@ left-of o (refused n p) fits = refl
 gives-left : (o o′ : List ℕ) (x : Out (List ℕ)) (r : Out ℕ) → ((bs : List ℕ) → x ≡ got bs → length bs ≤ length o) → Gives x o r o′ → Left o o′ r
 gives-left o o′ x r fits g = rw (g .answer-is, g .output-is) (left-of o x fits)
 
+-- The eight words and the output, by the number of bytes or the refusal.
+left-each : (numbers o o′ a : List ℕ) (r : Out ℕ) → a ≡ countWords r → Left o o′ r → ((n p : ℕ) → r ≡ refused n p → among numbers n ≡ true)
+    → (Accepts a × Changed (getD a 2 0) o o′) ⊎ (Refuses numbers [] a × (o′ ≡ o))
+left-each numbers o o′ a (got n) w l f = rw w (inl ((_, refl, refl), l))
+left-each numbers o o′ a (refused n p) w l f = rw w (inr (refuses numbers n p (f n p refl), l))
+
+-- ---- a write
+
+-- Memory as the answer of a call that counts has it: so many bytes or words have changed, or nothing has.
+abbrev Listed : List ℕ → List ℕ → Count → Type 0
+Listed l l′ (counted n) = Changed n l l′
+Listed l l′ (failed n p c) = l′ ≡ l
+
+same-listed : (l l′ : List ℕ) (r : Count) → Dec (Listed l l′ r)
+same-listed l l′ (counted n) = same-changed n l l′
+same-listed l l′ (failed n p c) = same-list l′ l
+
+-- The eight words and the memory, by the count or the refusal; `k` is the number that has something beside it.
+listed-each : (numbers : List ℕ) (k : ℕ) (l l′ a : List ℕ) (r : Count) → a ≡ besideWords r → Listed l l′ r
+    → ((n p c : ℕ) → r ≡ failed n p c → (among numbers n ≡ true) × ((n ≡ k → ⊥) → c ≡ 0))
+    → (Accepts a × Changed (getD a 2 0) l l′) ⊎ (Refuses numbers (k ∷ []) a × (l′ ≡ l))
+listed-each numbers k l l′ a (counted n) w h f = rw w (inl ((_, refl, refl), h))
+listed-each numbers k l l′ a (failed n p c) w h f =
+    let told = f n p c refl in
+    rw w (inr (record { number = n; place = p; beside = c; is = refl; one-of = told .0; plain = but-beside k n c (told .1) }, h))
+
 -- What is written fits.
 written-fits : (doc : List ℕ) (h : Head) (inner : Forest) (room : ℕ) (bs : List ℕ) → written doc h inner room ≡ got bs → length bs ≤ room
 unfolding written
@@ -163,40 +194,42 @@ written-fits doc h inner room bs e =
     let q : layout (valueOf doc h inner) ≡ bs = cc (b .1) in
     omega (arith, leb-true (length (layout (valueOf doc h inner))) room (b .0), ap length q)
 
--- In each case of a write's promise, if what it gives of a table fits.
-cases-left : {W T : Type 0} (o o′ : List ℕ) (x : T → Out (List ℕ)) (r : Out ℕ) → ((i : T) (bs : List ℕ) → x i ≡ got bs → length bs ≤ length o)
-    → ((W → ⊥) → Gives (refused overLimit 0) o r o′) → (W → (T → ⊥) → Gives (refused noTable 0) o r o′) → (W → (i : T) → Gives (x i) o r o′) → Left o o′ r
-cases-left o o′ x r fits large unfit fit =
-    in-each-case (same-left o o′ r)
-    (λ w. gives-left o o′ (refused overLimit 0) r (λ bs e. absurd (got-no (sym e))) (large w))
-    (λ w i. gives-left o o′ (refused noTable 0) r (λ bs e. absurd (got-no (sym e))) (unfit w i))
-    (λ w i. gives-left o o′ (x i) r (fits i) (fit w i))
+-- What a write gives, if it fits.
+writes-listed : (doc t o o′ : List ℕ) (x : Out (List ℕ)) (r : Count) → ((bs : List ℕ) → x ≡ got bs → length bs ≤ length o) → WriteGives doc t x o r o′ → Listed o o′ r
+writes-listed doc t o o′ x r fits g = rw (g .answer-is, g .output-is) (go x fits)
+  where
+    go : (x : Out (List ℕ)) → ((bs : List ℕ) → x ≡ got bs → length bs ≤ length o) → Listed o (outputAfter x o) (answerOf doc t x)
+    go (got bs) fits = over-changed (length bs) o bs refl (fits bs refl)
+    go (refused m n) fits = by (eqb m badString)
+      where
+        by : (b : Bool) → Listed o o (pick b (failed m (badPlace doc (headOf t n)) n) (failed m n 0))
+        by true = refl
+        by false = refl
 
-write-left : (doc t o : List ℕ) (r : Out ℕ) (o′ : List ℕ) → WriteIs doc t o r o′ → Left o o′ r
-write-left doc t o r o′ h =
-    cases-left o o′ (λ (i : IsTable (length doc) t). written doc (i .head) (i .inner) (length o)) r
-    (λ i. written-fits doc (i .head) (i .inner) (length o)) (h .large) (h .unfit) (h .fit)
+write-listed : (doc t o : List ℕ) (r : Count) (o′ : List ℕ) → WriteIs doc t o r o′ → Listed o o′ r
+write-listed doc t o r o′ h =
+    in-each-case {W = Within (length doc) t} {T = IsTable (length doc) t} (same-listed o o′ r)
+    (λ w. writes-listed doc t o o′ (refused overLimit 0) r (λ bs e. absurd (got-no (sym e))) (h .large w))
+    (λ w i. writes-listed doc t o o′ (refused noTable 0) r (λ bs e. absurd (got-no (sym e))) (h .unfit w i))
+    (λ w i. writes-listed doc t o o′ (written doc (i .head) (i .inner) (length o)) r (written-fits doc (i .head) (i .inner) (length o)) (h .fit w i))
 
--- The eight words and the output, by the number of bytes or the refusal.
-left-each : (numbers o o′ a : List ℕ) (r : Out ℕ) → a ≡ countWords r → Left o o′ r → ((n p : ℕ) → r ≡ refused n p → among numbers n ≡ true)
-    → (Accepts a × Changed (getD a 2 0) o o′) ⊎ (Refuses numbers a × (o′ ≡ o))
-left-each numbers o o′ a (got n) w l f = rw w (inl ((_, refl, refl), l))
-left-each numbers o o′ a (refused n p) w l f = rw w (inr (refuses numbers n p (f n p refl), l))
-
-write-answers : (doc t t′ o : List ℕ) → Answers (WriteCalled doc t t′ o) writeNumbers o o (λ a. getD a 2 0)
+write-answers : (doc t t′ o : List ℕ) → Answers (WriteCalled doc t t′ o) writeNumbers (badString ∷ []) o o (λ a. getD a 2 0)
 write-answers doc t t′ o = record {
   one = λ o₁ o₂ a₁ a₂ r s. let e = one-write-called doc t o a₁ a₂ o₁ o₂ t′ t′ r s in (e .1, e .0);
-  each = λ o′ a r. left-each writeNumbers o o′ a (r .result) (r .words-are) (write-left doc t o (r .result) o′ (r .is))
-      (λ n p. write-refusals doc t o (r .result) o′ n p (r .is));
+  each = λ o′ a r. listed-each writeNumbers badString o o′ a (r .result) (r .words-are) (write-listed doc t o (r .result) o′ (r .is))
+      (λ n p c. write-refusals doc t o (r .result) o′ n p c (r .is));
 }
 
 -- ---- stored lines
 
 lines-left : (d : ℕ) (t o : List ℕ) (r : Out ℕ) (o′ : List ℕ) → WriteLinesIs d t o r o′ → Left o o′ r
 lines-left d t o r o′ h =
-    cases-left o o′ (λ (_ : IsTable d t). storing t (length o)) r (λ _ bs e. fitting-got (tableLines t) (length o) bs e .1) (h .large) (h .unfit) (h .fit)
+    in-each-case {W = Within d t} {T = IsTable d t} (same-left o o′ r)
+    (λ w. gives-left o o′ (refused overLimit 0) r (λ bs e. absurd (got-no (sym e))) (h .large w))
+    (λ w i. gives-left o o′ (refused noTable 0) r (λ bs e. absurd (got-no (sym e))) (h .unfit w i))
+    (λ w i. gives-left o o′ (storing t (length o)) r (λ bs e. fitting-got (tableLines t) (length o) bs e .1) (h .fit w i))
 
-write-lines-answers : (d : ℕ) (t o : List ℕ) → Answers (WriteLinesCalled d t o) writeLinesNumbers o o (λ a. getD a 2 0)
+write-lines-answers : (d : ℕ) (t o : List ℕ) → Answers (WriteLinesCalled d t o) writeLinesNumbers [] o o (λ a. getD a 2 0)
 write-lines-answers d t o = record {
   one = λ o₁ o₂ a₁ a₂ r s. let e = one-write-lines-called d t o a₁ a₂ o₁ o₂ r s in (e .1, e .0);
   each = λ o′ a r. left-each writeLinesNumbers o o′ a (r .result) (r .words-are) (lines-left d t o (r .result) o′ (r .is))
@@ -205,17 +238,17 @@ write-lines-answers d t o = record {
 
 -- The records that were read are whole, and fit the table.
 read-lines-each : (s t t′ a : List ℕ) → ReadLinesCalled s t t′ a
-    → (Accepts a × Changed (9 * getD a 2 0) t t′) ⊎ (Refuses readLinesNumbers a × (t′ ≡ replicate (length t) 0))
+    → (Accepts a × Changed (9 * getD a 2 0) t t′) ⊎ (Refuses readLinesNumbers [] a × (t′ ≡ replicate (length t) 0))
 read-lines-each s t t′ a r = go (readingLines s t) refl (r .answer-is) (r .table-is)
   where
     go : (x : Out (List ℕ)) → readingLines s t ≡ x → a ≡ countWords (recordsOf x) → t′ ≡ wordsAfter x t
-        → (Accepts a × Changed (9 * getD a 2 0) t t′) ⊎ (Refuses readLinesNumbers a × (t′ ≡ replicate (length t) 0))
+        → (Accepts a × Changed (9 * getD a 2 0) t t′) ⊎ (Refuses readLinesNumbers [] a × (t′ ≡ replicate (length t) 0))
     go (got ws) e w k =
         let x = lines-are 9 (length t / 9) s ws .0 e in
         rw (w, k) (inl ((_, refl, refl), over-changed (9 * (length ws / 9)) t ws (omega (arith, x .long)) (omega (arith, x .long, x .roomy))))
     go (refused n p) e w k = rw w (inr (refuses readLinesNumbers n p (read-lines-numbers 9 (length t / 9) s n p e), k))
 
-read-lines-answers : (s t : List ℕ) → Answers (ReadLinesCalled s t) readLinesNumbers t (replicate (length t) 0) (λ a. 9 * getD a 2 0)
+read-lines-answers : (s t : List ℕ) → Answers (ReadLinesCalled s t) readLinesNumbers [] t (replicate (length t) 0) (λ a. 9 * getD a 2 0)
 read-lines-answers s t = record {
   one = λ t₁ t₂ a₁ a₂ p q. (p .table-is ∙ sym (q .table-is), p .answer-is ∙ sym (q .answer-is));
   each = read-lines-each s t;
@@ -232,7 +265,7 @@ move-left e d s o r o′ h =
     let lines = treeLines (other e) (treeIn e d ws t) in
     gives-left o o′ (fitting lines (length o)) r (λ bs q. fitting-got lines (length o) bs q .1) (h .fit ws m t))
 
-move-answers : (e : Edition) (d : ℕ) (s o : List ℕ) → Answers (MoveCalled e d s o) moveNumbers o o (λ a. getD a 2 0)
+move-answers : (e : Edition) (d : ℕ) (s o : List ℕ) → Answers (MoveCalled e d s o) moveNumbers [] o o (λ a. getD a 2 0)
 move-answers e d s o = record {
   one = λ o₁ o₂ a₁ a₂ r q. let x = one-move-called e d s o a₁ a₂ o₁ o₂ r q in (x .1, x .0);
   each = λ o′ a r. left-each moveNumbers o o′ a (r .result) (r .words-are) (move-left e d s o (r .result) o′ (r .is))
@@ -251,7 +284,7 @@ content-fits t start e q room bs h =
     let z : c .0 ≡ bs = cc (d .1) in
     omega (arith, leb-true (length (c .0)) room (d .0), ap length z)
 
-content-answers : (t : List ℕ) (start e quoted : ℕ) (o : List ℕ) → Answers (ContentCalled t start e quoted o) contentNumbers o o (λ a. getD a 2 0)
+content-answers : (t : List ℕ) (start e quoted : ℕ) (o : List ℕ) → Answers (ContentCalled t start e quoted o) contentNumbers [] o o (λ a. getD a 2 0)
 content-answers t start e quoted o =
     let q = not (eqb quoted 0) in
     let x = content t start e q (length o) in
@@ -262,14 +295,6 @@ content-answers t start e quoted o =
     }
 
 -- ---- a query
-
-abbrev Listed : List ℕ → List ℕ → Count → Type 0
-Listed l l′ (counted n) = Changed n l l′
-Listed l l′ (failed n p c) = l′ ≡ l
-
-same-listed : (l l′ : List ℕ) (r : Count) → Dec (Listed l l′ r)
-same-listed l l′ (counted n) = same-changed n l l′
-same-listed l l′ (failed n p c) = same-list l′ l
 
 finds-listed : (l l′ : List ℕ) (x : Answered) (r : Count) → ((ms : List ℕ) → x ≡ matched ms → length ms ≤ length l) → Finds x l r l′ → Listed l l′ r
 finds-listed l l′ x r fits f = rw (f .answer-is, f .list-is) (go x fits)
@@ -294,17 +319,11 @@ query-listed doc t q l r l′ h =
     (λ w i. finds-listed l l′ (query.refused noTable 0 0) r (λ ms e. absurd (matched-refused (sym e))) (h .unfit w i))
     (λ w i. finds-listed l l′ (within (length l) (asked doc q (i .head) (i .inner))) r (within-fits (length l) (asked doc q (i .head) (i .inner))) (h .fit w i))
 
-query-each : (doc t q l l′ a : List ℕ) (r : Count) → QueryIs doc t q l r l′ → a ≡ queryWords r
-    → (Accepts a × Changed (getD a 2 0) l l′) ⊎ (Refuses queryNumbers a × (l′ ≡ l))
-query-each doc t q l l′ a (counted n) h w = rw w (inl ((_, refl, refl), query-listed doc t q l (counted n) l′ h))
-query-each doc t q l l′ a (failed n p c) h w =
-    let f = query-refusals doc t q l (failed n p c) l′ n p c h refl in
-    rw w (inr (record { number = n; place = p; count = c; is = refl; one-of = f .0; plain = f .1 }, query-listed doc t q l (failed n p c) l′ h))
-
-query-answers : (doc t q l : List ℕ) → Answers (QueryCalled doc t q l) queryNumbers l l (λ a. getD a 2 0)
+query-answers : (doc t q l : List ℕ) → Answers (QueryCalled doc t q l) queryNumbers (moreMatches ∷ []) l l (λ a. getD a 2 0)
 query-answers doc t q l = record {
   one = λ l₁ l₂ a₁ a₂ r s. let e = one-query-called doc t q l a₁ a₂ l₁ l₂ r s in (e .1, e .0);
-  each = λ l′ a r. query-each doc t q l l′ a (r .result) (r .is) (r .words-are);
+  each = λ l′ a r. listed-each queryNumbers moreMatches l l′ a (r .result) (r .words-are) (query-listed doc t q l (r .result) l′ (r .is))
+      (λ n p c. query-refusals doc t q l (r .result) l′ n p c (r .is));
 }
 
 -- ---- a rescue
@@ -317,37 +336,38 @@ line-words (l ∷ ls) = omega (arith, line-words ls)
 
 -- By what the definition answers: bytes and lines in the room for them, or nothing.
 rescue-each : (form : ℕ) (doc t t′ o o′ c c′ a : List ℕ) → Bytes doc → RescueCalled form doc t t′ o o′ c c′ a
-    → (Accepts a × Changed (getD a 2 0) o o′ × Changed (3 * getD a 3 0) c c′) ⊎ (Refuses rescueNumbers a × (o′ ≡ o) × (c′ ≡ c))
+    → (Accepts a × Changed (getD a 2 0) o o′ × Changed (3 * getD a 3 0) c c′) ⊎ (Refuses rescueNumbers (moreMatches ∷ []) a × (o′ ≡ o) × (c′ ≡ c))
 rescue-each form doc t t′ o o′ c c′ a bytes r =
     go (rescuing doc t o c) (rescue-way doc bytes (roomOf (length t)) (length c / 3) (length o)) (r .answer-is) (r .output-is) (r .changes-is)
   where
     go : (x : Rescue) → Way doc (roomOf (length t)) (length c / 3) (length o) x → a ≡ rescueWords (sizesOf x) → o′ ≡ bytesAfter x o → c′ ≡ linesAfter x c
-        → (Accepts a × Changed (getD a 2 0) o o′ × Changed (3 * getD a 3 0) c c′) ⊎ (Refuses rescueNumbers a × (o′ ≡ o) × (c′ ≡ c))
+        → (Accepts a × Changed (getD a 2 0) o o′ × Changed (3 * getD a 3 0) c c′) ⊎ (Refuses rescueNumbers (moreMatches ∷ []) a × (o′ ≡ o) × (c′ ≡ c))
     go (saved bs ls) w e f g =
         let in-room : length (lineWords ls) ≤ length c = omega (arith, line-words ls, w .5) in
         rw (e, f, g) (inl ((_, refl, refl), over-changed (length bs) o bs refl (w .4), over-changed (3 * length ls) c (lineWords ls) (line-words ls) in-room))
-    go (cut.refused n p k) w e f g = rw e (inr (record { number = n; place = p; count = k; is = refl; one-of = w .0; plain = w .1 }, f, g))
+    go (cut.refused n p k) w e f g =
+        rw e (inr (record { number = n; place = p; beside = k; is = refl; one-of = w .0; plain = but-beside moreMatches n k (w .1) }, f, g))
 
 -- The output, and the list of changes, each for itself.
-rescue-answers : (form : ℕ) (doc t t′ o c c′ : List ℕ) → Bytes doc → Answers (λ o′ a. RescueCalled form doc t t′ o o′ c c′ a) rescueNumbers o o (λ a. getD a 2 0)
+rescue-answers : (form : ℕ) (doc t t′ o c c′ : List ℕ) → Bytes doc → Answers (λ o′ a. RescueCalled form doc t t′ o o′ c c′ a) rescueNumbers (moreMatches ∷ []) o o (λ a. getD a 2 0)
 rescue-answers form doc t t′ o c c′ bytes = record {
   one = λ o₁ o₂ a₁ a₂ r s. (r .output-is ∙ sym (s .output-is), r .answer-is ∙ sym (s .answer-is));
   each = λ o′ a r. go o′ a (rescue-each form doc t t′ o o′ c c′ a bytes r);
 }
   where
-    go : (o′ a : List ℕ) → (Accepts a × Changed (getD a 2 0) o o′ × Changed (3 * getD a 3 0) c c′) ⊎ (Refuses rescueNumbers a × (o′ ≡ o) × (c′ ≡ c))
-        → (Accepts a × Changed (getD a 2 0) o o′) ⊎ (Refuses rescueNumbers a × (o′ ≡ o))
+    go : (o′ a : List ℕ) → (Accepts a × Changed (getD a 2 0) o o′ × Changed (3 * getD a 3 0) c c′) ⊎ (Refuses rescueNumbers (moreMatches ∷ []) a × (o′ ≡ o) × (c′ ≡ c))
+        → (Accepts a × Changed (getD a 2 0) o o′) ⊎ (Refuses rescueNumbers (moreMatches ∷ []) a × (o′ ≡ o))
     go o′ a (inl x) = inl (x .0, x .1)
     go o′ a (inr x) = inr (x .0, x .1)
 
-changes-answers : (form : ℕ) (doc t t′ o o′ c : List ℕ) → Bytes doc → Answers (RescueCalled form doc t t′ o o′ c) rescueNumbers c c (λ a. 3 * getD a 3 0)
+changes-answers : (form : ℕ) (doc t t′ o o′ c : List ℕ) → Bytes doc → Answers (RescueCalled form doc t t′ o o′ c) rescueNumbers (moreMatches ∷ []) c c (λ a. 3 * getD a 3 0)
 changes-answers form doc t t′ o o′ c bytes = record {
   one = λ c₁ c₂ a₁ a₂ r s. (r .changes-is ∙ sym (s .changes-is), r .answer-is ∙ sym (s .answer-is));
   each = λ c′ a r. go c′ a (rescue-each form doc t t′ o o′ c c′ a bytes r);
 }
   where
-    go : (c′ a : List ℕ) → (Accepts a × Changed (getD a 2 0) o o′ × Changed (3 * getD a 3 0) c c′) ⊎ (Refuses rescueNumbers a × (o′ ≡ o) × (c′ ≡ c))
-        → (Accepts a × Changed (3 * getD a 3 0) c c′) ⊎ (Refuses rescueNumbers a × (c′ ≡ c))
+    go : (c′ a : List ℕ) → (Accepts a × Changed (getD a 2 0) o o′ × Changed (3 * getD a 3 0) c c′) ⊎ (Refuses rescueNumbers (moreMatches ∷ []) a × (o′ ≡ o) × (c′ ≡ c))
+        → (Accepts a × Changed (3 * getD a 3 0) c c′) ⊎ (Refuses rescueNumbers (moreMatches ∷ []) a × (c′ ≡ c))
     go c′ a (inl x) = inl (x .0, x .2)
     go c′ a (inr x) = inr (x .0, x .2)
 
@@ -359,32 +379,32 @@ alone-one : (P : List ℕ → Type 0) → ((a₁ a₂ : List ℕ) → P a₁ →
 alone-one P f m₁ m₂ a₁ a₂ r s = (r .0 ∙ sym (s .0), f a₁ a₂ (r .1) (s .1))
 
 token-each : (t : List ℕ) (start stops : ℕ) (m a : List ℕ) → Alone (TokenCalled t start stops) m a
-    → (Accepts a × Changed 0 [] m) ⊎ (Refuses tokenNumbers a × (m ≡ []))
+    → (Accepts a × Changed 0 [] m) ⊎ (Refuses tokenNumbers [] a × (m ≡ []))
 token-each t start stops m a p = go (lexed t start (stopsOf stops)) refl (p .1 .answer-is)
   where
-    go : (o : Out Lexed) → lexed t start (stopsOf stops) ≡ o → a ≡ tokenWords o → (Accepts a × Changed 0 [] m) ⊎ (Refuses tokenNumbers a × (m ≡ []))
+    go : (o : Out Lexed) → lexed t start (stopsOf stops) ≡ o → a ≡ tokenWords o → (Accepts a × Changed 0 [] m) ⊎ (Refuses tokenNumbers [] a × (m ≡ []))
     go (got (found d n)) e w = inl (rw w (_, refl, refl), rw (p .0) nothing-changed)
     go (got (ended n)) e w = inl (rw w (_, refl, refl), rw (p .0) nothing-changed)
     go (refused n q) e w = inr (rw w (refuses tokenNumbers n q (token-numbers t start (stopsOf stops) n q e)), p .0)
 
 parse-each : (t o o′ a : List ℕ) → ParseCalled t o o′ a
-    → (Accepts a × Changed (getD a 3 0) o o′) ⊎ (Refuses parseNumbers a × (o′ ≡ replicate (length o) 0))
+    → (Accepts a × Changed (getD a 3 0) o o′) ⊎ (Refuses parseNumbers [] a × (o′ ≡ replicate (length o) 0))
 parse-each t o o′ a r = go (parsed t (length o)) refl (r .answer-is) (r .output-is)
   where
     go : (x : Out Block) → parsed t (length o) ≡ x → a ≡ parseWords (lengthsOf x) → o′ ≡ text.outputAfter x o
-        → (Accepts a × Changed (getD a 3 0) o o′) ⊎ (Refuses parseNumbers a × (o′ ≡ replicate (length o) 0))
+        → (Accepts a × Changed (getD a 3 0) o o′) ⊎ (Refuses parseNumbers [] a × (o′ ≡ replicate (length o) 0))
     go (got b) e w k =
         let f = text-fills t (length o) b e in
         rw (w, k) (inl ((_, refl, refl), over-changed (b .used) o (layout (documentOf b)) (sym (f .0)) (omega (arith, f .0, f .1))))
     go (refused n p) e w k = rw w (inr (refuses parseNumbers n p (parse-numbers t (length o) n p e), k))
 
-string-answers : (enc : ℕ → List ℕ) (one : List ℕ → Sequence) (n : ℕ) (s : List ℕ) → Answers (Alone (StringCalled enc one n s)) (n ∷ []) [] [] (λ a. 0)
+string-answers : (enc : ℕ → List ℕ) (one : List ℕ → Sequence) (n : ℕ) (s : List ℕ) → Answers (Alone (StringCalled enc one n s)) (n ∷ []) [] [] [] (λ a. 0)
 string-answers enc one n s = record {
   one = alone-one (StringCalled enc one n s) (λ a₁ a₂ r q. r .words-are ∙ ap (verdictWords n) (r .judged .is ∙ sym (q .judged .is)) ∙ sym (q .words-are));
   each = λ m a p. go m a (p .0) (p .1 .result) (p .1 .words-are);
 }
   where
-    go : (m a : List ℕ) → m ≡ [] → (v : Verdict) → a ≡ verdictWords n v → (Accepts a × Changed 0 [] m) ⊎ (Refuses (n ∷ []) a × (m ≡ []))
+    go : (m a : List ℕ) → m ≡ [] → (v : Verdict) → a ≡ verdictWords n v → (Accepts a × Changed 0 [] m) ⊎ (Refuses (n ∷ []) [] a × (m ≡ []))
     go m a e good w = inl (rw w (_, refl, refl), rw e nothing-changed)
     go m a e (bad k) w = inr (rw w (refuses (n ∷ []) n k (among-self n)), e)
 

@@ -8,16 +8,16 @@ use mathlib.Core.Bool.{Bool, true, false}
 use lib.ListN.{length, take}
 use lib.Dec.{leb}
 use borrow.Author.Tests.{le-leb, lt-leb}
-use Rattle.form.specs.Answer.{got, pick, moreMatches, recordLimit}
+use Rattle.form.specs.Answer.{got, pick, moreMatches, recordLimit, Count}
 use Rattle.form.specs.Spans.{over}
 use Rattle.form.specs.Tree.{Tag, compound, Document}
 use Rattle.form.specs.Layout.{Layout}
 use Rattle.form.specs.Table.{valueOf}
 use Rattle.form.specs.Reading.{One, documentAt, roomOf}
 use Rattle.form.specs.Paths.{Hop, paths, matches}
-use Rattle.form.specs.Query.{Count, matched, refused, within, Finds, QueryIs}
+use Rattle.form.specs.Query.{matched, refused, within, Finds, QueryIs}
 use Rattle.form.proofs.Payloads.{room-le}
-use Rattle.calls.specs.Words.{queryWords}
+use Rattle.calls.specs.Words.{besideWords}
 use Rattle.demands.specs.Reading.{Bytes}
 use Rattle.demands.specs.Queries.{wordsOf, PathAt}
 use Rattle.demands.specs.Numbered.{Leads, StandsFor}
@@ -28,15 +28,15 @@ use Rattle.demands.proofs.Reading.{sound}
 use Rattle.demands.proofs.Queries.{tabled, tabled-value, answered, ascending, exact}
 
 -- What the words and the list are, with room for the matches and without.
-module _ (ms l l′ b : List ℕ) (r : Count) (w : b ≡ queryWords r) (f : Finds (within (length l) (got ms)) l r l′) where
+module _ (ms l l′ b : List ℕ) (r : Count) (w : b ≡ besideWords r) (f : Finds (within (length l) (got ms)) l r l′) where
   found-by : (v : Bool) → leb (length ms) (length l) ≡ v → Finds (pick v (matched ms) (refused moreMatches 0 (length ms))) l r l′
   found-by v e = subst (λ (x : Bool). Finds (pick x (matched ms) (refused moreMatches 0 (length ms))) l r l′) e f
 
   enough : length ms ≤ length l → (b ≡ 0 ∷ 0 ∷ length ms ∷ 0 ∷ 0 ∷ 0 ∷ 0 ∷ 0 ∷ []) × (l′ ≡ over l 0 ms)
-  enough le = let g = found-by true (le-leb (length ms) (length l) le) in (w ∙ ap queryWords (g .answer-is), g .list-is)
+  enough le = let g = found-by true (le-leb (length ms) (length l) le) in (w ∙ ap besideWords (g .answer-is), g .list-is)
 
   short : length l < length ms → (b ≡ moreMatches ∷ 0 ∷ length ms ∷ 0 ∷ 0 ∷ 0 ∷ 0 ∷ 0 ∷ []) × (l′ ≡ l)
-  short lt = let g = found-by false (lt-leb (length ms) (length l) lt) in (w ∙ ap queryWords (g .answer-is), g .list-is)
+  short lt = let g = found-by false (lt-leb (length ms) (length l) lt) in (w ∙ ap besideWords (g .answer-is), g .list-is)
 
 -- The records that a read wrote stand for the tags that the document's paths lead to.
 tags : (doc : List ℕ) → Bytes doc → (room : ℕ) (x : One) → room ≤ recordLimit → documentAt doc room ≡ got x → (n : ℕ) (p : List Hop)

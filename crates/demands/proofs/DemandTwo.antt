@@ -2,24 +2,25 @@
 -- Assumes nothing.
 use Prim.Native.Nat.{ℕ, _+_, _/_, _≤_}
 use mathlib.Core.Path.{_≡_, refl, sym, ap, subst, _∙_}
-use mathlib.Core.Bool.{true}
+use mathlib.Core.Bool.{Bool, true, false}
 use mathlib.Core.List.{List, [], _∷_, _++_}
 use native.Mathlib.Omega.{arith}
-use lib.ListN.{length, drop, take}
-use Rattle.form.specs.Answer.{Out, got, no}
+use lib.ListN.{length, drop, take, getD}
+use lib.Dec.{eqb}
+use Rattle.form.specs.Answer.{Out, got, no, pick, failed, badString}
 use Rattle.form.specs.Spans.{over}
 use Rattle.form.specs.Tree.{Document, Lawful, entriesCount}
 use Rattle.form.specs.Layout.{Layout, layout}
-use Rattle.form.specs.Table.{size, valueOf}
+use Rattle.form.specs.Table.{size, headOf, valueOf}
 use Rattle.form.specs.Reading.{One, countsOf, tableAfter, roomOf}
-use Rattle.form.specs.Writing.{written, Gives}
+use Rattle.form.specs.Writing.{written, WriteGives, badPlace, answerOf}
 use Rattle.form.specs.Cut as cut
 use Rattle.form.specs.Cut.{Kept, Rescue, saved, keptOf, rescued, rescuing, sizesOf, bytesAfter, linesAfter}
 use Rattle.form.proofs.Payloads.{room-le}
 use Rattle.snbt_form.specs.Text.{Block, parsed, documentOf, lengthsOf}
 use Rattle.snbt_form.specs.Text as text
 use Rattle.snbt_form.specs.Lexing.{among}
-use Rattle.calls.specs.Words.{readWords, countWords, rescueWords, parseWords}
+use Rattle.calls.specs.Words.{readWords, besideWords, rescueWords, parseWords}
 use Rattle.calls.specs.Calls.{ReadCalled, WriteCalled, RescueCalled, ParseCalled}
 use Rattle.demands.specs.Reading.{Bytes}
 use Rattle.demands.specs.Numbers.{writtenNumbers, rescueNumbers}
@@ -94,9 +95,17 @@ zero-not-rescued : among rescueNumbers 0 ≡ true → ⊥
 unfolding among
 zero-not-rescued e = let z : _≡_ {A = ℕ} 0 1 = cc in omega arith
 
+-- The first word of a refused write is the number.
+first-word : (doc t : List ℕ) (m n : ℕ) → getD (besideWords (answerOf doc t (no m n))) 0 0 ≡ m
+first-word doc t m n = go (eqb m badString)
+  where
+    go : (b : Bool) → getD (besideWords (pick b (failed m (badPlace doc (headOf t n)) n) (failed m n 0))) 0 0 ≡ m
+    go true = refl
+    go false = refl
+
 module _ (doc w : List ℕ) (d : Document) (bytes : Bytes doc) (h : Holds doc w d) (w′ o o′ b : List ℕ) (k : WriteCalled doc w w′ o o′ b) where
   -- What the definition writes of the table is what the call answers and leaves.
-  gives : Gives (written doc (h .table .head) (h .table .inner) (length o)) o (k .result) o′
+  gives : WriteGives doc w (written doc (h .table .head) (h .table .inner) (length o)) o (k .result) o′
   gives = k .is .fit (h .small) (h .table)
 
   table-lawful : Lawful d → Lawful (tableValue doc w (h .table))
@@ -109,30 +118,30 @@ module _ (doc w : List ℕ) (d : Document) (bytes : Bytes doc) (h : Holds doc w 
   is-written l = record {
     enough = λ le.
         let e = lawful-written doc w bytes (h .small) (h .table) (length o) (table-lawful l) (omega (arith, table-long)) ∙ ap (λ (f : Document). got (layout f)) (h .value) in
-        let g = subst (λ (x : Out (List ℕ)). Gives x o (k .result) o′) e gives in
-        (k .words-are ∙ ap countWords (g .answer-is), g .output-is);
+        let g = subst (λ (x : Out (List ℕ)). WriteGives doc w x o (k .result) o′) e gives in
+        (k .words-are ∙ ap besideWords (g .answer-is), g .output-is);
     short = λ lt.
         let e = lawful-full doc w bytes (h .small) (h .table) (length o) (table-lawful l) (omega (arith, table-long)) in
-        let g = subst (λ (x : Out (List ℕ)). Gives x o (k .result) o′) e gives in
-        (k .words-are ∙ ap countWords (g .answer-is), g .output-is);
+        let g = subst (λ (x : Out (List ℕ)). WriteGives doc w x o (k .result) o′) e gives in
+        (k .words-are ∙ ap besideWords (g .answer-is), g .output-is);
   }
 
   is-read-back : (c : ℕ) → b ≡ 0 ∷ 0 ∷ c ∷ 0 ∷ 0 ∷ 0 ∷ 0 ∷ 0 ∷ [] → Lawful d × ReadAs o′ c d
   is-read-back c e = go (written doc (h .table .head) (h .table .inner) (length o)) refl gives
     where
-      go : (x : Out (List ℕ)) → written doc (h .table .head) (h .table .inner) (length o) ≡ x → Gives x o (k .result) o′
+      go : (x : Out (List ℕ)) → written doc (h .table .head) (h .table .inner) (length o) ≡ x → WriteGives doc w x o (k .result) o′
           → Lawful d × ReadAs o′ c d
       go (got bs) is g =
           let l = written-lawful doc w bytes (h .small) (h .table) (length o) bs is in
           let laid : bs ≡ layout d = l .laid ∙ ap layout (h .value) in
-          let words : 0 ∷ 0 ∷ length bs ∷ 0 ∷ 0 ∷ 0 ∷ 0 ∷ 0 ∷ [] ≡ 0 ∷ 0 ∷ c ∷ 0 ∷ 0 ∷ 0 ∷ 0 ∷ 0 ∷ [] = ap countWords (sym (g .answer-is)) ∙ sym (k .words-are) ∙ e in
+          let words : 0 ∷ 0 ∷ length bs ∷ 0 ∷ 0 ∷ 0 ∷ 0 ∷ 0 ∷ [] ≡ 0 ∷ 0 ∷ c ∷ 0 ∷ 0 ∷ 0 ∷ 0 ∷ 0 ∷ [] = ap besideWords (sym (g .answer-is)) ∙ sym (k .words-are) ∙ e in
           let long : length (layout d) ≡ c = sym (ap length laid) ∙ cc in
           let out : over o 0 (layout d) ≡ o′ = ap (over o 0) (sym laid) ∙ sym (g .output-is) in
           let lawful = subst Lawful (h .value) (l .lawful) in
           (lawful, subst (λ (m : ℕ). ReadAs o′ m d) long (subst (λ (x : List ℕ). ReadAs x (length (layout d)) d) out (output-read d o lawful)))
       go (no n p) is g =
-          let words : n ∷ p ∷ 0 ∷ 0 ∷ 0 ∷ 0 ∷ 0 ∷ 0 ∷ [] ≡ 0 ∷ 0 ∷ c ∷ 0 ∷ 0 ∷ 0 ∷ 0 ∷ 0 ∷ [] = ap countWords (sym (g .answer-is)) ∙ sym (k .words-are) ∙ e in
-          let z : n ≡ 0 = cc in
+          let words : besideWords (answerOf doc w (no n p)) ≡ 0 ∷ 0 ∷ c ∷ 0 ∷ 0 ∷ 0 ∷ 0 ∷ 0 ∷ [] = ap besideWords (sym (g .answer-is)) ∙ sym (k .words-are) ∙ e in
+          let z : n ≡ 0 = sym (first-word doc w n p) ∙ ap (λ ws. getD ws 0 0) words in
           let f = write-numbers doc (h .table .head) (h .table .inner) (length o) n p is in
           absurd (zero-not-among (rw z at f))
 

@@ -16,7 +16,7 @@ use Rattle.form.specs.Reading.{One, Span, byteAt, stringAt, documentAt}
 use Rattle.snbt_form.specs.Lexing.{among}
 use Rattle.demands.specs.Reading.{Bytes, Sound}
 use Rattle.demands.proofs.Sits.{Sits, sits-first, sits-rest, sits-join}
-use Rattle.demands.proofs.Answers.{Answers, Accepted, Numbered, bind-answers, guard-answers, weaker}
+use Rattle.demands.proofs.Answers.{Answers, Accepted, Numbered, other, bind-answers, guard-answers, weaker}
 use Rattle.demands.proofs.Tags.{tagOf, readAt}
 use Rattle.demands.proofs.Fields.{StringLaw, string-length, byte-sound, Worded, string-sound, byte-read, string-content, string-read}
 use Rattle.demands.proofs.Complete.{tag-read}
@@ -58,12 +58,12 @@ module _ (wf : StringLaw) (doc : List ℕ) (room : ℕ) where
           small = small;
         }
 
-    pub document-sound : Answers Numbered (Sound doc room) (documentAt doc room)
+    pub document-sound : Answers (Numbered doc) (Sound doc room) (documentAt doc room)
     unfolding documentAt among
     document-sound =
-        guard-answers (leb (length doc) documentLimit) _ _ _ (λ e. refl)
+        guard-answers (leb (length doc) documentLimit) _ _ _ (λ e. other refl refl)
         (λ e. bind-answers (byteAt doc 0) _ (byte-sound doc 0)
-        (λ k b. guard-answers (eqb k 10) _ _ _ (λ f. refl)
+        (λ k b. guard-answers (eqb k 10) _ _ _ (λ f. other refl refl)
         (λ f. bind-answers (stringAt doc 1) _ (string-sound doc wf bytes 1)
         (λ s w. weaker (readAt doc room depthLimit 10 (s .start) (s .size) (s .next) 0)
         (tag-sound doc wf bytes room depthLimit (s .start) (s .size) (s .next) 0 10 (omega arith) (omega arith) (omega (arith, w .next, w .sits .to)))

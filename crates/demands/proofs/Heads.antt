@@ -19,7 +19,7 @@ use Rattle.form.proofs.Fields.{entry-got, list-head-empty, list-head-got}
 use Rattle.snbt_form.specs.Lexing.{among}
 use Rattle.demands.specs.Reading.{Bytes}
 use Rattle.demands.proofs.Sits.{Sits, sits-join, sits-rest, sits-head}
-use Rattle.demands.proofs.Answers.{Answers, Numbered, bind-answers, guard-answers, got-answers}
+use Rattle.demands.proofs.Answers.{Answers, Numbered, other, bind-answers, guard-answers, got-answers}
 use Rattle.demands.proofs.Tags.{kind-range}
 use Rattle.demands.proofs.Fields.{StringLaw, byte-sound, number-sound, string-sound, string-length, number-read, string-read}
 
@@ -34,13 +34,13 @@ module _ (doc : List ℕ) where
     pub sits : Sits doc at (id ∷ bytesOf 4 (h .count))
     pub some-is : 0 < h .count → (h .kind ≡ id) × (0 < id)
 
-  pub head-sound : Bytes doc → (at : ℕ) → Answers Numbered (HeadIs at) (listHeadAt doc at)
+  pub head-sound : Bytes doc → (at : ℕ) → Answers (Numbered doc) (HeadIs at) (listHeadAt doc at)
   unfolding listHeadAt among
   head-sound bytes at =
       bind-answers (byteAt doc at) _ (byte-sound doc at)
       (λ k b. bind-answers (numberAt doc 4 (at + 1)) _ (number-sound doc bytes 4 (at + 1))
-      (λ n v. guard-answers (leb k 12 && (not (eqb k 0) || eqb n 0)) _ _ _ (λ e. refl)
-      (λ e. guard-answers (ltb n (2 ^ 31)) _ _ _ (λ f. refl)
+      (λ n v. guard-answers (leb k 12 && (not (eqb k 0) || eqb n 0)) _ _ _ (λ e. other refl refl)
+      (λ e. guard-answers (ltb n (2 ^ 31)) _ _ _ (λ f. other refl refl)
       (λ f. got-answers (record {
         id = k;
         id-le = leb-true k 12 (and-left (leb k 12) _ e);
@@ -73,16 +73,16 @@ module _ (doc : List ℕ) where
   EntryIs at end = Sits doc at (0 ∷ [])
   EntryIs at (named kind s) = NamedIs at kind s
 
-  pub entry-sound : StringLaw → Bytes doc → (at : ℕ) → Answers Numbered (EntryIs at) (entryAt doc at)
+  pub entry-sound : StringLaw → Bytes doc → (at : ℕ) → Answers (Numbered doc) (EntryIs at) (entryAt doc at)
   unfolding entryAt among
   entry-sound wf bytes at = bind-answers (byteAt doc at) _ (byte-sound doc at) (λ k b. go k (b .2) (eqb k 0) refl)
     where
       go : (k : ℕ) → Sits doc at (k ∷ []) → (t : Bool) → eqb k 0 ≡ t
-          → Answers Numbered (EntryIs at) (elim t [ true ↦ got end | false ↦ stringAt doc (at + 1) >>= (λ s. guard (leb k 12) 3 at >> got (named k s)) ])
+          → Answers (Numbered doc) (EntryIs at) (elim t [ true ↦ got end | false ↦ stringAt doc (at + 1) >>= (λ s. guard (leb k 12) 3 at >> got (named k s)) ])
       go k b true e = got-answers (subst (λ q. Sits doc at (q ∷ [])) (eqb-true k 0 e) b)
       go k b false e =
           bind-answers (stringAt doc (at + 1)) _ (string-sound doc wf bytes (at + 1))
-          (λ s w. guard-answers (leb k 12) _ _ _ (λ f. refl)
+          (λ s w. guard-answers (leb k 12) _ _ _ (λ f. other refl refl)
           (λ f. got-answers (record {
             pos = let z = eqb-false k 0 e in omega (arith, z);
             le = leb-true k 12 f;

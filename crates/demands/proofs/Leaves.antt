@@ -125,7 +125,7 @@ module _ (doc : List ℕ) where
     fixed-sound : (kind at w : ℕ)
         → ((name len : ℕ) → at + w ≤ length doc
         → Leaf kind (part doc at w) (valueBy doc (leafHead kind name len (record { start = at; size = w; count = 0; next = at + w })) nil ended))
-        → Answers Numbered (LaidAs kind at) (bytesAt doc w 0 at)
+        → Answers (Numbered doc) (LaidAs kind at) (bytesAt doc w 0 at)
     fixed-sound kind at w f =
         weaker (bytesAt doc w 0 at) (bytes-sound doc w 0 at)
         (λ s b. rw (b .1) (record { bs = part doc at w; sits = sits-part doc at w (b .0); next = omega (arith, part-length doc at w (b .0)); is = λ name len. f name len (b .0) }))
@@ -134,7 +134,7 @@ module _ (doc : List ℕ) where
     array-sound : (kind at w : ℕ) → 0 < w
         → ((name len n : ℕ) (bs : List ℕ) → Array w (intsAt doc w n (at + 4)) → bs ≡ arrayBytes w (intsAt doc w n (at + 4))
         → Leaf kind bs (valueBy doc (leafHead kind name len (record { start = at + 4; size = n * w; count = n; next = at + 4 + n * w })) nil ended))
-        → Answers Numbered (LaidAs kind at) (arrayAt doc w at)
+        → Answers (Numbered doc) (LaidAs kind at) (arrayAt doc w at)
     unfolding arrayAt
     array-sound kind at w p f =
         bind-answers (countAt doc at) _ (count-sound doc bytes at)
@@ -153,10 +153,10 @@ module _ (doc : List ℕ) where
               is = λ name len. f name len n (bytesOf 4 n ++ body) (i .1, omega (arith, i .2, h)) (λ j. bytesOf 4 (sym (i .2) j) ++ i .0 j);
             }
 
-    pub leaf-sound : StringLaw → (at kind : ℕ) → 0 < kind → kind ≤ 12 → holds kind ≡ false → Answers Numbered (LaidAs kind at) (leafAt doc kind at)
+    pub leaf-sound : StringLaw → (at kind : ℕ) → 0 < kind → kind ≤ 12 → holds kind ≡ false → Answers (Numbered doc) (LaidAs kind at) (leafAt doc kind at)
     unfolding leafAt valueBy kindOf widthOf Payload Valid depth tagCount
     leaf-sound wf at =
-        by-kind (λ k. holds k ≡ false → Answers Numbered (LaidAs k at) (leafAt doc k at))
+        by-kind (λ k. holds k ≡ false → Answers (Numbered doc) (LaidAs k at) (leafAt doc k at))
         (λ h. fixed-sound 1 at 1 (λ name len l. let i = int-laid at 1 (omega arith) l in record { kind-is = refl; lays = i .0; valid = i .1; flat = refl; alone = refl }))
         (λ h. fixed-sound 2 at 2 (λ name len l. let i = int-laid at 2 (omega arith) l in record { kind-is = refl; lays = i .0; valid = i .1; flat = refl; alone = refl }))
         (λ h. fixed-sound 3 at 4 (λ name len l. let i = int-laid at 4 (omega arith) l in record { kind-is = refl; lays = i .0; valid = i .1; flat = refl; alone = refl }))

@@ -24,6 +24,7 @@ pub mod Texts
 pub mod Queries
 pub mod Numbered
 pub mod Parents
+pub mod Characters
 pub mod Called
 pub mod DemandOne
 pub mod DemandTwo

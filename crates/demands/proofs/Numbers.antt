@@ -8,16 +8,17 @@ use native.Mathlib.Omega.{arith}
 use native.Mathlib.Decide.{ℕ-discrete}
 use lib.Dec.{ltb, leb, eqb}
 use lib.ListN.{length}
-use Rattle.form.specs.Answer.{Out, got, no, guard, _>>=_, _>>_, pick, depthLimit, recordLimit, stringLimit, stepLimit}
+use borrow.Author.Tests.{eqb-true}
+use Rattle.form.specs.Answer.{Out, got, no, guard, _>>=_, _>>_, pick, Count, counted, failed, badString, depthLimit, recordLimit, stringLimit, stepLimit}
 use Rattle.form.specs.Spans.{part}
 use Rattle.form.specs.Decoding.{wellFormed}
 use Rattle.form.specs.Layout.{layout}
-use Rattle.form.specs.Table.{Head, Forest, none, node, size, _⊕_, holds, valueOf}
+use Rattle.form.specs.Table.{Head, Forest, none, node, size, _⊕_, headOf, holds, valueOf}
 use Rattle.form.specs.Tables.{IsTable, Within}
 use Rattle.form.specs.Reading.{hasName, byteAt}
-use Rattle.form.specs.Writing.{stringFine, payloadFine, judged, written, lengthOf}
+use Rattle.form.specs.Writing.{stringFine, payloadFine, judged, written, badPlace, answerOf, lengthOf}
 use Rattle.form.specs.Stored.{TextLine, tableLines, fitting, storing, linesIn, isLine, eachLine, linesRead}
-use Rattle.form.specs.Query.{blamed, stepBy, stepAt, stepsAt, spelt, shallow, asked, Answered, matched, refused, within, failed, countOf}
+use Rattle.form.specs.Query.{blamed, stepBy, stepAt, stepsAt, spelt, shallow, asked, Answered, matched, refused, within, countOf}
 use Rattle.form.proofs.Outcomes.{both, in-each-case}
 use Rattle.form.proofs.Strings.{wellFormed-iff}
 use Rattle.snbt_form.specs.Lexing.{among, onCharacter, judgedText, lexed, tokenAt, contentOf, content}
@@ -34,7 +35,7 @@ use Rattle.demands.proofs.Meant.{parsed-fine}
 -- ---- reading
 
 pub read-numbers : IsReadNumbers
-read-numbers doc bytes room n p e = of-no e (document-sound wellFormed-iff doc room bytes)
+read-numbers doc bytes room n p e = of-no e (document-sound wellFormed-iff doc room bytes) .number
 
 -- ---- writing
 
@@ -69,22 +70,33 @@ module _ (doc : List ℕ) where
 pub write-numbers : IsWriteNumbers
 write-numbers doc h inner room n p e = gives-number e (written-any doc h inner room)
 
--- The number of bytes in place of the bytes.
-length-any : {ns : List ℕ} (w : Out (List ℕ)) → Gives ns Any w → Gives ns Any (lengthOf w)
-length-any (got bs) h = gives-got tt
-length-any (no n p) h = gives-no (gives-number refl h)
+-- A refusal's number is one of a write's, and what is beside it is 0 but in 4.
+abbrev Told : Count → Type 0
+Told (counted k) = Unit {0}
+Told (failed n p r) = (among writeNumbers n ≡ true) × ((n ≡ 4 → ⊥) → r ≡ 0)
 
--- In each of the promise's cases; the claim can be decided.
+answer-told : (doc t : List ℕ) (x : Out (List ℕ)) → Gives writeNumbers Any x → Told (answerOf doc t x)
+answer-told doc t (got bs) h = tt
+answer-told doc t (no m n) h = go (eqb m badString) refl
+  where
+    go : (b : Bool) → eqb m badString ≡ b → Told (pick b (failed m (badPlace doc (headOf t n)) n) (failed m n 0))
+    go true e = (gives-number refl h, λ d. absurd (d (eqb-true m badString e)))
+    go false e = (gives-number refl h, λ d. refl)
+
+-- In each of the promise's cases; both claims can be decided.
 pub write-refusals : IsWriteRefusals
 unfolding among
-write-refusals doc t o answer o′ n p w e =
-    in-each-case {W = Within (length doc) t} {T = IsTable (length doc) t} (Bool-discrete (among writeNumbers n) true)
-    (λ l. from (no 9 0) (gives-no refl) (w .large l .answer-is))
-    (λ l u. from (no 10 0) (gives-no refl) (w .unfit l u .answer-is))
-    (λ l i. from _ (gives-all refl (written-any doc (i .head) (i .inner) (length o))) (w .fit l i .answer-is))
+write-refusals doc t o answer o′ n p r w e = (each (Bool-discrete (among writeNumbers n) true) (λ x. x .0), λ u. each (ℕ-discrete r 0) (λ x. x .1 u))
   where
-    from : (x : Out (List ℕ)) → Gives writeNumbers Any x → answer ≡ lengthOf x → among writeNumbers n ≡ true
-    from x h a = gives-number (sym a ∙ e) (length-any x h)
+    from : (x : Out (List ℕ)) → Gives writeNumbers Any x → answer ≡ answerOf doc t x → Told (failed n p r)
+    from x h a = subst Told (sym a ∙ e) (answer-told doc t x h)
+
+    each : {C : Type 0} → Dec C → (Told (failed n p r) → C) → C
+    each d f =
+        in-each-case {W = Within (length doc) t} {T = IsTable (length doc) t} d
+        (λ l. f (from (no 9 0) (gives-no refl) (w .large l .answer-is)))
+        (λ l u. f (from (no 10 0) (gives-no refl) (w .unfit l u .answer-is)))
+        (λ l i. f (from _ (gives-all refl (written-any doc (i .head) (i .inner) (length o))) (w .fit l i .answer-is)))
 
 -- ---- stored lines
 

@@ -7,7 +7,7 @@ use Rattle.form.specs.Tables.{IsTable, Within}
 use Rattle.form.specs.Moved.{Edition}
 use Rattle.form.proofs.Outcomes as outcomes
 use Rattle.form.proofs.Outcomes.{same-list, in-each-case}
-use Rattle.calls.specs.Words.{countWords, queryWords}
+use Rattle.calls.specs.Words.{countWords, besideWords}
 use Rattle.calls.specs.Calls.{TableCalled, WriteCalled, WriteLinesCalled, MoveCalled, QueryCalled}
 use Rattle.demands.specs.Outcomes.{IsOneWrite, IsOneQuery}
 use Rattle.demands.proofs.Stored.{one-write-lines}
@@ -34,7 +34,7 @@ pub one-write-called : (doc t o a₁ a₂ o₁ o₂ t₁ t₂ : List ℕ) → Wr
     → (a₁ ≡ a₂) × (o₁ ≡ o₂) × (t₁ ≡ t₂)
 one-write-called doc t o a₁ a₂ o₁ o₂ t₁ t₂ g h =
     let e = one-write doc t o (g .result) (h .result) o₁ o₂ (g .is) (h .is) in
-    (g .words-are ∙ ap countWords (e .0) ∙ sym (h .words-are), e .1, g .kept ∙ sym (h .kept))
+    (g .words-are ∙ ap besideWords (e .0) ∙ sym (h .words-are), e .1, g .kept ∙ sym (h .kept))
 
 -- Two outcomes of writing lines are one: the answer and the output.
 pub one-write-lines-called : (d : ℕ) (t o a₁ a₂ o₁ o₂ : List ℕ) → WriteLinesCalled d t o o₁ a₁ → WriteLinesCalled d t o o₂ a₂ → (a₁ ≡ a₂) × (o₁ ≡ o₂)
@@ -52,4 +52,4 @@ one-move-called e d s o a₁ a₂ o₁ o₂ g h =
 pub one-query-called : (doc t q l a₁ a₂ l₁ l₂ : List ℕ) → QueryCalled doc t q l l₁ a₁ → QueryCalled doc t q l l₂ a₂ → (a₁ ≡ a₂) × (l₁ ≡ l₂)
 one-query-called doc t q l a₁ a₂ l₁ l₂ g h =
     let e = one-query doc t q l (g .result) (h .result) l₁ l₂ (g .is) (h .is) in
-    (g .words-are ∙ ap queryWords (e .0) ∙ sym (h .words-are), e .1)
+    (g .words-are ∙ ap besideWords (e .0) ∙ sym (h .words-are), e .1)

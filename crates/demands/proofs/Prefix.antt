@@ -10,9 +10,9 @@ use borrow.Author.Tests.{ltb-true, ltb-false, leb-true, leb-false, le-leb}
 use lib.ListN.{length, length-append}
 use Rattle.form.specs.Answer.{Out, got, guard, _>>=_, _>>_, documentLimit, depthLimit}
 use Rattle.form.specs.Spans.{part, same}
-use Rattle.form.specs.Decoding.{wellFormed}
+use Rattle.form.specs.Decoding.{verdict}
 use Rattle.form.specs.Table.{Head, Forest, none, node, size, _⊕_, widthOf, holds}
-use Rattle.form.specs.Reading.{One, Run, Inside, Span, Entry, end, named, before, heldOne, hasName, byteAt, numberAt, bytesAt, stringAt, countAt, arrayAt}
+use Rattle.form.specs.Reading.{One, Run, Inside, Span, Entry, end, named, before, heldOne, hasName, readable, byteAt, numberAt, bytesAt, stringAt, countAt, arrayAt}
 use Rattle.form.specs.Reading.{leafAt, leafOne, listHeadAt, entryAt, elements, entries, listAt, compoundAt, containerAt, payloadBy, insideAt, documentAt}
 use Rattle.form.proofs.Fields.{byte-no, number-no, bytes-got, bytes-no, string-within, entry-within, list-head-within}
 use Rattle.form.proofs.Agrees.{Agrees, agrees-self, agrees-is, agrees-no, bind-agrees, guard-agrees}
@@ -55,17 +55,17 @@ module _ (doc rest : List ℕ) where
       go false t = agrees-no (bytesAt all n c at) (bytes-no doc n c at (leb-false (at + n) (length doc) t))
 
   -- a string, of which the content is whole
-  string-tail : (at n : ℕ) → Agrees 1 (bytesAt doc n 0 (at + 2) >>= (λ s. guard (wellFormed (part doc (at + 2) n)) 4 (at + 2) >> got s))
-      (bytesAt all n 0 (at + 2) >>= (λ s. guard (wellFormed (part all (at + 2) n)) 4 (at + 2) >> got s))
+  string-tail : (at n : ℕ) → Agrees 1 (bytesAt doc n 0 (at + 2) >>= (λ s. readable (verdict (part doc (at + 2) n)) (at + 2) >> got s))
+      (bytesAt all n 0 (at + 2) >>= (λ s. readable (verdict (part all (at + 2) n)) (at + 2) >> got s))
   string-tail at n = go (leb (at + 2 + n) (length doc)) refl
     where
       go : (t : Bool) → leb (at + 2 + n) (length doc) ≡ t
-          → Agrees 1 (bytesAt doc n 0 (at + 2) >>= (λ s. guard (wellFormed (part doc (at + 2) n)) 4 (at + 2) >> got s))
-          (bytesAt all n 0 (at + 2) >>= (λ s. guard (wellFormed (part all (at + 2) n)) 4 (at + 2) >> got s))
+          → Agrees 1 (bytesAt doc n 0 (at + 2) >>= (λ s. readable (verdict (part doc (at + 2) n)) (at + 2) >> got s))
+          (bytesAt all n 0 (at + 2) >>= (λ s. readable (verdict (part all (at + 2) n)) (at + 2) >> got s))
       go true t =
           rw (part-front doc rest (at + 2) n (leb-true (at + 2 + n) (length doc) t))
           (bind-agrees (bytesAt doc n 0 (at + 2)) (bytesAt all n 0 (at + 2)) _ _ (bytes-agrees n 0 (at + 2)) (λ s e. agrees-self _))
-      go false t = agrees-no _ (ap (λ (o : Out Span). o >>= (λ s. guard (wellFormed (part doc (at + 2) n)) 4 (at + 2) >> got s)) (bytes-no doc n 0 (at + 2) (leb-false (at + 2 + n) (length doc) t)))
+      go false t = agrees-no _ (ap (λ (o : Out Span). o >>= (λ s. readable (verdict (part doc (at + 2) n)) (at + 2) >> got s)) (bytes-no doc n 0 (at + 2) (leb-false (at + 2 + n) (length doc) t)))
 
   string-agrees : (at : ℕ) → Agrees 1 (stringAt doc at) (stringAt all at)
   unfolding stringAt

@@ -20,7 +20,7 @@ use Rattle.form.proofs.Digits.{digits-length}
 use Rattle.snbt_form.specs.Lexing.{among}
 use Rattle.demands.specs.Reading.{Bytes}
 use Rattle.demands.proofs.Sits.{Sits, sits-join, sits-nil}
-use Rattle.demands.proofs.Answers.{Answers, Numbered, bind-answers, guard-answers, got-answers, no-answers}
+use Rattle.demands.proofs.Answers.{Answers, Numbered, other, bind-answers, guard-answers, got-answers, no-answers}
 use Rattle.form.proofs.EachKind.{by-kind}
 use Rattle.demands.proofs.Tags.{tagOf, readAt}
 use Rattle.demands.proofs.Fields.{StringLaw}
@@ -100,7 +100,7 @@ module _ (doc : List ℕ) (room : ℕ) where
 module _ (doc : List ℕ) (wf : StringLaw) (bytes : Bytes doc) (room : ℕ) where
   -- what reading one tag gives, where d containers may still stand within each other
   abbrev pub Sounds : ℕ → Type 0
-  Sounds d = (name len at n kind : ℕ) → 0 < kind → kind ≤ 12 → at ≤ length doc → Answers Numbered (TagSound doc room d kind name len at n) (readAt doc room d kind name len at n)
+  Sounds d = (name len at n kind : ℕ) → 0 < kind → kind ≤ 12 → at ≤ length doc → Answers (Numbered doc) (TagSound doc room d kind name len at n) (readAt doc room d kind name len at n)
 
   module _ (d : ℕ) (P : Sounds d) where
     more-tags : (k c at n : ℕ) (x : One) (r : Run) → TagSound doc room d k 0 0 at n x → TagsSound doc room d k c (x .next) (n + 1 + size (x .inner)) r
@@ -119,7 +119,7 @@ module _ (doc : List ℕ) (wf : StringLaw) (bytes : Bytes doc) (room : ℕ) wher
       fits = omega (arith, w .fits);
     }
 
-    tags-sound : (c k at n : ℕ) → (0 < c → (0 < k) × (k ≤ 12)) → at ≤ length doc → n ≤ room → Answers Numbered (TagsSound doc room d k c at n) (elements doc (readAt doc room d) c k at n)
+    tags-sound : (c k at n : ℕ) → (0 < c → (0 < k) × (k ≤ 12)) → at ≤ length doc → n ≤ room → Answers (Numbered doc) (TagsSound doc room d k c at n) (elements doc (readAt doc room d) c k at n)
     unfolding elements Elements Valid OneKind depth tagCount many tagsOf size
     tags-sound zero k at n h l r = got-answers (record {
       bs = [];
@@ -167,7 +167,7 @@ module _ (doc : List ℕ) (wf : StringLaw) (bytes : Bytes doc) (room : ℕ) wher
     -- what reading entries gives, with so much fuel
     abbrev EntriesBy : ℕ → Type 0
     EntriesBy fuel = (at n : ℕ) (earlier : Forest) → at ≤ length doc → length doc < fuel + at → n ≤ room
-        → Answers Numbered (EntriesSound doc room d at n earlier) (entries doc (readAt doc room d) fuel earlier at n)
+        → Answers (Numbered doc) (EntriesSound doc room d at n earlier) (entries doc (readAt doc room d) fuel earlier at n)
 
     entries-sound : (fuel : ℕ) → EntriesBy fuel
     unfolding entries EntryBytes Valid depth tagCount entriesOf size hasEntry among
@@ -181,7 +181,7 @@ module _ (doc : List ℕ) (wf : StringLaw) (bytes : Bytes doc) (room : ℕ) wher
               >>= (λ x. entries doc (readAt doc room d) fuel (earlier ⊕ node (x .head) (x .inner) none) (x .next) (n + 1 + size (x .inner)) >>= (λ r. got (before x r))))
         ]
 
-        go : EntriesBy fuel → (e : Entry) → EntryIs doc at e → Answers Numbered (EntriesSound doc room d at n earlier) (rest e)
+        go : EntriesBy fuel → (e : Entry) → EntryIs doc at e → Answers (Numbered doc) (EntriesSound doc room d at n earlier) (rest e)
         go ih end i = got-answers (record {
           bs = 0 ∷ [];
           sits = i;
@@ -194,13 +194,13 @@ module _ (doc : List ℕ) (wf : StringLaw) (bytes : Bytes doc) (room : ℕ) wher
           fits = omega arith;
         })
         go ih (named kind s) i =
-            guard-answers (not (hasName doc (part doc (s .start) (s .size)) earlier)) _ _ _ (λ e. refl)
+            guard-answers (not (hasName doc (part doc (s .start) (s .size)) earlier)) _ _ _ (λ e. other refl refl)
             (λ e. bind-answers (readAt doc room d kind (s .start) (s .size) (s .next) n) _ (P (s .start) (s .size) (s .next) n kind (i .pos) (i .le) (omega (arith, i .next, i .sits .to)))
             (λ x t. bind-answers (entries doc (readAt doc room d) fuel (earlier ⊕ node (x .head) (x .inner) none) (x .next) (n + 1 + size (x .inner))) _
             (ih (x .next) (n + 1 + size (x .inner)) (earlier ⊕ node (x .head) (x .inner) none) (omega (arith, t .next, t .sits .to)) (omega (arith, t .next, i .next)) (t .fits))
             (λ r w. got-answers (more-entries kind s at n earlier x r i (not-true _ e) t w))))
 
-    list-sound : (at n : ℕ) → at ≤ length doc → n ≤ room → Answers Numbered (HeldSound doc room (suc d) 9 at n) (insideAt doc room (suc d) 9 at n)
+    list-sound : (at n : ℕ) → at ≤ length doc → n ≤ room → Answers (Numbered doc) (HeldSound doc room (suc d) 9 at n) (insideAt doc room (suc d) 9 at n)
     unfolding insideAt containerAt listAt valueBy Payload Valid depth tagCount kindOf
     list-sound at n l r =
         bind-answers (listHeadAt doc at) _ (head-sound doc bytes at)
@@ -228,7 +228,7 @@ module _ (doc : List ℕ) (wf : StringLaw) (bytes : Bytes doc) (room : ℕ) wher
               fits = w .fits;
             }
 
-    compound-sound : (at n : ℕ) → at ≤ length doc → n ≤ room → Answers Numbered (HeldSound doc room (suc d) 10 at n) (insideAt doc room (suc d) 10 at n)
+    compound-sound : (at n : ℕ) → at ≤ length doc → n ≤ room → Answers (Numbered doc) (HeldSound doc room (suc d) 10 at n) (insideAt doc room (suc d) 10 at n)
     unfolding insideAt containerAt compoundAt valueBy Payload Valid depth tagCount kindOf
     compound-sound at n l r =
         bind-answers (entries doc (readAt doc room d) (suc (length doc)) none at n) _ (entries-sound (suc (length doc)) at n none l (omega arith) r)
@@ -242,10 +242,10 @@ module _ (doc : List ℕ) (wf : StringLaw) (bytes : Bytes doc) (room : ℕ) wher
 
   -- ---- one tag
 
-  leaf-tag : (d name len at n kind : ℕ) → 0 < kind → kind ≤ 12 → holds kind ≡ false → Answers Numbered (TagSound doc room d kind name len at n) (readAt doc room d kind name len at n)
+  leaf-tag : (d name len at n kind : ℕ) → 0 < kind → kind ≤ 12 → holds kind ≡ false → Answers (Numbered doc) (TagSound doc room d kind name len at n) (readAt doc room d kind name len at n)
   unfolding payloadBy leafOne tagsOf size among
   leaf-tag d name len at n kind p q h =
-      guard-answers (ltb n room) _ _ _ (λ e. refl)
+      guard-answers (ltb n room) _ _ _ (λ e. other refl refl)
       (λ e. rw h (bind-answers (leafAt doc kind at) _ (leaf-sound doc bytes wf at kind p q h)
       (λ s w. let f = w .is name len in got-answers (record {
         bs = w .bs;
@@ -258,31 +258,31 @@ module _ (doc : List ℕ) (wf : StringLaw) (bytes : Bytes doc) (room : ℕ) wher
         len-is = refl;
       }))))
 
-  held-tag : (d name len at n kind : ℕ) → holds kind ≡ true → (n < room → Answers Numbered (HeldSound doc room d kind at (n + 1)) (insideAt doc room d kind at (n + 1)))
-      → Answers Numbered (TagSound doc room d kind name len at n) (readAt doc room d kind name len at n)
+  held-tag : (d name len at n kind : ℕ) → holds kind ≡ true → (n < room → Answers (Numbered doc) (HeldSound doc room d kind at (n + 1)) (insideAt doc room d kind at (n + 1)))
+      → Answers (Numbered doc) (TagSound doc room d kind name len at n) (readAt doc room d kind name len at n)
   unfolding payloadBy among
   held-tag d name len at n kind h i =
-      guard-answers (ltb n room) _ _ _ (λ e. refl)
+      guard-answers (ltb n room) _ _ _ (λ e. other refl refl)
       (λ e. rw h (bind-answers (insideAt doc room d kind at (n + 1)) _ (i (ltb-true n room e))
       (λ y w. got-answers (record { bs = w .bs; sits = w .sits; next = w .next; is = w .is name len; fits = w .fits; kind-is = refl; name-is = refl; len-is = refl }))))
 
   -- what reading the inside of a container of a kind gives
   abbrev Holds : ℕ → ℕ → Type 0
-  Holds d kind = (at n : ℕ) → at ≤ length doc → n ≤ room → Answers Numbered (HeldSound doc room d kind at n) (insideAt doc room d kind at n)
+  Holds d kind = (at n : ℕ) → at ≤ length doc → n ≤ room → Answers (Numbered doc) (HeldSound doc room d kind at n) (insideAt doc room d kind at n)
 
   any-tag : (d : ℕ) → Holds d 9 → Holds d 10 → Sounds d
   any-tag d lists compounds name len at n kind p q l =
-      by-kind (λ k. Answers Numbered (TagSound doc room d k name len at n) (readAt doc room d k name len at n))
+      by-kind (λ k. Answers (Numbered doc) (TagSound doc room d k name len at n) (readAt doc room d k name len at n))
       (leaf 1 (omega arith) refl) (leaf 2 (omega arith) refl) (leaf 3 (omega arith) refl) (leaf 4 (omega arith) refl) (leaf 5 (omega arith) refl) (leaf 6 (omega arith) refl)
       (leaf 7 (omega arith) refl) (leaf 8 (omega arith) refl)
       (held-tag d name len at n 9 refl (λ f. lists at (n + 1) l (omega arith))) (held-tag d name len at n 10 refl (λ f. compounds at (n + 1) l (omega arith)))
       (leaf 11 (omega arith) refl) (leaf 12 (omega arith) refl)
       kind p q
     where
-      leaf : (k : ℕ) → (0 < k) × (k ≤ 12) → holds k ≡ false → Answers Numbered (TagSound doc room d k name len at n) (readAt doc room d k name len at n)
+      leaf : (k : ℕ) → (0 < k) × (k ≤ 12) → holds k ≡ false → Answers (Numbered doc) (TagSound doc room d k name len at n) (readAt doc room d k name len at n)
       leaf k r h = leaf-tag d name len at n k (r .0) (r .1) h
 
   pub tag-sound : (d : ℕ) → Sounds d
   unfolding insideAt among
-  tag-sound zero = any-tag zero (λ at n l r. no-answers at refl) (λ at n l r. no-answers at refl)
+  tag-sound zero = any-tag zero (λ at n l r. no-answers at (other refl refl)) (λ at n l r. no-answers at (other refl refl))
   tag-sound (suc d) = any-tag (suc d) (list-sound d (tag-sound d)) (compound-sound d (tag-sound d))

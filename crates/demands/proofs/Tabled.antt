@@ -11,7 +11,7 @@ use lib.Dec.{ltb, leb, eqb}
 use borrow.Author.Tests.{leb-true, eqb-true, eqb-false, eq-eqb, lt-ltb}
 use Rattle.form.specs.Answer.{Out, got, no, guard, _>>_, _>>=_, pick, depthLimit, documentLimit}
 use Rattle.form.specs.Spans.{part}
-use Rattle.form.specs.Decoding.{wellFormed}
+use Rattle.form.specs.Decoding.{verdict}
 use Rattle.form.specs.Table.{Head, Forest, none, node, size, width, _⊕_, widthOf, holds}
 use Rattle.form.specs.Tables.{leafFits, firstKind, LeafIs, ContainerIs, NameIs, Fair}
 use Rattle.form.specs.Query.{shallow}
@@ -20,13 +20,13 @@ use Rattle.form.specs.Reading.{leafOne, listHeadAt, entryAt, elements, entries,
 use Rattle.form.proofs.Picks.{differ}
 use Rattle.form.proofs.Tables.{fair-node, fair-none, name-within}
 use Rattle.form.proofs.Depths.{shallow-none, shallow-on, shallow-parts, then-got}
-use Rattle.demands.proofs.Answers.{Answers, bind-answers, guard-answers, weaker, got-answers, no-answers}
+use Rattle.demands.proofs.Answers.{Answers, bind-answers, guard-answers, readable-answers, weaker, got-answers, no-answers}
 use Rattle.demands.proofs.Tags.{readAt}
 use Rattle.form.proofs.EachKind.{by-kind}
 
 -- Any refusal is allowed.
-abbrev pub Whatever : ℕ → Type 0
-Whatever n = Unit {0}
+abbrev pub Whatever : ℕ → ℕ → Type 0
+Whatever n p = Unit {0}
 
 anything : {A : Type 0} (o : Out A) → Answers Whatever (λ _. Unit {0}) o
 anything (got a) = got-answers tt
@@ -54,7 +54,7 @@ module _ (doc : List ℕ) where
   string-span at =
       bind-answers (numberAt doc 2 at) _ (anything (numberAt doc 2 at))
       (λ n u. bind-answers (bytesAt doc n 0 (at + 2)) _ (bytes-span n 0 (at + 2))
-      (λ s w. guard-answers (wellFormed (part doc (at + 2) n)) _ _ _ (λ e. tt) (λ e. got-answers (w .counts, w .to))))
+      (λ s w. readable-answers (verdict (part doc (at + 2) n)) (at + 2) _ (λ k e. tt) (λ e. got-answers (w .counts, w .to))))
 
   -- An array's elements.
   abbrev ArrayIs : ℕ → Span → Type 0

@@ -6,6 +6,7 @@ pub mod Queries
 pub mod Rescue
 pub mod Numbered
 pub mod Parents
+pub mod Characters
 pub mod Numbers
 pub mod DemandOne
 pub mod DemandTwo

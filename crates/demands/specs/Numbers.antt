@@ -6,7 +6,7 @@ use mathlib.Core.Path.{_≡_}
 use mathlib.Core.List.{List, [], _∷_}
 use mathlib.Core.Bool.{Bool, true}
 use lib.ListN.{length}
-use Rattle.form.specs.Answer.{Out, no}
+use Rattle.form.specs.Answer.{Out, no, Count, failed}
 use Rattle.form.specs.Table.{Head, Forest}
 use Rattle.form.specs.Reading.{documentAt}
 use Rattle.form.specs.Writing.{written, WriteIs}
@@ -14,7 +14,7 @@ use Rattle.form.specs.Cut as cut
 use Rattle.form.specs.Cut.{rescued}
 use Rattle.form.specs.Stored.{badLine, WriteLinesIs, linesIn, linesRead}
 use Rattle.form.specs.Moved.{Edition, MoveIs}
-use Rattle.form.specs.Query.{asked, refused, within, Count, failed, QueryIs}
+use Rattle.form.specs.Query.{asked, refused, within, QueryIs}
 use Rattle.snbt_form.specs.Lexing.{among, Stops, lexed, content}
 use Rattle.snbt_form.specs.Text.{parsed}
 use Rattle.demands.specs.Reading.{Bytes}
@@ -44,10 +44,11 @@ abbrev pub IsWriteNumbers : Type 0
 IsWriteNumbers =
     (doc : List ℕ) (h : Head) (inner : Forest) (room n p : ℕ) → written doc h inner room ≡ no n p → among writtenNumbers n ≡ true
 
--- `write-refusals`: whoever keeps the promise of a write refuses with one of a write's numbers.
+-- `write-refusals`: whoever keeps the promise of a write refuses with one of a write's numbers, the record beside it being 0 but in 4.
 abbrev pub IsWriteRefusals : Type 0
 IsWriteRefusals =
-    (doc t o : List ℕ) (answer : Out ℕ) (o′ : List ℕ) (n p : ℕ) → WriteIs doc t o answer o′ → answer ≡ no n p → among writeNumbers n ≡ true
+    (doc t o : List ℕ) (answer : Count) (o′ : List ℕ) (n p r : ℕ) → WriteIs doc t o answer o′ → answer ≡ failed n p r
+    → (among writeNumbers n ≡ true) × ((n ≡ 4 → ⊥) → r ≡ 0)
 
 -- ---- rescues
 

@@ -4,14 +4,14 @@
 use Prim.Native.Nat.{ℕ}
 use mathlib.Core.Path.{_≡_}
 use mathlib.Core.List.{List}
-use Rattle.form.specs.Answer.{Out}
+use Rattle.form.specs.Answer.{Count}
 use Rattle.form.specs.Writing.{WriteIs}
-use Rattle.form.specs.Query.{Count, QueryIs}
+use Rattle.form.specs.Query.{QueryIs}
 
--- `one-write`: two outcomes that the promise of a write allows are one, the answer and the output.
+-- `one-write`: two outcomes that the promise of a write allows are one, the answer, with the record of a 4, and the output.
 abbrev pub IsOneWrite : Type 0
 IsOneWrite =
-    (doc t o : List ℕ) (a₁ a₂ : Out ℕ) (o₁ o₂ : List ℕ) → WriteIs doc t o a₁ o₁ → WriteIs doc t o a₂ o₂ → (a₁ ≡ a₂) × (o₁ ≡ o₂)
+    (doc t o : List ℕ) (a₁ a₂ : Count) (o₁ o₂ : List ℕ) → WriteIs doc t o a₁ o₁ → WriteIs doc t o a₂ o₂ → (a₁ ≡ a₂) × (o₁ ≡ o₂)
 
 -- `one-query`: two outcomes that the promise of a query allows are one, the answer and the list.
 abbrev pub IsOneQuery : Type 0

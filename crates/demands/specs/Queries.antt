@@ -7,13 +7,13 @@ use mathlib.Core.Logic.{_⊎_, _↔_}
 use mathlib.Core.List.{List, [], _∷_}
 use mathlib.Core.Bool.{true}
 use lib.ListN.{length}
-use Rattle.form.specs.Answer.{got, recordLimit}
+use Rattle.form.specs.Answer.{got, recordLimit, Count}
 use Rattle.form.specs.Tree.{Document}
 use Rattle.form.specs.Table.{none, node, flat, valueOf}
 use Rattle.form.specs.Tables.{IsTable, Within}
 use Rattle.form.specs.Reading.{One, documentAt}
 use Rattle.form.specs.Paths.{Hop, Step, fits, paths, matches}
-use Rattle.form.specs.Query.{spelt, within, Count, Finds, QueryIs}
+use Rattle.form.specs.Query.{spelt, within, Finds, QueryIs}
 use Rattle.demands.specs.Reading.{Bytes}
 
 -- The words of the records that a read wrote, and no others.

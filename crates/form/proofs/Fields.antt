@@ -3,18 +3,18 @@
 use Prim.Native.Nat.{ℕ, zero, suc, _+_, _*_, _^_, _≤_, _<_}
 use mathlib.Core.Bool.{Bool, true, false, not, _&&_, _||_}
 use mathlib.Core.List.{List, [], _∷_}
-use mathlib.Core.Path.{_≡_, refl, ap, _∙_}
+use mathlib.Core.Path.{_≡_, refl, sym, ap, _∙_}
 use native.Mathlib.Omega.{arith}
 use lib.ListN.{length, getD, take, drop}
 use lib.Dec.{T, leb, ltb, eqb, leb→le}
 use borrow.Author.Tests.{lt-ltb, le-ltb, le-leb, lt-leb, leb-true, ltb-true, ne-eqb}
 use Rattle.form.specs.Answer.{Out, got, no, guard, _>>_, _>>=_}
 use Rattle.form.specs.Spans.{part}
-use Rattle.form.specs.Decoding.{wellFormed}
-use Rattle.form.specs.Reading.{Span, byteAt, bytesAt, numberAt, stringAt, arrayAt, countAt, leafAt, ListHead, listHeadAt, Entry, end, named, entryAt}
+use Rattle.form.specs.Decoding.{Verdict, good, bad, verdict}
+use Rattle.form.specs.Reading.{Span, readable, byteAt, bytesAt, numberAt, stringAt, arrayAt, countAt, leafAt, ListHead, listHeadAt, Entry, end, named, entryAt}
 use Rattle.form.specs.Numbers.{bigEndian}
 use Rattle.form.specs.Table.{widthOf}
-use Rattle.form.proofs.Answer.{bind-got, guard-got}
+use Rattle.form.proofs.Answer.{got-no, bind-got, guard-got}
 use Rattle.form.proofs.Picks.{and-left}
 
 -- a span that lies in the document, at or after a place
@@ -29,6 +29,11 @@ pub record Leaf (doc : List ℕ) (at : ℕ) (s : Span) : Type 0 where
   pub sum : s .start + s .size ≡ s .next
   pub to : s .next ≤ length doc
   pub count-lt : s .count < 2 ^ 31
+
+-- a string in a chain that is accepted can be read
+pub readable-got : {A : Type 0} (v : Verdict) (p : ℕ) (r : Out A) {a : A} → (readable v p >> r) ≡ got a → (v ≡ good) × (r ≡ got a)
+readable-got good p r e = (refl, e)
+readable-got (bad k) p r e = absurd (got-no (sym e))
 
 module _ (doc : List ℕ) where
   pub byte-got : (at : ℕ) → at < length doc → byteAt doc at ≡ got (getD doc at 0)
@@ -83,11 +88,12 @@ module _ (doc : List ℕ) where
   string-cut at n e h = rw (e, bytes-no n 0 (at + 2) h) refl
 
   module _ (at n : ℕ) (e : numberAt doc 2 at ≡ got n) (h : at + 2 + n ≤ length doc) where
-    pub string-bad : wellFormed (part doc (at + 2) n) ≡ false → stringAt doc at ≡ no 4 (at + 2)
+    -- a content with a sequence that can't be read
+    pub string-bad : {k : ℕ} → verdict (part doc (at + 2) n) ≡ bad k → stringAt doc at ≡ no 4 (at + 2 + k)
     unfolding stringAt
     string-bad w = rw (e, bytes-got n 0 (at + 2) h, w) refl
 
-    pub string-got : wellFormed (part doc (at + 2) n) ≡ true → stringAt doc at ≡ got (record { start = at + 2; size = n; count = 0; next = at + 2 + n })
+    pub string-got : verdict (part doc (at + 2) n) ≡ good → stringAt doc at ≡ got (record { start = at + 2; size = n; count = 0; next = at + 2 + n })
     unfolding stringAt
     string-got w = rw (e, bytes-got n 0 (at + 2) h, w) refl
 
@@ -96,19 +102,19 @@ module _ (doc : List ℕ) where
     pub n : ℕ
     pub prefix : numberAt doc 2 at ≡ got n
     pub span : bytesAt doc n 0 (at + 2) ≡ got s
-    pub fine : wellFormed (part doc (at + 2) n) ≡ true
+    pub fine : verdict (part doc (at + 2) n) ≡ good
 
   pub string-worded : (at : ℕ) {s : Span} → stringAt doc at ≡ got s → Worded at s
   unfolding stringAt
   string-worded at {s} e =
       let b = bind-got (numberAt doc 2 at) rest e in
       let c = bind-got (bytesAt doc (b .0) 0 (at + 2)) (last (b .0)) (b .2) in
-      let g = guard-got (wellFormed (part doc (at + 2) (b .0))) 4 (at + 2) (got (c .0)) (c .2) in
+      let g = readable-got (verdict (part doc (at + 2) (b .0))) (at + 2) (got (c .0)) (c .2) in
       let f : c .0 ≡ s = cc (g .1) in
       record { n = b .0; prefix = b .1; span = c .1 ∙ ap got f; fine = g .0 }
     where
       last : ℕ → Span → Out Span
-      last n t = guard (wellFormed (part doc (at + 2) n)) 4 (at + 2) >> got t
+      last n t = readable (verdict (part doc (at + 2) n)) (at + 2) >> got t
 
       rest : ℕ → Out Span
       rest n = bytesAt doc n 0 (at + 2) >>= last n

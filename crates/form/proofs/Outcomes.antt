@@ -1,4 +1,4 @@
--- Writes and a query have one outcome each: two that the promise allows are the same. Whether words form a table is not decided for it:
+-- WriteGives and a query have one outcome each: two that the promise allows are the same. Whether words form a table is not decided for it:
 -- whether two outcomes are the same can be, and in none of the three cases can they differ.
 -- Assumes nothing.
 use Prim.Native.Nat.{ℕ}
@@ -7,11 +7,11 @@ use mathlib.Core.List.{List, List-discrete}
 use native.Mathlib.Omega.{arith}
 use native.Mathlib.Decide.{ℕ-discrete, map-dec}
 use lib.ListN.{length}
-use Rattle.form.specs.Answer.{Out, got, no as refused}
+use Rattle.form.specs.Answer.{Out, got, no as refused, Count, counted, failed}
 use Rattle.form.specs.Tables.{IsTable, Within}
-use Rattle.form.specs.Writing.{Gives, WriteIs}
+use Rattle.form.specs.Writing.{Gives, WriteGives, WriteIs}
 use Rattle.form.specs.Stored.{WriteLinesIs}
-use Rattle.form.specs.Query.{Answered, Count, counted, failed, Finds, QueryIs}
+use Rattle.form.specs.Query.{Answered, Finds, QueryIs}
 use Rattle.form.proofs.Answer.{got-no}
 
 -- ---- what can be decided
@@ -30,7 +30,7 @@ same-out (got m) (refused n p) = no (λ e. got-no e)
 same-out (refused n p) (got m) = no (λ e. got-no (sym e))
 same-out (refused n p) (refused m q) = map-dec (λ e. let a = e .0 in let b = e .1 in cc) (λ e. (cc, cc)) (both (ℕ-discrete n m) (ℕ-discrete p q))
 
-counted-failed : {m n p c : ℕ} → counted m ≡ failed n p c → ⊥
+pub counted-failed : {m n p c : ℕ} → counted m ≡ failed n p c → ⊥
 counted-failed {m} {n} {p} {c} e = let z : _≡_ {A = ℕ} 0 1 = cc in omega arith
 
 same-count : (a b : Count) → Dec (a ≡ b)
@@ -52,13 +52,17 @@ in-each-case (no n) large unfit fit = absurd (n (large (λ w. n (unfit w (λ t. 
 gives-one : (w : Out (List ℕ)) (o : List ℕ) (a₁ a₂ : Out ℕ) (o₁ o₂ : List ℕ) → Gives w o a₁ o₁ → Gives w o a₂ o₂ → (a₁ ≡ a₂) × (o₁ ≡ o₂)
 gives-one w o a₁ a₂ o₁ o₂ g h = (g .answer-is ∙ sym (h .answer-is), g .output-is ∙ sym (h .output-is))
 
--- Two outcomes of a write are the same: the answer and the output.
-pub one-write : (doc t o : List ℕ) (a₁ a₂ : Out ℕ) (o₁ o₂ : List ℕ) → WriteIs doc t o a₁ o₁ → WriteIs doc t o a₂ o₂ → (a₁ ≡ a₂) × (o₁ ≡ o₂)
+writes-one : (doc t : List ℕ) (w : Out (List ℕ)) (o : List ℕ) (a₁ a₂ : Count) (o₁ o₂ : List ℕ) → WriteGives doc t w o a₁ o₁ → WriteGives doc t w o a₂ o₂
+    → (a₁ ≡ a₂) × (o₁ ≡ o₂)
+writes-one doc t w o a₁ a₂ o₁ o₂ g h = (g .answer-is ∙ sym (h .answer-is), g .output-is ∙ sym (h .output-is))
+
+-- Two outcomes of a write are the same: the answer, with the record of a 4 ([3]), and the output.
+pub one-write : (doc t o : List ℕ) (a₁ a₂ : Count) (o₁ o₂ : List ℕ) → WriteIs doc t o a₁ o₁ → WriteIs doc t o a₂ o₂ → (a₁ ≡ a₂) × (o₁ ≡ o₂)
 one-write doc t o a₁ a₂ o₁ o₂ g h =
-    in-each-case {W = Within (length doc) t} {T = IsTable (length doc) t} (both (same-out a₁ a₂) (same-list o₁ o₂))
-    (λ n. gives-one _ o a₁ a₂ o₁ o₂ (g .large n) (h .large n))
-    (λ w n. gives-one _ o a₁ a₂ o₁ o₂ (g .unfit w n) (h .unfit w n))
-    (λ w i. gives-one _ o a₁ a₂ o₁ o₂ (g .fit w i) (h .fit w i))
+    in-each-case {W = Within (length doc) t} {T = IsTable (length doc) t} (both (same-count a₁ a₂) (same-list o₁ o₂))
+    (λ n. writes-one doc t _ o a₁ a₂ o₁ o₂ (g .large n) (h .large n))
+    (λ w n. writes-one doc t _ o a₁ a₂ o₁ o₂ (g .unfit w n) (h .unfit w n))
+    (λ w i. writes-one doc t _ o a₁ a₂ o₁ o₂ (g .fit w i) (h .fit w i))
 
 -- Two outcomes of writing a table's lines ([6]): the answer and the output.
 pub one-write-lines : (d : ℕ) (t o : List ℕ) (a₁ a₂ : Out ℕ) (o₁ o₂ : List ℕ) → WriteLinesIs d t o a₁ o₁ → WriteLinesIs d t o a₂ o₂

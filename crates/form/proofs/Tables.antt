@@ -12,7 +12,7 @@ use lib.Seq.{drop-cons, drop-drop, drop-at, getD-drop, length-take-le}
 use lib.Dec.{eqb}
 use Rattle.form.specs.Answer.{recordLimit}
 use Rattle.form.specs.Spans.{over}
-use Rattle.form.specs.Table.{Head, Forest, none, node, size, _⊕_, words, word, flat, wrote}
+use Rattle.form.specs.Table.{Head, Forest, none, node, size, _⊕_, words, word, headOf, flat, wrote}
 use Rattle.form.specs.Records.{Stands, Sits, Under}
 use Rattle.form.specs.Tables.{LeafIs, ContainerIs, NameIs, Fair, IsTable, Within}
 use Rattle.form.proofs.Picks.{differ}
@@ -320,6 +320,19 @@ fair-split d l none g r = (tt, r)
 fair-split d l (node h inner later) g r = let s = fair-split d l later g (r .3) in ((r .0, r .1, r .2, s .0), s .1)
 
 -- ---- each record by its number
+
+-- The words of a record that stands in a table are its head's.
+pub head-of : (t : List ℕ) (n : ℕ) (h : Head) (e : ℕ) → Stands t n h e → headOf t n ≡ h
+head-of t n h e s =
+    λ i. record {
+      kind = s .kind i;
+      name = s .name i;
+      name-length = s .name-length i;
+      start = s .start i;
+      size = s .size i;
+      count = s .count i;
+      list-kind = s .list-kind i;
+    }
 
 -- Record i of n, with the records in it: its words stand there, and it is fair; `element` says whether it is an element of a list.
 pub record RecordAt (d : ℕ) (t : List ℕ) (n i : ℕ) : Type 0 where

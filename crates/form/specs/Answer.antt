@@ -1,4 +1,5 @@
--- The answer of a step: a value, or a refusal with its number and its place; the refusals and the limits of document 01 by name.
+-- The answer of a step: a value, or a refusal with its number and its place; the answer of a call that counts; the refusals and the limits
+-- of document 01 by name.
 -- Assumes nothing.
 use Prim.Native.Nat.{ℕ}
 use mathlib.Core.Bool.{Bool, true, false}
@@ -28,6 +29,12 @@ guard false n p = no n p
 abbrev pub pick : {A : Type 0} → Bool → A → A → A
 pick true a b = a
 pick false a b = b
+
+-- What a call answers that counts: how many, or a refusal: its number, its place, and beside them the true count in 24, the record in a
+-- write's 4 (02, [3]), and 0 in every other.
+pub data Count : Type 0 where
+  counted : ℕ → Count
+  failed : ℕ → ℕ → ℕ → Count
 
 -- ---- the refusals of 01, by name
 

@@ -6,7 +6,7 @@ use mathlib.Core.List.{List, [], _∷_}
 use mathlib.Core.Bool.{true, false, not, _||_}
 use lib.ListN.{length}
 use lib.Dec.{ltb, leb, eqb}
-use Rattle.form.specs.Answer.{Out, got, no, _>>=_, _>>_, guard, pick, tooDeep, overLimit, noTable, badQuery, moreMatches, depthLimit, stepLimit}
+use Rattle.form.specs.Answer.{Out, got, no, _>>=_, _>>_, guard, pick, Count, counted, failed, tooDeep, overLimit, noTable, badQuery, moreMatches, depthLimit, stepLimit}
 use Rattle.form.specs.Spans.{part, over}
 use Rattle.form.specs.Table.{Head, Forest, none, node, size, holds, valueOf}
 use Rattle.form.specs.Tables.{IsTable, Within}
@@ -88,10 +88,6 @@ within room (got ms) = pick (leb (length ms) room) (matched ms) (refused moreMat
 within room (no n p) = refused n p 0
 
 -- What a query answers: the number of matches.
-pub data Count : Type 0 where
-  counted : ℕ → Count
-  failed : ℕ → ℕ → ℕ → Count
-
 abbrev pub countOf : Answered → Count
 countOf (matched ms) = counted (length ms)
 countOf (refused n p c) = failed n p c

@@ -11,7 +11,7 @@ use Rattle.form.specs.Answer.{Out, got, no, _>>=_, _>>_, guard, dataEnds
 use Rattle.form.specs.Answer.{depthLimit}
 use Rattle.form.specs.Spans.{part, same}
 use Rattle.form.specs.Numbers.{bigEndian}
-use Rattle.form.specs.Decoding.{wellFormed}
+use Rattle.form.specs.Decoding.{Verdict, good, bad, verdict}
 use Rattle.form.specs.Table.{Head, Forest, none, node, size, width, _⊕_, wrote, widthOf, holds}
 
 -- A span of bytes, with the place past it; of an array also the count of its elements.
@@ -66,6 +66,11 @@ hasName doc name (node h inner later) = same (part doc (h .name) (h .name-length
 abbrev pub before : One → Run → Run
 before x r = record { forest = node (x .head) (x .inner) (r .forest); next = r .next }
 
+-- A string whose content begins at a place: refusal 4 where the first sequence that can't be read begins (02, [3]).
+abbrev pub readable : Verdict → ℕ → Out (Unit {0})
+readable good start = got tt
+readable (bad k) start = no badString (start + k)
+
 -- Reads a payload: its kind, its name's start and length, its place, and its record's number.
 abbrev pub Reader : Type 0
 Reader = ℕ → ℕ → ℕ → ℕ → ℕ → Out One
@@ -89,12 +94,12 @@ module _ (doc : List ℕ) where
     guard (leb (at + n) (length doc)) dataEnds at
     got (bigEndian (part doc at n))
 
-  -- A string (rule 2): its length, its content (1), which is well formed (4).
+  -- A string (rule 2): its length, its content (1), which can be read to its end (4).
   unfoldable pub stringAt : ℕ → Out Span
   stringAt at = do
     n ← numberAt 2 at
     s ← bytesAt n 0 (at + 2)
-    guard (wellFormed (part doc (at + 2) n)) badString (at + 2)
+    readable (verdict (part doc (at + 2) n)) (at + 2)
     got s
 
   -- An i32 count: whole (1), then not below 0 (5).

@@ -53,6 +53,18 @@ words h end parent =
 abbrev pub word : List ℕ → ℕ → ℕ → ℕ
 word t n k = getD t (9 * n + k) 0
 
+-- The words of record n but the last two.
+abbrev pub headOf : List ℕ → ℕ → Head
+headOf t n = record {
+  kind = word t n 0;
+  name = word t n 1;
+  name-length = word t n 2;
+  start = word t n 3;
+  size = word t n 4;
+  count = word t n 5;
+  list-kind = word t n 6;
+}
+
 -- The words of records side by side and of those in them: the first has the number n, and their parent is p. The root's own p is 0.
 unfoldable pub flat : ℕ → ℕ → Forest → List ℕ
 flat p n none = []

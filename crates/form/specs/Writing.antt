@@ -1,5 +1,6 @@
 -- Rule 8: what writing a table gives. The records are judged in file order, each by name (12, 4, 6), depth (7), kind (11) and string
--- payload (12, 4); then the layout of the document that they stand for, where there is room (13).
+-- payload (12, 4); then the layout of the document that they stand for, where there is room (13). A 4 is answered at the character, with
+-- the record beside it (02, [3]).
 -- Assumes nothing.
 use Prim.Native.Nat.{ℕ, _+_, _-_}
 use mathlib.Core.Path.{_≡_}
@@ -7,10 +8,10 @@ use mathlib.Core.List.{List}
 use mathlib.Core.Bool.{Bool, true, false, not, _||_}
 use lib.ListN.{length}
 use lib.Dec.{ltb, leb, eqb}
-use Rattle.form.specs.Answer.{Out, got, no, _>>=_, _>>_, guard, badString, nameTwice, tooDeep, overLimit, noTable, mixedList, longString, outputFull, depthLimit, stringLimit}
+use Rattle.form.specs.Answer.{Out, got, no, _>>=_, _>>_, guard, pick, Count, counted, failed, badString, nameTwice, tooDeep, overLimit, noTable, mixedList, longString, outputFull, depthLimit, stringLimit}
 use Rattle.form.specs.Spans.{part, over}
-use Rattle.form.specs.Decoding.{wellFormed}
-use Rattle.form.specs.Table.{Head, Forest, none, node, size, _⊕_, holds, valueOf}
+use Rattle.form.specs.Decoding.{good, bad, verdict, wellFormed}
+use Rattle.form.specs.Table.{Head, Forest, none, node, size, _⊕_, headOf, holds, valueOf}
 use Rattle.form.specs.Tables.{IsTable, Within}
 use Rattle.form.specs.Reading.{hasName}
 use Rattle.form.specs.Layout.{layout}
@@ -46,7 +47,21 @@ module _ (doc : List ℕ) where
     guard (leb (length (layout (valueOf doc h inner))) room) outputFull 0
     got (layout (valueOf doc h inner))
 
--- What a write answers: the number of bytes written.
+  -- Refusal 4's place in a record of which 4 is due ([3]): where in the document the first sequence that can't be read begins, of its
+  -- name or, if that is well formed, of its string payload.
+  unfoldable pub badPlace : Head → ℕ
+  badPlace h = elim (verdict (part doc (h .name) (h .name-length))) [
+    | bad k ↦ h .name + k
+    | good ↦ elim (verdict (part doc (h .start) (h .size))) [ bad k ↦ h .start + k | good ↦ 0 ]
+  ]
+
+  -- What a write of the table t answers: the number of bytes written; or the refusal where it was judged, but 4 at the character, with the
+  -- record beside it ([3]).
+  abbrev pub answerOf : List ℕ → Out (List ℕ) → Count
+  answerOf t (got bs) = counted (length bs)
+  answerOf t (no m n) = pick (eqb m badString) (failed m (badPlace (headOf t n)) n) (failed m n 0)
+
+-- How many bytes were written.
 abbrev pub lengthOf : Out (List ℕ) → Out ℕ
 lengthOf (got bs) = got (length bs)
 lengthOf (no n p) = no n p
@@ -56,13 +71,18 @@ abbrev pub outputAfter : Out (List ℕ) → List ℕ → List ℕ
 outputAfter (got bs) o = over o 0 bs
 outputAfter (no n p) o = o
 
--- The answer and the output are those of w.
+-- The answer and the output are those of w, whose refusals need nothing beside them.
 pub record Gives (w : Out (List ℕ)) (o : List ℕ) (answer : Out ℕ) (o′ : List ℕ) : Type 0 where
   pub answer-is : answer ≡ lengthOf w
   pub output-is : o′ ≡ outputAfter w o
 
+-- The answer and the output of a write of the table t are those of w.
+pub record WriteGives (doc t : List ℕ) (w : Out (List ℕ)) (o : List ℕ) (answer : Count) (o′ : List ℕ) : Type 0 where
+  pub answer-is : answer ≡ answerOf doc t w
+  pub output-is : o′ ≡ outputAfter w o
+
 -- The promise of a write: a limit first (9), then whether the words form a table (10), then what its records give.
-pub record WriteIs (doc t o : List ℕ) (answer : Out ℕ) (o′ : List ℕ) : Type 0 where
-  pub large : (Within (length doc) t → ⊥) → Gives (no overLimit 0) o answer o′
-  pub unfit : Within (length doc) t → (IsTable (length doc) t → ⊥) → Gives (no noTable 0) o answer o′
-  pub fit : Within (length doc) t → (i : IsTable (length doc) t) → Gives (written doc (i .head) (i .inner) (length o)) o answer o′
+pub record WriteIs (doc t o : List ℕ) (answer : Count) (o′ : List ℕ) : Type 0 where
+  pub large : (Within (length doc) t → ⊥) → WriteGives doc t (no overLimit 0) o answer o′
+  pub unfit : Within (length doc) t → (IsTable (length doc) t → ⊥) → WriteGives doc t (no noTable 0) o answer o′
+  pub fit : Within (length doc) t → (i : IsTable (length doc) t) → WriteGives doc t (written doc (i .head) (i .inner) (length o)) o answer o′

@@ -7,6 +7,7 @@ ghost use Rattle.form.specs.Table.{widthOf};
 ghost use Rattle.form.specs.Reading.{numberAt, bytesAt, stringAt, arrayAt, leafAt, listHeadAt, entryAt};
 ghost use Rattle.nbt_fields.specs.Answers.{numOut, partOut, listHeadOut, entryOut, HeadIs};
 use form::kinds;
+use mutf8::Checked;
 
 // A number that was read, or the place where the data ends before it.
 enum Num {
@@ -86,7 +87,8 @@ fn bytes_at(doc: &[u8], n: usize, count: usize, at: usize) -> Part
     }
 }
 
-// A string: its length, its content (1), which is well formed (4).
+// A string: its length, its content (1), which can be read to its end (4); where not, the place is that of the character (02, [3]). One sum
+// serves the test and the span: with a difference more, entry_at is too large to be compiled into its callers.
 pub fn string_at(doc: &[u8], at: usize) -> Part
     requires { ⌜ at ≤ length (now doc) ⌝ }
     ensures { λ r. ⌜ partOut r ≡ stringAt (now (doc .entry)) at ⌝ }
@@ -98,24 +100,24 @@ pub fn string_at(doc: &[u8], at: usize) -> Part
         },
         Num::Is(n) => {
             let start = at + 2;
-            if doc.len() - start < n {
+            let end = start + n;
+            if doc.len() < end {
                 return Part::No {
                     number: form::DATA_ENDS,
                     place: start,
                 };
             }
-            let end = start + n;
-            if !mutf8::is_well_formed(&doc[start..end]) {
-                return Part::No {
+            match mutf8::check(&doc[start..end]) {
+                Checked::Good => Part::Is {
+                    start,
+                    len: n,
+                    count: 0,
+                    next: end,
+                },
+                Checked::Bad(k) => Part::No {
                     number: form::BAD_STRING,
-                    place: start,
-                };
-            }
-            Part::Is {
-                start,
-                len: n,
-                count: 0,
-                next: end,
+                    place: start + k,
+                },
             }
         }
     }

@@ -10,7 +10,7 @@ use lib.ListN.{length, length-append}
 use lib.Dec.{eqb}
 use Rattle.form.specs.Answer.{Out, got, no, _>>_}
 use Rattle.form.specs.Spans.{part}
-use Rattle.form.specs.Table.{Head, Forest, none, node, size, _⊕_, word, holds}
+use Rattle.form.specs.Table.{Head, Forest, none, node, size, _⊕_, word, holds, headOf}
 use Rattle.form.specs.Tables.{Within}
 use Rattle.form.specs.Reading.{hasName}
 use Rattle.form.specs.Writing.{judged}
@@ -18,7 +18,7 @@ use Rattle.form.proofs.Leaves.{held-kind}
 use Rattle.nbt_siblings.specs.declared.Repeat.{Repeat}
 use Rattle.nbt_siblings.specs.Forests.{repeatIn}
 use Rattle.nbt_judging.specs.declared.Size.{Size}
-use Rattle.nbt_judging.specs.Pieces.{headOf, isAt, firstTwice, ownFine, oneJudged, laid, ownSize}
+use Rattle.nbt_judging.specs.Pieces.{isAt, firstTwice, ownFine, oneJudged, laid, ownSize}
 use Rattle.nbt_judging.specs.Steps.{Rows, Some, One, Sized, JudgedIs}
 use Rattle.nbt_judging.proofs.Pieces.{judged-none, judged-node, one-no, one-inner, one-leaf, one-own, own-once, own-depth, repeat-here, repeat-later, twice-entries, twice-elements}
 use Rattle.nbt_judging.proofs.Bytes.{laid-none, laid-node, laid-append, own-bound, size-leaf, size-held}

@@ -12,25 +12,11 @@ use Rattle.form.specs.Spans.{part}
 use Rattle.form.specs.Table.{Head, Forest, none, node, size, _⊕_, holds}
 use Rattle.form.specs.Reading.{hasName}
 use Rattle.form.specs.Writing.{stringFine, payloadFine, judged}
-use Rattle.form.specs.Records.{Stands}
 use Rattle.form.proofs.Answer.{got-no}
 use Rattle.nbt_siblings.specs.declared.Repeat.{Repeat}
 use Rattle.nbt_siblings.specs.Names.{firstRepeat}
 use Rattle.nbt_siblings.specs.Forests.{repeatIn}
-use Rattle.nbt_judging.specs.Pieces.{headOf, deep, mixed, isAt, firstTwice, restFine, ownFine, oneJudged}
-
--- The words of a record that stands in a table are its head's.
-pub head-of : (t : List ℕ) (n : ℕ) (h : Head) (e : ℕ) → Stands t n h e → headOf t n ≡ h
-head-of t n h e s =
-    λ i. record {
-      kind = s .kind i;
-      name = s .name i;
-      name-length = s .name-length i;
-      start = s .start i;
-      size = s .size i;
-      count = s .count i;
-      list-kind = s .list-kind i;
-    }
+use Rattle.nbt_judging.specs.Pieces.{deep, mixed, isAt, firstTwice, restFine, ownFine, oneJudged}
 
 -- ---- one record
 

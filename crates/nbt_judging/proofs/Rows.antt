@@ -10,11 +10,11 @@ use lib.ListN.{length, take, drop}
 use lib.Seq.{take-append-seam}
 use lib.Dec.{eqb}
 use Rattle.form.specs.Spans.{part, over}
-use Rattle.form.specs.Table.{Head, Forest, none, node, size, _⊕_, word, flat, wrote, holds}
+use Rattle.form.specs.Table.{Head, Forest, none, node, size, _⊕_, word, flat, wrote, holds, headOf}
 use Rattle.form.specs.Tables.{Fair, LeafIs, ContainerIs, Within, leafFits}
 use Rattle.form.specs.Records.{Stands}
 use Rattle.form.proofs.Table.{flat-length, append-none, append-append}
-use Rattle.form.proofs.Tables.{under-alone, under-later, under-inner, sits-first, sits-inner, sits-later, sits-alone, sits-words, fair-name, fair-first, fair-inner, fair-later, fair-alone}
+use Rattle.form.proofs.Tables.{head-of, under-alone, under-later, under-inner, sits-first, sits-inner, sits-later, sits-alone, sits-words, fair-name, fair-first, fair-inner, fair-later, fair-alone}
 use Rattle.form.proofs.Leaves.{fits-held}
 use Rattle.form.proofs.Places.{over-part}
 use Rattle.nbt_siblings.specs.Holding.{NamesIn, Holds}
@@ -22,9 +22,7 @@ use Rattle.nbt_siblings.specs.Forests.{spare, Free, repeatIn}
 use Rattle.nbt_siblings.specs.Names.{firstRepeat}
 use Rattle.nbt_siblings.specs.Lists.{Family}
 use Rattle.nbt_siblings.proofs.Forests.{family-of, repeat-of}
-use Rattle.nbt_judging.specs.Pieces.{headOf}
 use Rattle.nbt_judging.specs.Steps.{Placed, Rows, One}
-use Rattle.nbt_judging.proofs.Pieces.{head-of}
 
 -- ---- the first of some records
 

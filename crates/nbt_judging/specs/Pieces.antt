@@ -8,22 +8,10 @@ use lib.Dec.{ltb, eqb}
 use Rattle.form.specs.Answer.{Out, guard, _>>_, nameTwice, tooDeep, mixedList}
 use Rattle.form.specs.Numbers.{bytesOf}
 use Rattle.form.specs.Spans.{part}
-use Rattle.form.specs.Table.{Head, Forest, none, node, word, holds}
+use Rattle.form.specs.Table.{Head, Forest, none, node, holds}
 use Rattle.form.specs.Writing.{stringFine, payloadFine, judged}
 use Rattle.nbt_siblings.specs.declared.Repeat.{Repeat}
 use Rattle.nbt_siblings.specs.Names.{firstRepeat}
-
--- The words of record n but the last.
-abbrev pub headOf : List ℕ → ℕ → Head
-headOf t n = record {
-  kind = word t n 0;
-  name = word t n 1;
-  name-length = word t n 2;
-  start = word t n 3;
-  size = word t n 4;
-  count = word t n 5;
-  list-kind = word t n 6;
-}
 
 -- ---- what is asked of a record
 

@@ -9,14 +9,15 @@ use lib.ListN.{length, take, drop, replicate, length-replicate}
 use lib.Seq.{take-append-seam}
 use lib.Dec.{leb}
 use borrow.Author.Tests.{leb-true, leb-false}
-use Rattle.form.specs.Answer.{Out, got, no, pick, outputFull}
+use Rattle.form.specs.Answer.{Out, got, no, pick, Count, counted, failed as refusal, outputFull}
 use Rattle.form.specs.Spans.{over}
 use Rattle.form.specs.Layout.{layout}
 use Rattle.form.specs.Table.{flat, wrote, valueOf}
 use Rattle.form.specs.Reading.{One, Counts, countsOf, roomOf, documentAt, reading, stringAt, tableAfter, ReadIs}
-use Rattle.form.specs.Writing.{written, Gives, WriteIs}
+use Rattle.form.specs.Writing.{written, WriteGives, WriteIs}
 use Rattle.form.specs.Cut.{Kept, Rescue, Sizes, saved, refused, sizes, failed, keptOf, documentOf, lineWords, rescued, rescuing, sizesOf, bytesAfter, linesAfter, RescueIs}
 use Rattle.form.proofs.Answer.{got-no}
+use Rattle.form.proofs.Outcomes.{counted-failed}
 use Rattle.form.proofs.Table.{flat-length, wrote-length}
 use Rattle.form.proofs.Payloads.{room-le}
 use Rattle.form.proofs.Cut.{not-both, kept-is, rescued-accepted, rescued-other, rescued-root, rescued-short, rescued-full, rescued-saved}
@@ -35,17 +36,18 @@ table-laid : (doc : List ℕ) (room : ℕ) (k : Kept) (w : Whole doc room k) →
 table-laid doc room k w = (λ i. layout (valueOf doc (w .table-head i) (w .table-inner i))) ∙ ap (λ f. layout (documentOf doc f)) (sym (w .is))
 
 -- The writer, given the words of the records kept, gives the layout of the document that they stand for, or 13.
-pub laid-is : (doc t w w′ o o′ : List ℕ) (records : ℕ) (answer : Out ℕ) → Bytes doc → GatheredIn doc t records → w ≡ take (9 * records) t
+pub laid-is : (doc t w w′ o o′ : List ℕ) (records : ℕ) (answer : Count) → Bytes doc → GatheredIn doc t records → w ≡ take (9 * records) t
     → WroteIs doc w w′ o answer o′ → LaidIs doc t o answer o′
 laid-is doc t w w′ o o′ records answer bytes g e h k is =
     let same : g .k ≡ k = cc (g .is, is) in
     let few = room-le (length t) in
     let whole = rescued-lawful doc bytes (roomOf (length t)) k few is in
-    let words = e ∙ g .words-are ∙ ap (λ (k : Kept). flat 0 0 (k .forest)) same ∙ ap (flat 0 0) (whole .is) in
+    let tree = ap (flat 0 0) (whole .is) in
+    let words = e ∙ g .words-are ∙ ap (λ (k : Kept). flat 0 0 (k .forest)) same ∙ tree in
     let gives = subst (λ u. WriteIs doc u o answer o′) words (h .is) .fit (whole .small) (whole .table) in
-    subst (λ v. Gives v o answer o′)
+    subst (λ v. WriteGives doc (flat 0 0 (k .forest)) v o answer o′)
     ((λ i. written doc (whole .table-head i) (whole .table-inner i) (length o)) ∙ rescued-written doc bytes (roomOf (length t)) k few is whole (length o))
-    gives
+    (subst (λ u. WriteGives doc u (written doc (whole .table .head) (whole .table .inner) (length o)) o answer o′) (sym tree) gives)
 
 -- They form a table that has room, where the output has a byte for each of the document and of the lines.
 pub roomy-fits : (doc t w o : List ℕ) (records : ℕ) → Bytes doc → Roomy doc t records o → w ≡ take (9 * records) t → Fits doc w o
@@ -127,25 +129,25 @@ pub read-again : (doc t u : List ℕ) {p : ℕ} → length u ≡ length t → re
 read-again doc t u s e = ap (λ n. documentAt doc (roomOf n)) s ∙ e
 
 -- What the layout leaves, by whether there is room: 13, with nothing changed, or the bytes.
-laid-refused : (bs o o′ : List ℕ) (b : Bool) (m p : ℕ) → leb (length bs) (length o) ≡ b → Gives (pick b (got bs) (no outputFull 0)) o (no m p) o′
+laid-refused : (doc w bs o o′ : List ℕ) (b : Bool) (m p r : ℕ) → leb (length bs) (length o) ≡ b → WriteGives doc w (pick b (got bs) (no outputFull 0)) o (refusal m p r) o′
     → (length o < length bs) × (m ≡ 13) × (p ≡ 0) × (o′ ≡ o)
-laid-refused bs o o′ true m p e g = absurd (got-no (sym (g .answer-is)))
-laid-refused bs o o′ false m p e g =
+laid-refused doc w bs o o′ true m p r e g = absurd (counted-failed (sym (g .answer-is)))
+laid-refused doc w bs o o′ false m p r e g =
     let f : m ≡ 13 = cc (g .answer-is) in
     let h : p ≡ 0 = cc (g .answer-is) in
     (leb-false (length bs) (length o) e, f, h, g .output-is)
 
-laid-saved : (bs o o′ : List ℕ) (b : Bool) (n : ℕ) → leb (length bs) (length o) ≡ b → Gives (pick b (got bs) (no outputFull 0)) o (got n) o′
+laid-saved : (doc w bs o o′ : List ℕ) (b : Bool) (n : ℕ) → leb (length bs) (length o) ≡ b → WriteGives doc w (pick b (got bs) (no outputFull 0)) o (counted n) o′
     → (length bs ≤ length o) × (n ≡ length bs) × (o′ ≡ over o 0 bs)
-laid-saved bs o o′ true n e g =
+laid-saved doc w bs o o′ true n e g =
     let f : n ≡ length bs = cc (g .answer-is) in
     (leb-true (length bs) (length o) e, f, g .output-is)
-laid-saved bs o o′ false n e g = absurd (got-no (g .answer-is))
+laid-saved doc w bs o o′ false n e g = absurd (counted-failed (g .answer-is))
 
 -- ---- where the output is short
 
 -- n lines are kept, and the list has room for them; the layout has been asked for.
-module _ (doc t o c : List ℕ) (records n : ℕ) (g : TightAsked doc t records n c) (o′ : List ℕ) (answer : Out ℕ) (laid : LaidIs doc t o answer o′) where
+module _ (doc t o c : List ℕ) (records n : ℕ) (g : TightAsked doc t records n c) (o′ : List ℕ) (answer : Count) (laid : LaidIs doc t o answer o′) where
   abbrev k : Kept
   k = g .gathered .k
 
@@ -155,24 +157,24 @@ module _ (doc t o c : List ℕ) (records n : ℕ) (g : TightAsked doc t records 
   abbrev bytes : List ℕ
   bytes = layout (documentOf doc (k .forest))
 
-  gives : (a : Out ℕ) → answer ≡ a → Gives (pick (leb (length bytes) (length o)) (got bytes) (no outputFull 0)) o a o′
-  gives a f = subst (λ a. Gives (pick (leb (length bytes) (length o)) (got bytes) (no outputFull 0)) o a o′) f (laid k is)
+  gives : (a : Count) → answer ≡ a → WriteGives doc (flat 0 0 (k .forest)) (pick (leb (length bytes) (length o)) (got bytes) (no outputFull 0)) o a o′
+  gives a f = subst (λ a. WriteGives doc (flat 0 0 (k .forest)) (pick (leb (length bytes) (length o)) (got bytes) (no outputFull 0)) o a o′) f (laid k is)
 
   room : length (k .lines) ≤ length c / 3
   room = omega (arith, g .many, g .room)
 
   -- 13: the output is too short.
-  pub tight-full : (m p : ℕ) → answer ≡ no m p → CutIs doc t o c (failed m p 0) o′ c
-  tight-full m p a =
-      let h = laid-refused bytes o o′ (leb (length bytes) (length o)) m p refl (gives (no m p) a) in
+  pub tight-full : (m p r : ℕ) → answer ≡ refusal m p r → CutIs doc t o c (failed m p 0) o′ c
+  tight-full m p r a =
+      let h = laid-refused doc _ bytes o o′ (leb (length bytes) (length o)) m p r refl (gives (refusal m p r) a) in
       cut-by doc t o c (failed m p 0) o′ c (refused 13 0 0) (rescued-full doc (roomOf (length t)) (length c / 3) (length o) is room (h .0))
       (λ i. failed (h .1 i) (h .2 i) 0) (h .3) refl
 
   -- The document, and its lines when they are gathered once more.
-  pub tight-saved : (z : ℕ) → answer ≡ got z → (u u′ c′ : List ℕ) → length u ≡ length t → (r : Gathered) → GatheredIs doc u u′ c c′ (length c / 3) r
+  pub tight-saved : (z : ℕ) → answer ≡ counted z → (u u′ c′ : List ℕ) → length u ≡ length t → (r : Gathered) → GatheredIs doc u u′ c c′ (length c / 3) r
       → CutIs doc t o c (sizes z n) o′ c′
   tight-saved z a u u′ c′ s r again =
-      let h = laid-saved bytes o o′ (leb (length bytes) (length o)) z refl (gives (got z) a) in
+      let h = laid-saved doc _ bytes o o′ (leb (length bytes) (length o)) z refl (gives (counted z) a) in
       let put = listed-again doc u u′ c c′ k (ap (λ n. keptOf doc (roomOf n)) s ∙ is) (length c / 3) room r again in
       cut-by doc t o c (sizes z n) o′ c′ (saved bytes (k .lines)) (rescued-saved doc (roomOf (length t)) (length c / 3) (length o) is room (h .0))
       (λ i. sizes (h .1 i) (g .many i)) (h .2) put

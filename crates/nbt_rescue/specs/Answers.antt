@@ -5,11 +5,11 @@ use mathlib.Core.Path.{_≡_}
 use mathlib.Core.List.{List}
 use lib.ListN.{length, take}
 use lib.Dec.{leb}
-use Rattle.form.specs.Answer.{Out, got, no, pick, outputFull}
+use Rattle.form.specs.Answer.{got, no, pick, Count, outputFull}
 use Rattle.form.specs.Spans.{over}
 use Rattle.form.specs.Layout.{layout}
 use Rattle.form.specs.Table.{flat}
-use Rattle.form.specs.Writing.{Gives}
+use Rattle.form.specs.Writing.{WriteGives}
 use Rattle.form.specs.Reading.{roomOf, reading}
 use Rattle.form.specs.Cut.{Kept, Sizes, sizes, failed, keptOf, documentOf, rescuing, sizesOf, bytesAfter, linesAfter}
 use Rattle.nbt_gather.specs.Steps.{IsCut}
@@ -28,10 +28,10 @@ pub record GatheredIn (doc t : List ℕ) (records : ℕ) : Type 0 where
   pub fits : 9 * records ≤ length t
 
 -- The layout of what is kept, where there is room for it (13), and the output with it.
-abbrev pub LaidIs : List ℕ → List ℕ → List ℕ → Out ℕ → List ℕ → Type 0
+abbrev pub LaidIs : List ℕ → List ℕ → List ℕ → Count → List ℕ → Type 0
 LaidIs doc t o answer o′ =
     (k : Kept) → keptOf doc (roomOf (length t)) ≡ got k
-    → Gives (pick (leb (length (layout (documentOf doc (k .forest)))) (length o)) (got (layout (documentOf doc (k .forest)))) (no outputFull 0)) o answer o′
+    → WriteGives doc (flat 0 0 (k .forest)) (pick (leb (length (layout (documentOf doc (k .forest)))) (length o)) (got (layout (documentOf doc (k .forest)))) (no outputFull 0)) o answer o′
 
 -- The records are gathered, and the output has room for the cut document and a byte for each line.
 pub record Roomy (doc t : List ℕ) (records : ℕ) (o : List ℕ) : Type 0 where

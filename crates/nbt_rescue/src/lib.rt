@@ -67,7 +67,11 @@ fn tight(
     ensures { λ r. ⌜ CutIs (now (doc .entry)) (now (table .entry)) (now (out .entry)) (now (changes .entry)) (rescueOut r) (now (out .exit)) (now (changes .exit)) ⌝ }
 {
     match lay(doc, table, records, out) {
-        nbt_writer::Answer::Refused { number, place } => Answer::Refused {
+        nbt_writer::Answer::Refused {
+            number,
+            place,
+            record: _,
+        } => Answer::Refused {
             number,
             place,
             count: 0,

@@ -7,19 +7,21 @@ use mathlib.Core.Path.{_≡_, refl, sym, ap, subst, _∙_}
 use native.Mathlib.Omega.{arith}
 use borrow.Author.Tests.{le-leb, lt-leb}
 use lib.ListN.{length, getD}
-use Rattle.form.specs.Answer.{got, no, overLimit, noTable, outputFull, depthLimit}
+use Rattle.form.specs.Answer.{Out, got, no, Count, counted, failed, overLimit, noTable, outputFull, depthLimit}
 use Rattle.form.specs.Spans.{over}
 use Rattle.form.specs.Table.{none, node, size, word, valueOf}
 use Rattle.form.specs.Tables.{IsTable, Within}
 use Rattle.form.specs.Layout.{layout}
-use Rattle.form.specs.Writing.{judged, written, Gives}
-use Rattle.form.proofs.Tables.{table-sits, table-under, table-length, sits-first, one-tree}
+use Rattle.form.specs.Writing.{judged, written, answerOf, WriteGives}
+use Rattle.form.proofs.Tables.{table-sits, table-under, table-length, sits-first, one-tree, record-at}
+use Rattle.form.proofs.Writing.{judged-only, only-no}
 use Rattle.table.specs.declared.Verdict.{Verdict}
 use Rattle.table.specs.Check.{VerdictIs}
 use Rattle.nbt_writer.specs.declared.Answer.{Answer}
 use Rattle.nbt_judging.specs.declared.Size.{Size}
 use Rattle.nbt_judging.specs.Pieces.{laid}
-use Rattle.nbt_judging.specs.Steps.{Rows, Some, Sized}
+use Rattle.nbt_judging.specs.Steps.{Placed, Rows, Some, Sized}
+use Rattle.nbt_judging.proofs.Rows.{rows-placed}
 use Rattle.nbt_writer.specs.Steps.{answerOut, SomeRoom, Puts, Formed, Fits, WrittenIs, WroteIs}
 use Rattle.nbt_writer.proofs.Laid.{document-laid}
 
@@ -50,8 +52,25 @@ module _ (doc t : List ℕ) (small : Within (length doc) t) (i : IsTable (length
 
   module _ (o : List ℕ) {e : ℕ} (q : e ≡ word t 0 7) (r : Size)
       (told : (p : Some doc t false 0 e) → Sized (judged doc depthLimit false 0 none 0 (p .forest)) (laid doc false (p .forest)) r) where
+    -- A record that is refused is one of the table's, so that the code may read its words and its spans.
+    pub table-placed : {m p : ℕ} → r ≡ Size.No m p → {t′ : List ℕ} → t′ ≡ t → Placed doc t′ p
+    unfolding size
+    table-placed {m} {p} g same =
+        let z : judged doc depthLimit false 0 none 0 (node (i .head) (i .inner) none) ≡ no m p = rw g at (told (root refl q)) in
+        let b = only-no _ (judged-only doc t depthLimit false 0 none 0 (node (i .head) (i .inner) none) (table-sits (length doc) t i)) z in
+        let x = record-at (length doc) t i p (omega (arith, b .before)) in
+        let rows : Rows doc t (x .element) p (p + 1 + size (x .inner)) (node (x .head) (x .inner) none) = record {
+          sits = x .sits;
+          parent = x .parent;
+          under = x .under;
+          fair = x .fair;
+          to = omega arith;
+          fits = omega (arith, x .within, table-length (length doc) t i);
+        } in
+        rw same (rows-placed doc t (x .element) p (p + 1 + size (x .inner)) (x .head) (x .inner) rows)
+
     -- A record is refused.
-    pub table-no : {m p : ℕ} → r ≡ Size.No m p → Gives (written doc (i .head) (i .inner) (length o)) o (no m p) o
+    pub table-no : {m p : ℕ} → r ≡ Size.No m p → WriteGives doc t (written doc (i .head) (i .inner) (length o)) o (answerOf doc t (no m p)) o
     unfolding written
     table-no {m} {p} g =
         let z : judged doc depthLimit false 0 none 0 (node (i .head) (i .inner) none) ≡ no m p = rw g at (told (root refl q)) in
@@ -77,7 +96,7 @@ module _ (doc t : List ℕ) (small : Within (length doc) t) (i : IsTable (length
         long = ap length (sym laid-is) ∙ sym (passes .1)
 
         -- There is no room (13).
-        pub table-full : length o < s → Gives (written doc (i .head) (i .inner) (length o)) o (no outputFull 0) o
+        pub table-full : length o < s → WriteGives doc t (written doc (i .head) (i .inner) (length o)) o (failed outputFull 0 0) o
         unfolding written
         table-full l =
             let w : written doc (i .head) (i .inner) (length o) ≡ no outputFull 0 =
@@ -87,12 +106,17 @@ module _ (doc t : List ℕ) (small : Within (length doc) t) (i : IsTable (length
         -- It is written.
         pub table-done : {t′ : List ℕ} → t′ ≡ t → s ≤ length o → {o′ : List ℕ} {x : ℕ}
             → ((p : SomeRoom doc t′ false 0 e o 0) → Puts (laid doc false (p .some .forest)) o 0 o′ x)
-            → Gives (written doc (i .head) (i .inner) (length o)) o (got s) o′
+            → WriteGives doc t (written doc (i .head) (i .inner) (length o)) o (counted s) o′
         unfolding written table-room
         table-done same l put =
             let w : written doc (i .head) (i .inner) (length o) ≡ got (layout (valueOf doc (i .head) (i .inner))) =
             rw (passes .0, le-leb (length (layout (valueOf doc (i .head) (i .inner)))) (length o) (omega (arith, long))) refl in
-            rw w (record { answer-is = ap got (sym long); output-is = put (table-room same l) .is ∙ ap (over o 0) laid-is })
+            rw w (record { answer-is = ap counted (sym long); output-is = put (table-room same l) .is ∙ ap (over o 0) laid-is })
+
+-- The answer to a refusal is the one that is due, of the table as it comes back.
+pub refused-gives : (doc t : List ℕ) (m p : ℕ) {w : Out (List ℕ)} {o : List ℕ} {a : Count} {t′ : List ℕ} → WriteGives doc t w o (answerOf doc t (no m p)) o → t′ ≡ t
+    → a ≡ answerOf doc t′ (no m p) → WriteGives doc t w o a o
+refused-gives doc t m p g same e = record { answer-is = e ∙ ap (λ x. answerOf doc x (no m p)) same ∙ g .answer-is; output-is = g .output-is }
 
 -- ---- where there is room for certain
 
@@ -125,7 +149,7 @@ module _ (doc t : List ℕ) {r : Verdict} (v : VerdictIs (length doc) t r) where
 
   module _ (o : List ℕ) where
     -- A limit is passed (9).
-    pub write-large : r ≡ Verdict.OverLimit → WroteIs doc t t o (no overLimit 0) o
+    pub write-large : r ≡ Verdict.OverLimit → WroteIs doc t t o (failed overLimit 0 0) o
     write-large e =
         let h : Within (length doc) t → ⊥ = rw e at v in
         record {
@@ -134,7 +158,7 @@ module _ (doc t : List ℕ) {r : Verdict} (v : VerdictIs (length doc) t r) where
         }
 
     -- The words form no table (10).
-    pub write-unfit : r ≡ Verdict.NoTable → WroteIs doc t t o (no noTable 0) o
+    pub write-unfit : r ≡ Verdict.NoTable → WroteIs doc t t o (failed noTable 0 0) o
     write-unfit e =
         let h : Within (length doc) t × (IsTable (length doc) t → ⊥) = rw e at v in
         record {

@@ -10,10 +10,10 @@ use lib.ListN.{length, length-append}
 use lib.Dec.{eqb}
 use Rattle.form.specs.Numbers.{bytesOf}
 use Rattle.form.specs.Spans.{over}
-use Rattle.form.specs.Table.{Head, Forest, none, node, _⊕_, word}
+use Rattle.form.specs.Table.{Head, Forest, none, node, _⊕_, word, headOf}
 use Rattle.form.specs.Tables.{Within}
 use Rattle.form.proofs.Digits.{digits-length as bytes-length}
-use Rattle.nbt_judging.specs.Pieces.{headOf, nameBytes, listBytes, leafBytes, bodyBytes, laid}
+use Rattle.nbt_judging.specs.Pieces.{nameBytes, listBytes, leafBytes, bodyBytes, laid}
 use Rattle.nbt_judging.specs.Steps.{Rows}
 use Rattle.nbt_writer.specs.Steps.{SomeRoom, OneRoom, Puts}
 use Rattle.nbt_writer.proofs.Puts.{puts-none, puts-number, puts-length, puts-then}

@@ -5,20 +5,20 @@ use mathlib.Core.Path.{_≡_}
 use mathlib.Core.List.{List}
 use mathlib.Core.Bool.{Bool}
 use lib.ListN.{length}
-use Rattle.form.specs.Answer.{Out, got, no}
+use Rattle.form.specs.Answer.{Count, counted, failed}
 use Rattle.form.specs.Spans.{over}
 use Rattle.form.specs.Layout.{layout}
 use Rattle.form.specs.Table.{none, node, valueOf}
 use Rattle.form.specs.Tables.{Within, IsTable}
-use Rattle.form.specs.Writing.{Gives, written, WriteIs}
+use Rattle.form.specs.Writing.{WriteGives, written, WriteIs}
 use Rattle.nbt_judging.specs.Pieces.{laid}
 use Rattle.nbt_judging.specs.Steps.{Some, One}
 use Rattle.nbt_writer.specs.declared.Answer.{Answer}
 
 -- 01's number and values for each case of the public answer
-abbrev pub answerOut : Answer → Out ℕ
-answerOut (Answer.Written n) = got n
-answerOut (Answer.Refused n p) = no n p
+abbrev pub answerOut : Answer → Count
+answerOut (Answer.Written n) = counted n
+answerOut (Answer.Refused n p r) = failed n p r
 
 -- there is room for the bytes of records at `at`
 pub record SomeRoom (doc t : List ℕ) (list : Bool) (n end : ℕ) (out : List ℕ) (at : ℕ) : Type 0 where
@@ -61,9 +61,9 @@ PutIs doc t out out′ r = (i : IsTable (length doc) t) → Puts (layout (valueO
 
 -- what a table gives
 abbrev pub WrittenIs : List ℕ → List ℕ → List ℕ → Answer → List ℕ → Type 0
-WrittenIs doc t o r o′ = (i : IsTable (length doc) t) → Gives (written doc (i .head) (i .inner) (length o)) o (answerOut r) o′
+WrittenIs doc t o r o′ = (i : IsTable (length doc) t) → WriteGives doc t (written doc (i .head) (i .inner) (length o)) o (answerOut r) o′
 
 -- the promise of a write: the answer and every byte of the output, and the table as it was
-pub record WroteIs (doc t t′ o : List ℕ) (answer : Out ℕ) (o′ : List ℕ) : Type 0 where
+pub record WroteIs (doc t t′ o : List ℕ) (answer : Count) (o′ : List ℕ) : Type 0 where
   pub is : WriteIs doc t o answer o′
   pub kept : t′ ≡ t

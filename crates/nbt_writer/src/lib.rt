@@ -3,17 +3,30 @@
 ghost use mathlib.Core.Path.{_≡_};
 ghost use Prim.Native.Nat.{_+_, _*_, _≤_};
 ghost use lib.ListN.{length};
-ghost use Rattle.nbt_judging.specs.Pieces.{headOf, nameBytes, lengthBytes, leafBytes, listBytes};
+ghost use Rattle.form.specs.Answer.{no};
+ghost use Rattle.form.specs.Spans.{part};
+ghost use Rattle.form.specs.Decoding.{verdict};
+ghost use Rattle.form.specs.Writing.{badPlace, answerOf};
+ghost use Rattle.mutf8.specs.Answers.{verdictOf};
+ghost use Rattle.form.specs.Table.{headOf};
+ghost use Rattle.nbt_judging.specs.Pieces.{nameBytes, lengthBytes, leafBytes, listBytes};
 ghost use Rattle.nbt_judging.specs.Steps.{Placed};
 ghost use Rattle.nbt_writer.specs.Steps.{answerOut, SomeRoom, OneRoom, Puts, PutAllIs, PutOneIs, Formed, WrittenIs, WroteIs, Fits, PutIs};
+use mutf8::Checked;
 use nbt_judging::Size;
 use table::Verdict;
 use table::kinds;
 
-// The answer to a write: the number of bytes written, or the number and the place of the refusal.
+// The answer to a write: the number of bytes written; or the number and the place of the refusal, and the record in 4 (02, [3]), else 0.
 pub enum Answer {
-    Written { bytes: usize },
-    Refused { number: u8, place: usize },
+    Written {
+        bytes: usize,
+    },
+    Refused {
+        number: u8,
+        place: usize,
+        record: usize,
+    },
 }
 
 // What stands before a payload, and the place after it: an entry's id and name (rule 3), nothing of an element of a list.
@@ -130,6 +143,52 @@ pub fn put(doc: &[u8], table: &[u32], out: &mut [u8]) -> usize
     put_all(doc, table, 0, end, false, out, 0)
 }
 
+// Whether a span of the document is well formed, or where not.
+fn checked(doc: &[u8], start: usize, size: usize) -> Checked
+    requires { ⌜ start + size ≤ length (now doc) ⌝ }
+    ensures { λ r. ⌜ verdictOf r ≡ verdict (part (now (doc .entry)) start size) ⌝ }
+{
+    let end = start + size;
+    mutf8::check(&doc[start..end])
+}
+
+// Where in the document the first sequence that can't be read begins, of record n's name or else of its payload (02, [3]).
+fn bad_place(doc: &[u8], table: &[u32], n: usize) -> usize
+    requires { ⌜ Placed (now doc) (now table) n ⌝ }
+    ensures { λ r. ⌜ r ≡ badPlace (now (doc .entry)) (headOf (now (table .entry)) n) ⌝ }
+{
+    let name = table::word(table, n, table::NAME);
+    match checked(doc, name, table::word(table, n, table::NAME_LENGTH)) {
+        Checked::Bad(k) => name + k,
+        Checked::Good => {
+            let start = table::word(table, n, table::START);
+            match checked(doc, start, table::word(table, n, table::LENGTH)) {
+                Checked::Bad(k) => start + k,
+                Checked::Good => 0,
+            }
+        }
+    }
+}
+
+// The refusal of record n: 4 at the character, with the record beside it (02, [3]); any other at the record.
+fn refused(doc: &[u8], table: &[u32], number: u8, n: usize) -> Answer
+    requires { ⌜ Placed (now doc) (now table) n ⌝ }
+    ensures { λ r. ⌜ answerOut r ≡ answerOf (now (doc .entry)) (now (table .entry)) (no number n) ⌝ }
+{
+    if number == form::BAD_STRING {
+        return Answer::Refused {
+            number,
+            place: bad_place(doc, table, n),
+            record: n,
+        };
+    }
+    Answer::Refused {
+        number,
+        place: n,
+        record: 0,
+    }
+}
+
 // A table: its records are judged, then there is room (13), then they are written. The root is taken as records side by side, of which
 // there is one, so that each walk has one loop in which small records are done with no call.
 fn written(doc: &[u8], table: &mut [u32], out: &mut [u8]) -> Answer
@@ -138,12 +197,13 @@ fn written(doc: &[u8], table: &mut [u32], out: &mut [u8]) -> Answer
 {
     let end = table::word(table, 0, table::END);
     match nbt_judging::judged(doc, table, 0, end, form::DEPTH, false, 0) {
-        Size::No { number, place } => Answer::Refused { number, place },
+        Size::No { number, place } => refused(doc, table, number, place),
         Size::Is(bytes) => {
             if out.len() < bytes {
                 return Answer::Refused {
                     number: form::OUTPUT_FULL,
                     place: 0,
+                    record: 0,
                 };
             }
             put_all(doc, table, 0, end, false, out, 0);
@@ -161,10 +221,12 @@ pub fn write(doc: &[u8], table: &mut [u32], out: &mut [u8]) -> Answer
         Verdict::OverLimit => Answer::Refused {
             number: form::OVER_LIMIT,
             place: 0,
+            record: 0,
         },
         Verdict::NoTable => Answer::Refused {
             number: form::NO_TABLE,
             place: 0,
+            record: 0,
         },
         Verdict::Table => written(doc, table, out),
     }

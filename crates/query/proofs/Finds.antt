@@ -9,12 +9,12 @@ use lib.ListN.{length, set, length-set}
 use lib.Dec.{eqb}
 use lib.Seq.{sets}
 use borrow.Author.Tests.{lt-ltb, le-leb, lt-leb}
-use Rattle.form.specs.Answer.{got, no, tooDeep, badQuery, moreMatches, overLimit, noTable, depthLimit}
+use Rattle.form.specs.Answer.{got, no, tooDeep, badQuery, moreMatches, overLimit, noTable, depthLimit, Count, counted, failed}
 use Rattle.form.specs.Spans.{over}
 use Rattle.form.specs.Table.{Forest, none, node, valueOf}
 use Rattle.form.specs.Tables.{Fair, IsTable, Within}
 use Rattle.form.specs.Paths.{Step, fits, paths, matches}
-use Rattle.form.specs.Query.{spelt, shallow, asked, within, Count, counted, failed, Finds, QueryIs}
+use Rattle.form.specs.Query.{spelt, shallow, asked, within, Finds, QueryIs}
 use Rattle.form.proofs.Table.{sets-over, size-one}
 use Rattle.form.proofs.Tables.{table-sits, table-length, fair-inner}
 use Rattle.form.proofs.Paths.{paths-length, which-length, tree-paths}

@@ -1,7 +1,6 @@
 -- The answer to a query in the terms of rule 9's definitions: for each case of the enum its number, place and count.
 -- Assumes nothing.
-use Rattle.form.specs.Answer.{Out, got, no, tooDeep}
-use Rattle.form.specs.Query.{Count, counted, failed}
+use Rattle.form.specs.Answer.{Out, got, no, tooDeep, Count, counted, failed}
 use Rattle.query.specs.declared.Found.{Found}
 use Rattle.query.specs.declared.Depth.{Depth}
 

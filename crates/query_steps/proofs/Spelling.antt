@@ -13,6 +13,7 @@ use Rattle.form.specs.Numbers.{bigEndian}
 use Rattle.form.specs.Decoding.{wellFormed}
 use Rattle.form.specs.Reading.{numberAt, stringAt, countAt}
 use Rattle.form.specs.Query.{Spelt, blamed, stepBy, stepAt}
+use Rattle.form.proofs.Strings.{isGood-iff, isGood-not}
 use Rattle.form.proofs.Fields.{byte-got, number-got, number-no, string-no, string-cut, string-bad, string-got}
 use Rattle.query_steps.specs.Steps.{stepOf}
 use Rattle.query_steps.specs.Spelling.{wordsAt, bytesAt, Goes, Reads}
@@ -60,7 +61,7 @@ module _ (q : List ℕ) (at : ℕ) where
       pub name-bad : wellFormed (part q (at + 3) (bigEndian (part q (at + 1) 2))) ≡ false → Reads q at (blamed at (stepBy q 1 at)) Bad
       name-bad w =
           let z : at + 3 ≡ at + 1 + 2 = omega arith in
-          name-off (string-bad q (at + 1) (bigEndian (part q (at + 1) 2)) length-is (omega arith) (rw z at w))
+          name-off (string-bad q (at + 1) (bigEndian (part q (at + 1) 2)) length-is (omega arith) (isGood-not _ (rw z at w) .1))
 
       pub name-got : getD q at 0 ≡ 1 → wellFormed (part q (at + 3) (bigEndian (part q (at + 1) 2))) ≡ true → bigEndian (part q (at + 1) 2) < 65536
           → Reads q at (blamed at (stepBy q 1 at)) (Next (wordsOf 1 (at + 3) (bigEndian (part q (at + 1) 2))) (at + 3 + bigEndian (part q (at + 1) 2)))
@@ -68,7 +69,7 @@ module _ (q : List ℕ) (at : ℕ) where
       name-got b w small =
           let n = bigEndian (part q (at + 1) 2) in
           let z : at + 3 ≡ at + 1 + 2 = omega arith in
-          let s = string-got q (at + 1) n length-is (omega arith) (rw z at w) in
+          let s = string-got q (at + 1) n length-is (omega arith) (isGood-iff _ .0 (rw z at w)) in
           record {
             is = rw (s, z);
             goes = next-goes (wordsOf 1 (at + 3) n) (at + 3 + n) (record { words = rw b refl; place = rw b (omega arith); after = omega arith; near = omega arith; name = λ e. fits });

@@ -31,10 +31,15 @@ fn print_answer(answer: Answer) {
             io::write_all(1, b" written");
             lines::print_number(bytes);
         }
-        Answer::Refused { number, place } => {
+        Answer::Refused {
+            number,
+            place,
+            record,
+        } => {
             io::write_all(1, b" refused");
             lines::print_number(number as usize);
             lines::print_number(place);
+            lines::print_number(record);
         }
     }
     io::write_all(1, b" ");

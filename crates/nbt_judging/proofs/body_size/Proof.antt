@@ -3,8 +3,7 @@
 use borrow.Author.Needs.{needs}
 use native.Mathlib.Omega.{arith}
 use mathlib.Core.Path.{_∙_}
-use Rattle.form.specs.Table.{Head}
-use Rattle.nbt_judging.specs.Pieces.{headOf}
+use Rattle.form.specs.Table.{Head, headOf}
 use Rattle.nbt_judging.proofs.Bytes.{size-fixed, size-string, size-list, size-compound, size-array}
 use Rattle.nbt_judging.proofs.body_size.Statement.{statement}
 use Rattle.nbt_judging.proofs.body_size.Tie as tie

@@ -3,7 +3,7 @@
 use borrow.Author.Needs.{needs}
 use mathlib.Core.Path.{_≡_, sym, ap, _∙_}
 use Rattle.form.specs.Writing.{stringFine}
-use Rattle.nbt_judging.specs.Pieces.{headOf}
+use Rattle.form.specs.Table.{headOf}
 use Rattle.nbt_judging.specs.Steps.{fineOut}
 use Rattle.nbt_judging.proofs.Pieces.{own-name, own-twice, own-on}
 use Rattle.nbt_judging.proofs.own_fine.Statement.{statement}

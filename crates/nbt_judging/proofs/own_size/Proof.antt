@@ -3,8 +3,7 @@
 use borrow.Author.Needs.{needs}
 use native.Mathlib.Omega.{arith}
 use mathlib.Core.Path.{sym, _∙_}
-use Rattle.form.specs.Table.{Head}
-use Rattle.nbt_judging.specs.Pieces.{headOf}
+use Rattle.form.specs.Table.{Head, headOf}
 use Rattle.nbt_judging.proofs.Bytes.{own-element, own-entry, size-bound}
 use Rattle.nbt_judging.proofs.own_size.Statement.{statement}
 use Rattle.nbt_judging.proofs.own_size.Tie as tie

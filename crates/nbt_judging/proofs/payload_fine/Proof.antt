@@ -4,7 +4,7 @@ use borrow.Author.Needs.{needs}
 use mathlib.Core.Path.{sym, _∙_}
 use Rattle.form.specs.Writing.{stringFine}
 use Rattle.form.proofs.Writing.{payload-string, payload-other}
-use Rattle.nbt_judging.specs.Pieces.{headOf}
+use Rattle.form.specs.Table.{headOf}
 use Rattle.nbt_judging.proofs.payload_fine.Statement.{statement}
 use Rattle.nbt_judging.proofs.payload_fine.Tie as tie
 

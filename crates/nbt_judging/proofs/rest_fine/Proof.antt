@@ -2,7 +2,8 @@
 -- Assumes nothing.
 use borrow.Author.Needs.{needs}
 use mathlib.Core.Path.{_≡_, sym, ap, _∙_}
-use Rattle.nbt_judging.specs.Pieces.{headOf, deep, mixed}
+use Rattle.form.specs.Table.{headOf}
+use Rattle.nbt_judging.specs.Pieces.{deep, mixed}
 use Rattle.nbt_judging.proofs.Pieces.{rest-deep, rest-mixed, rest-on}
 use Rattle.nbt_judging.proofs.rest_fine.Statement.{statement}
 use Rattle.nbt_judging.proofs.rest_fine.Tie as tie

@@ -16,7 +16,7 @@ start-of c = c .before .before
 
 -- What is told of the part that is judged is told of the span.
 told : (c : tie.After-is-well-formed) → let a = start-of (c .before .before) .args in wellFormed (part (a .doc .now) (a .start) (a .size)) ≡ c .is-well-formed .result
-told c = let a = start-of (c .before .before) .args in judged-part (a .doc .now) (a .start) (a .size) (sym (c .is-well-formed .ensures))
+told c = let a = start-of (c .before .before) .args in judged-part wellFormed (a .doc .now) (a .start) (a .size) (sym (c .is-well-formed .ensures))
 
 pub string-fine-spec : {M : Type 1} → statement M
 string-fine-spec =

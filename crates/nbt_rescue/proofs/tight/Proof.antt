@@ -32,7 +32,7 @@ returns c =
     let at-number = c .before in
     let at-lay = lay-of (at-number .before .before) in
     let start = start-of at-lay in
-    tight-full _ _ _ _ _ _ (start .pre) _ _ (at-lay .lay .ensures) _ _ (ap answerOut (at-number .number .given .1))
+    tight-full _ _ _ _ _ _ (start .pre) _ _ (at-lay .lay .ensures) _ _ _ (ap answerOut (at-number .number .given .1))
 
 -- The document is written, and the lines are put when all is gathered once more.
 returns-2 : tie.Need-returns-2

@@ -5,8 +5,8 @@ use native.Mathlib.Omega.{arith}
 use mathlib.Core.Path.{ap}
 use Prim.Native.Nat.{_+_, _≤_}
 use lib.ListN.{length}
-use Rattle.form.specs.Table.{Head}
-use Rattle.nbt_judging.specs.Pieces.{headOf, lengthBytes}
+use Rattle.form.specs.Table.{Head, headOf}
+use Rattle.nbt_judging.specs.Pieces.{lengthBytes}
 use Rattle.nbt_judging.proofs.Bytes.{leaf-is, leaf-length}
 use Rattle.nbt_writer.proofs.Puts.{puts-span, puts-then}
 use Rattle.nbt_writer.proofs.put_leaf.Statement.{statement}

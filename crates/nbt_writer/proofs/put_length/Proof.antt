@@ -5,9 +5,9 @@ use native.Mathlib.Omega.{arith}
 use mathlib.Core.Path.{_≡_, refl, sym, ap, _∙_}
 use lib.ListN.{length}
 use Rattle.form.specs.Numbers.{bytesOf}
-use Rattle.form.specs.Table.{Head}
+use Rattle.form.specs.Table.{Head, headOf}
 use Rattle.form.proofs.Digits.{digits-length as bytes-length}
-use Rattle.nbt_judging.specs.Pieces.{headOf, lengthBytes}
+use Rattle.nbt_judging.specs.Pieces.{lengthBytes}
 use Rattle.nbt_judging.proofs.Bytes.{length-string, length-array, length-fixed}
 use Rattle.nbt_writer.proofs.Puts.{puts-none, puts-number}
 use Rattle.nbt_writer.proofs.put_length.Statement.{statement}

@@ -5,7 +5,8 @@ use native.Mathlib.Omega.{arith}
 use mathlib.Core.Path.{refl}
 use Prim.Native.Nat.{_+_}
 use Rattle.form.proofs.Digits.{digits-length as bytes-length}
-use Rattle.nbt_judging.specs.Pieces.{headOf, listBytes}
+use Rattle.form.specs.Table.{headOf}
+use Rattle.nbt_judging.specs.Pieces.{listBytes}
 use Rattle.nbt_writer.proofs.Puts.{puts-number, puts-then}
 use Rattle.nbt_writer.proofs.put_list.Statement.{statement}
 use Rattle.nbt_writer.proofs.put_list.Tie as tie

@@ -5,9 +5,8 @@ use native.Mathlib.Omega.{arith}
 use mathlib.Core.Path.{refl, ap}
 use Prim.Native.Nat.{_+_, _≤_}
 use lib.ListN.{length}
-use Rattle.form.specs.Table.{Head}
+use Rattle.form.specs.Table.{Head, headOf}
 use Rattle.form.proofs.Digits.{digits-length as bytes-length}
-use Rattle.nbt_judging.specs.Pieces.{headOf}
 use Rattle.nbt_judging.proofs.Bytes.{name-element, name-entry, name-length}
 use Rattle.nbt_writer.proofs.Puts.{puts-none, puts-number, puts-span, puts-then}
 use Rattle.nbt_writer.proofs.put_name.Statement.{statement}

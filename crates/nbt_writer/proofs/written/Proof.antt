@@ -4,7 +4,7 @@ use borrow.Author.Needs.{needs}
 use native.Mathlib.Omega.{arith}
 use mathlib.Core.Path.{refl, ap}
 use lib.ListN.{length}
-use Rattle.nbt_writer.proofs.Documents.{root-room, root, table-no, table-room, table-full, table-done}
+use Rattle.nbt_writer.proofs.Documents.{root-room, root, table-placed, table-no, refused-gives, table-room, table-full, table-done}
 use Rattle.nbt_writer.proofs.written.Statement.{statement}
 use Rattle.nbt_writer.proofs.written.Tie as tie
 
@@ -63,12 +63,26 @@ put-all-requires c κs =
     table-room _ _ (start .pre .small) (start .pre .table) (start .args .out .now) (word-of told .word .ensures) (told .judged .result) (told .judged .ensures .0)
     (passed .bytes .given .1) (told .judged .ensures .1) (roomy .if1 .left)
 
+-- Where the records are judged, from where one of them is refused.
+abbrev refusal-of : tie.After-refused-arg → tie.After-number
+refusal-of c = c .before .before
+
+refused-requires : tie.Need-refused-requires
+refused-requires c κs =
+    let refusal = refusal-of c in
+    let told = judged-of (refusal .before .before) in
+    let start = bytes-at told .before in
+    table-placed _ _ (start .pre .small) (start .pre .table) (start .args .out .now) (word-of told .word .ensures) (told .judged .result) (told .judged .ensures .0)
+    (refusal .number .given .1) (told .judged .ensures .1)
+
 returns-2 : tie.Need-returns-2
 returns-2 c =
-    let told = judged-of (c .before .before .before) in
+    let refusal = refusal-of (c .before) in
+    let told = judged-of (refusal .before .before) in
     let start = bytes-at told .before in (
-      λ i. table-no _ _ (start .pre .small) i (start .args .out .now) (word-of told .word .ensures) (told .judged .result) (told .judged .ensures .0)
-          (c .before .number .given .1),
+      λ i. refused-gives _ _ (refusal .number .given .0 .0) (refusal .number .given .0 .1 .0)
+          (table-no _ _ (start .pre .small) i (start .args .out .now) (word-of told .word .ensures) (told .judged .result) (told .judged .ensures .0) (refusal .number .given .1))
+          (told .judged .ensures .1) (c .refused .ensures),
       told .judged .ensures .1,
     )
 
@@ -92,6 +106,7 @@ written-spec =
     word-requires
     judged-requires
     (λ c. search needs)
+    refused-requires
     (λ c. search needs)
     (λ c. ap length (returns c .1))
     returns

@@ -8,8 +8,8 @@ use borrow.Fn.Kinds.{In, Out}
 use lib.ListN.{length}
 use lib.Dec.{eqb}
 use Rattle.form.specs.Answer.{got}
-use Rattle.form.specs.Table.{none, node, word as wordOf, holds}
-use Rattle.nbt_judging.specs.Pieces.{headOf, ownFine}
+use Rattle.form.specs.Table.{none, node, word as wordOf, holds, headOf}
+use Rattle.nbt_judging.specs.Pieces.{ownFine}
 use Rattle.nbt_judging.specs.Steps.{fineOut}
 use Rattle.nbt_judging.proofs.Rows.{one-placed, one-next}
 use Rattle.nbt_judging.proofs.Judging.{rows-bound, one-refused, one-holds, one-some, one-depth, one-bare, one-within, one-whole}

@@ -1,0 +1,124 @@
+-- Where refusal 4 points, as specs/Characters.antt states it.
+-- Assumes nothing.
+use Prim.Native.Nat.{ℕ, _+_, _*_, _≤_}
+use mathlib.Core.Bool.{Bool, true, false}
+use mathlib.Core.Logic.{inl, inr}
+use mathlib.Core.List.{List, [], _∷_}
+use mathlib.Core.Path.{_≡_, refl, sym, ap, _∙_}
+use native.Mathlib.Omega.{arith}
+use lib.Dec.{leb, eqb}
+use borrow.Author.Tests.{eq-eqb, eqb-true}
+use lib.ListN.{length, getD}
+use Rattle.form.specs.Answer.{Out, got, no, _>>_, guard, pick, failed, badString, outputFull, depthLimit}
+use Rattle.form.specs.Spans.{part, same}
+use Rattle.form.specs.Tree.{kindOf}
+use Rattle.form.specs.Numbers.{value, digits}
+use Rattle.form.specs.Decoding.{twoOf, threeOf, unitOf, pairOf, scalarOf, walk, verdictBy, verdict}
+use Rattle.form.specs.Layout.{payload, entryBytes, layout}
+use Rattle.form.specs.Table.{Head, Forest, none, node, size, width, _⊕_, headOf, widthOf, valueBy, tagsOf, entriesOf, valueOf}
+use Rattle.form.specs.Tables.{IsTable}
+use Rattle.form.specs.Reading.{One, countsOf, reading, roomOf, hasName, byteAt, bytesAt, numberAt, stringAt, leafAt, leafOne, entryAt, entries, compoundAt}
+use Rattle.form.specs.Reading.{containerAt, payloadBy, insideAt, documentAt}
+use Rattle.form.specs.Writing.{stringFine, payloadFine, judged, written, badPlace, answerOf}
+use Rattle.form.proofs.Picks.{differ}
+use Rattle.form.proofs.Answer.{got-no}
+use Rattle.form.proofs.Strings.{string-judged, isGood-iff, isGood-not, wellFormed-iff}
+use Rattle.form.proofs.Tables.{table-sits, table-length}
+use Rattle.form.proofs.Writing.{Broken, Blamed, judged-only, only-no}
+use Rattle.form.proofs.Cut.{guard-no}
+use Rattle.snbt_form.specs.Lexing.{hexOf}
+use Rattle.calls.specs.Words.{readWords, besideWords, refusal}
+use Rattle.demands.specs.Characters.{BrokenString, IsReadCharacter, BrokenRecord, in-name, in-string, IsWriteCharacter}
+use Rattle.demands.specs.Characters.{strings, AreStringExamples, reads, AreReadExamples, writes, AreWriteExamples}
+use Rattle.demands.specs.Marked.{ascii, bytesIn}
+use Rattle.demands.proofs.Answers.{of-no}
+use Rattle.demands.proofs.Documents.{document-sound}
+
+-- ---- reading
+
+-- Every 4 of the definition points at a character.
+pub read-character : IsReadCharacter
+read-character doc t t′ p bytes r = go (reading doc t) refl (r .answer-is)
+  where
+    go : (o : Out One) → reading doc t ≡ o → refusal badString p ≡ readWords (countsOf o) → BrokenString doc p
+    go (got x) e w = let z : badString ≡ 0 = ap (λ ws. getD ws 0 0) w in absurd (omega (arith, z))
+    go (no n q) e w =
+        let number : n ≡ badString = sym (ap (λ ws. getD ws 0 0) w) in
+        let place : p ≡ q = ap (λ ws. getD ws 1 0) w in
+        rw place (of-no e (document-sound wellFormed-iff doc (roomOf (length t)) bytes) .character number)
+
+-- ---- writing
+
+module _ (doc : List ℕ) (h : Head) where
+  abbrev name : List ℕ
+  name = part doc (h .name) (h .name-length)
+
+  abbrev content : List ℕ
+  content = part doc (h .start) (h .size)
+
+  -- The place is that of what is broken.
+  place-of : Broken doc h → BrokenRecord doc h (badPlace doc h)
+  unfolding badPlace
+  place-of (inl b) =
+      let x = isGood-not (verdict name) b in
+      rw (badPlace, x .1) (in-name (x .0) (string-judged name .bad-is (x .0) (x .1)) refl)
+  place-of (inr b) =
+      let x = isGood-not (verdict content) (b .2) in
+      rw (badPlace, isGood-iff (verdict name) .0 (b .0), x .1) (in-string (x .0) (wellFormed-iff name .0 (b .0)) (b .1) (string-judged content .bad-is (x .0) (x .1)) refl)
+
+-- A 4 of the definition is at a record of the table, which is broken.
+written-broken : (doc t : List ℕ) (i : IsTable (length doc) t) (room n : ℕ) → written doc (i .head) (i .inner) room ≡ no badString n
+    → (9 * n + 9 ≤ length t) × Broken doc (headOf t n)
+unfolding written size
+written-broken doc t i room n e = go (judged doc depthLimit false 0 none 0 root) refl e
+  where
+    root : Forest
+    root = node (i .head) (i .inner) none
+
+    rest : Out (List ℕ)
+    rest = guard (leb (length (layout (valueOf doc (i .head) (i .inner)))) room) outputFull 0 >> got (layout (valueOf doc (i .head) (i .inner)))
+
+    go : (o : Out (Unit {0})) → judged doc depthLimit false 0 none 0 root ≡ o → (o >> rest) ≡ no badString n → (9 * n + 9 ≤ length t) × Broken doc (headOf t n)
+    go (got a) j f = absurd (got-no (guard-no (leb (length (layout (valueOf doc (i .head) (i .inner)))) room) outputFull 0 _ (λ q. omega (arith, q)) f .1))
+    go (no m p) j f =
+        let number : m ≡ badString = cc in
+        let place : p ≡ n = cc in
+        let b = only-no (Blamed doc t 0 (0 + size root)) (judged-only doc t depthLimit false 0 none 0 root (table-sits (length doc) t i)) j in
+        rw (← place) (omega (arith, b .before, table-length (length doc) t i), b .broken number)
+
+pub write-character : IsWriteCharacter
+write-character doc t t′ o o′ p n small i r =
+    go (written doc (i .head) (i .inner) (length o)) refl (r .words-are ∙ ap besideWords (r .is .fit small i .answer-is))
+  where
+    Points : Type 0
+    Points = (9 * n + 9 ≤ length t) × BrokenRecord doc (headOf t n) p
+
+    go : (w : Out (List ℕ)) → written doc (i .head) (i .inner) (length o) ≡ w → badString ∷ p ∷ n ∷ 0 ∷ 0 ∷ 0 ∷ 0 ∷ 0 ∷ [] ≡ besideWords (answerOf doc t w) → Points
+    go (got bs) e w = let z : badString ≡ 0 = ap (λ ws. getD ws 0 0) w in absurd (omega (arith, z))
+    go (no m q) e w = by (eqb m badString) refl w
+      where
+        by : (b : Bool) → eqb m badString ≡ b
+            → badString ∷ p ∷ n ∷ 0 ∷ 0 ∷ 0 ∷ 0 ∷ 0 ∷ [] ≡ besideWords (pick b (failed m (badPlace doc (headOf t q)) q) (failed m q 0)) → Points
+        by true k v =
+            let number : m ≡ badString = eqb-true m badString k in
+            let place : p ≡ badPlace doc (headOf t q) = ap (λ ws. getD ws 1 0) v in
+            let beside : n ≡ q = ap (λ ws. getD ws 2 0) v in
+            let x = written-broken doc t i (length o) q (e ∙ ap (λ j. no j q) number) in
+            rw (beside, place) (x .0, place-of doc (headOf t q) (x .1))
+        by false k v = let z : badString ≡ m = ap (λ ws. getD ws 0 0) v in differ (sym (eq-eqb m badString (sym z)) ∙ k)
+
+-- ---- the examples hold by computing
+
+pub string-examples : AreStringExamples
+unfolding strings twoOf threeOf unitOf pairOf scalarOf walk verdictBy hexOf ascii bytesIn
+string-examples = refl
+
+pub read-examples : AreReadExamples
+unfolding reads value twoOf threeOf unitOf pairOf scalarOf walk verdictBy same size width _⊕_ widthOf hexOf ascii bytesIn
+    hasName byteAt bytesAt numberAt stringAt leafAt leafOne entryAt entries compoundAt containerAt payloadBy insideAt documentAt
+read-examples = refl
+
+pub write-examples : AreWriteExamples
+unfolding writes digits twoOf threeOf unitOf pairOf scalarOf walk verdictBy hexOf ascii bytesIn kindOf payload entryBytes layout size width _⊕_ widthOf valueBy tagsOf entriesOf
+    same hasName stringFine payloadFine judged written badPlace
+write-examples = refl

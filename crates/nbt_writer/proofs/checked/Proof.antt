@@ -1,0 +1,24 @@
+-- Right since the check has the computed verdict.
+-- Assumes nothing.
+use borrow.Author.Needs.{needs}
+use mathlib.Core.Path.{sym}
+use Rattle.form.specs.Decoding.{verdict}
+use Rattle.form.proofs.Strings.{judged-part}
+use Rattle.nbt_writer.proofs.checked.Statement.{statement}
+use Rattle.nbt_writer.proofs.checked.Tie as tie
+
+returns : tie.Need-returns
+returns c =
+    let a = c .before .before .before .args in
+    sym (judged-part verdict (a .doc .now) (a .start) (a .size) (sym (c .check .ensures .0 .is)))
+
+pub checked-spec : {M : Type 1} → statement M
+checked-spec =
+    tie.close
+    (tie.spec
+    (λ c. search needs)
+    (λ c. search needs)
+    (λ c. search needs)
+    (λ c. search needs)
+    (λ c κs. search needs)
+    returns)
