@@ -5,18 +5,19 @@
  *   [0]  0 where the input is accepted, else the number of the refusal
  *   [1]  the place of the refusal
  *
- * and further words as each function says. Words that a function does not name are 0. A null pointer with the number 0 is an empty slice.
- * No function allocates, keeps a pointer or touches memory other than what it is lent, and each answers for every input. Slices that a
- * function is lent to write to must not overlap the others. The stack that a function takes grows with the depth: up to
- * 0.16 MB in reading, writing and asking 512 levels, 0.17 MB in rescuing, and 2.2 MB in parsing, which says more below.
+ * and further words as each function says, of the refusals only in 4 and 24. Words that a function does not name are 0. A null pointer with
+ * the number 0 is an empty slice. No function allocates, keeps a pointer or touches memory other than what it is lent, and each answers for
+ * every input. Slices that a function is lent to write to must not overlap the others. The stack that a function takes grows with the depth:
+ * up to 0.16 MB in reading, writing and asking 512 levels, 0.17 MB in rescuing, and 2.2 MB in parsing, which says more below.
  *
  * The refusals that the functions below give:
  *
  *    1  the data ends           the first byte of the field that is not whole
  *    2  the root is no compound 0
  *    3  no such tag id          the id byte
- *    4  not modified UTF-8      the string's first content byte (tikfazrul_check_mutf8: the first sequence that can't be read;
- *                               tikfazrul_write: the record)
+ *    4  not modified UTF-8      where the first sequence that can't be read begins (02, [3]), in tikfazrul_write too, which has the record in
+ *                               [2]: a zero byte, a stray byte or a bad lead itself; the lead of a form that is cut, overlong or wrongly
+ *                               continued; a high half that no low half follows, or a low half that follows none
  *    5  a count below 0         its first byte
  *    6  a name twice            the id byte of the later entry (tikfazrul_write: the later record; tikfazrul_parse: the later key)
  *    7  over 512 deep           the first payload byte (tikfazrul_write, tikfazrul_query: the record; tikfazrul_parse: the opening brace)
@@ -91,8 +92,10 @@ void tikfazrul_read(const uint8_t *doc, size_t doc_len, uint32_t *table, size_t 
 void tikfazrul_is_table(size_t doc_len, const uint32_t *table, size_t table_len, uint64_t answer[8]);
 
 /* Writes the document that a table stands for, whose names and payloads lie in `doc`. Accepted: [2] is the number of bytes written, from
- * out[0] on; no other byte changes. Refused (9, 10; then by record 12, 4, 6, 7, 11; 13 last): the output is as it was. The table's words are
- * used while the call lasts; on return each is as it was. An empty list is written as five zero bytes. */
+ * out[0] on; no other byte changes. Refused (9, 10; then by record 12, 4, 6, 7, 11; 13 last): the output is as it was. In 4 the place is the
+ * offset in `doc` at which the sequence begins, and [2] the record whose name, or else string, it stands in, 0 being the root (02, [3]); in
+ * every other refusal [2] is 0. The table's words are used while the call lasts; on return each is as it was. An empty list is written as
+ * five zero bytes. */
 void tikfazrul_write(const uint8_t *doc, size_t doc_len, uint32_t *table, size_t table_len, uint8_t *out, size_t out_len, uint64_t answer[8]);
 
 /* Writes a whole document of one that tikfazrul_read refuses with 1, cut in transfer: with every tag that was completely read before the cut,
