@@ -132,6 +132,7 @@ static void malformed(void)
     query_is("a name without its length", t, BYTES("\1\0"), 1, 14, 0, 0, NULL);
     query_is("a name that is cut", t, BYTES("\4\1\0\2a"), 1, 14, 1, 0, NULL);
     query_is("a name in plain UTF-8", t, BYTES("\1\0\4\xF0\x9F\x98\x80"), 1, 14, 0, 0, NULL);
+    query_is("the step, not the sequence (02, [3])", t, BYTES("\3\1\0\4ab\xE2\x82"), 1, 14, 1, 0, NULL);
     query_is("sixteen steps", t, BYTES("\4\4\4\4\4\4\4\4\4\4\4\4\4\4\4\4"), 1, 0, 0, 1, NULL);
     query_is("a seventeenth", t, BYTES("\4\4\4\4\4\4\4\4\4\4\4\4\4\4\4\4\4"), 1, 14, 16, 0, NULL);
     query_is("a seventeenth that is no step", t, BYTES("\4\4\4\4\4\4\4\4\4\4\4\4\4\4\4\4\5"), 1, 14, 16, 0, NULL);

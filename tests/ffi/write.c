@@ -1,19 +1,21 @@
 /* Checks and writes tables from C: a marked document of 01, and the limits that are too large for the other programs. See tests/ffi/run. */
+#include "characters.h"
 #include "tree.h"
 
-/* Writes, and checks the answer, that the table is as it was, and that no byte but the written ones changed; these are `bytes` where given. */
+/* Writes, and checks the answer, that the table is as it was, and that no byte but the written ones changed; these are `bytes` where given.
+ * `value` is the length, or in 4 the record (02, [3]). */
 static void write_is(const char *what, const uint8_t *doc, size_t n, uint32_t *t, size_t words, size_t room, uint64_t number, uint64_t place,
-                     uint64_t length, const uint8_t *bytes)
+                     uint64_t value, const uint8_t *bytes)
 {
     uint8_t *out = lent(room);
     uint32_t *before = lent(4 * words);
     uint64_t a[8];
-    size_t i;
+    size_t i, length = number ? 0 : value;
     memset(out, 0xAA, room);
     memcpy(before, t, 4 * words);
     memset(a, 0x55, sizeof a);
     tikfazrul_write(doc, n, t, words, out, room, a);
-    expect(what, answers(a, number, place, length, 0));
+    expect(what, answers(a, number, place, value, 0));
     expect("a write leaves the table as it was", !memcmp(before, t, 4 * words));
     for (i = length; i < room && out[i] == 0xAA; i++)
         ;
@@ -118,7 +120,7 @@ static void order(void)
     t[TIKFAZRUL_WORDS + TIKFAZRUL_NAME_LENGTH] = 4;
     write_is("a zero byte in a name before it", doc, TREE_BYTES, t, TREE_WORDS, 60, 10, 0, 0, NULL);
     t[10 * TIKFAZRUL_WORDS + TIKFAZRUL_PARENT] = 0;
-    write_is("which is 4 where the parent is right", doc, TREE_BYTES, t, TREE_WORDS, 60, 4, 1, 0, NULL);
+    write_is("which is 4 where the parent is right", doc, TREE_BYTES, t, TREE_WORDS, 60, 4, 8, 1, NULL);
     tree_with(t, 10, 1);
     check_is("over too long a document 9 comes first", 16777217, t, TREE_WORDS, 9, 0);
     write_is("513 deep", NULL, 0, deep, 513 * TIKFAZRUL_WORDS, 5000, 7, 512, 0, NULL);
@@ -177,6 +179,83 @@ static void depth(uint32_t deep, uint64_t number, uint64_t place)
     free(t);
 }
 
+/* Every string that can't be read, in each place where a table has one: 4 at the span's start and the offset, with the record (02, [3]). The
+ * document is "nop", the string and bytes that would go on with it; the table is the root, n, o and p, the last a list of two strings. */
+static void characters(void)
+{
+    char what[256];
+    for (size_t i = 0; i < 5 * STRINGS; i++) {
+        static const struct {
+            const char *what;
+            uint32_t record, span;
+        } in[] = {{"the root's name", 0, TIKFAZRUL_NAME}, {"a name", 1, TIKFAZRUL_NAME},      {"a string", 1, TIKFAZRUL_START},
+                  {"a list's name", 3, TIKFAZRUL_NAME},   {"an element", 5, TIKFAZRUL_START}};
+        const uint32_t record = in[i / STRINGS].record, span = in[i / STRINGS].span;
+        struct broken b = broken_string(i % STRINGS);
+        uint8_t doc[128] = "nop";
+        uint32_t t[6 * TIKFAZRUL_WORDS];
+        memcpy(doc + 3, b.bytes, b.n);
+        memset(doc + 3 + b.n, 0x80, 2);
+        put(t, 0, 10, 0, 0, 0, 0, 3, 0, 6, 0);
+        put(t, 1, 8, 0, 1, 1, 2, 0, 0, 2, 0);
+        put(t, 2, 1, 1, 1, 0, 1, 0, 0, 3, 0);
+        put(t, 3, 9, 2, 1, 0, 0, 2, 8, 6, 0);
+        put(t, 4, 8, 0, 0, 0, 2, 0, 0, 5, 3);
+        put(t, 5, 8, 0, 0, 0, 3, 0, 0, 6, 3);
+        write_is("without such a string the table is written", doc, b.n + 5, t, 54, 99, 0, 0, 35, NULL);
+        t[TIKFAZRUL_WORDS * record + span] = 3;
+        t[TIKFAZRUL_WORDS * record + span + 1] = b.n;
+        snprintf(what, sizeof what, "%s: %s", in[i / STRINGS].what, b.what);
+        write_is(what, doc, b.n + 5, t, 54, 99, 4, 3 + b.offset, record, NULL);
+        write_is(what, doc, b.n + 5, t, 54, 0, 4, 3 + b.offset, record, NULL);
+    }
+}
+
+/* Two strings that can't be read, and what comes before and after 4, with 0 where 4 has the record. "na", "nb", "xy" and "z" are plain, E2 82 and
+ * 80 are not. */
+static void characters_in_order(void)
+{
+    const uint8_t *doc = (const uint8_t *)"nanbxyz\xE2\x82q\x80";
+    uint32_t t[4 * TIKFAZRUL_WORDS];
+    put(t, 0, 10, 0, 0, 0, 0, 2, 0, 4, 0);
+    put(t, 1, 10, 0, 2, 0, 0, 1, 0, 3, 0);
+    put(t, 2, 8, 6, 2, 9, 2, 0, 0, 3, 1);
+    put(t, 3, 8, 2, 2, 4, 2, 0, 0, 4, 0);
+    write_is("a name and its own string: the name", doc, 11, t, 36, 99, 4, 7, 2, NULL);
+    put(t, 2, 8, 4, 2, 9, 2, 0, 0, 3, 1);
+    write_is("the string alone", doc, 11, t, 36, 99, 4, 10, 2, NULL);
+    put(t, 3, 8, 7, 3, 4, 2, 0, 0, 4, 0);
+    write_is("a string and a later name: the earlier record", doc, 11, t, 36, 99, 4, 10, 2, NULL);
+    put(t, 1, 10, 10, 1, 0, 0, 1, 0, 3, 0);
+    write_is("a compound's name and a string in it: the compound", doc, 11, t, 36, 99, 4, 10, 1, NULL);
+    put(t, 0, 10, 7, 1, 0, 0, 2, 0, 4, 0);
+    write_is("the root's name before all", doc, 11, t, 36, 99, 4, 7, 0, NULL);
+    put(t, 0, 10, 0, 0, 0, 0, 2, 0, 3, 0);
+    put(t, 1, 8, 0, 2, 9, 2, 0, 0, 2, 0);
+    put(t, 2, 8, 0, 2, 4, 2, 0, 0, 3, 0);
+    write_is("a string, then a name twice", doc, 11, t, 27, 99, 4, 10, 1, NULL);
+    put(t, 1, 8, 0, 2, 4, 2, 0, 0, 2, 0);
+    put(t, 2, 8, 0, 2, 9, 2, 0, 0, 3, 0);
+    write_is("a name twice, then its string: 6, and 0 beside it", doc, 11, t, 27, 99, 6, 2, 0, NULL);
+    put(t, 2, 8, 2, 2, 6, 1, 0, 0, 3, 0);
+    write_is("nothing wrong but the room: 13, and 0 beside it", doc, 11, t, 27, 20, 13, 0, 0, NULL);
+    write_is("room for it", doc, 11, t, 27, 21, 0, 0, 21, NULL);
+}
+
+/* A list of a byte and of a string that can't be read: 11, and 0 beside it. */
+static void mixed(void)
+{
+    uint32_t t[4 * TIKFAZRUL_WORDS];
+    put(t, 0, 10, 0, 0, 0, 0, 1, 0, 4, 0);
+    put(t, 1, 9, 0, 0, 0, 0, 2, 1, 4, 0);
+    put(t, 2, 1, 0, 0, 0, 1, 0, 0, 3, 1);
+    put(t, 3, 8, 0, 0, 0, 1, 0, 0, 4, 1);
+    write_is("a mixed list is 11 at record 3", (const uint8_t *)"\xFF", 1, t, 36, 99, 11, 3, 0, NULL);
+    put(t, 1, 9, 0, 0, 0, 0, 2, 8, 4, 0);
+    put(t, 2, 8, 0, 0, 0, 0, 0, 0, 3, 1);
+    write_is("with a string before it 4 at record 3", (const uint8_t *)"\xFF", 1, t, 36, 99, 4, 0, 3, NULL);
+}
+
 int main(void)
 {
     marked();
@@ -185,6 +264,9 @@ int main(void)
     order();
     limits();
     long_strings();
+    characters();
+    characters_in_order();
+    mixed();
     depth(512, 0, 0);
     depth(513, 7, 512);
     depth(10000, 7, 512);

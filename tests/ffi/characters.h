@@ -1,0 +1,73 @@
+/* Sequences that are not modified UTF-8, each with the offset of the first that can't be read, worked out from 01's rule 2 and 02, [3], and
+ * strings with such a sequence at their start, within them and at their end. See tests/ffi/run. */
+#ifndef CHARACTERS_H
+#define CHARACTERS_H
+
+#include "expect.h"
+
+struct sequence {
+    const char *what, *bytes;
+    size_t n, offset;
+};
+
+/* No text that is put before or behind one makes a part of it readable, or begins with a continuation byte. */
+static const struct sequence sequences[] = {
+    {"a zero byte", "\0", 1, 0},
+    {"a stray continuation byte", "\x80", 1, 0},
+    {"the last continuation byte, stray", "\xBF", 1, 0},
+    {"no lead", "\xFF", 1, 0},
+    {"two bytes cut to one", "\xC3", 1, 0},
+    {"three bytes cut to two", "\xE2\x82", 2, 0},
+    {"three bytes, the third no continuation", "\xE2\x82" "a", 3, 0},
+    {"three bytes, the second no continuation", "\xE2" "a\x82", 3, 0},
+    {"two bytes, the second a zero byte", "\xC3\0", 2, 0},
+    {"C1BF, overlong", "\xC1\xBF", 2, 0},
+    {"C081, overlong", "\xC0\x81", 2, 0},
+    {"E09FBF, overlong", "\xE0\x9F\xBF", 3, 0},
+    {"four bytes", "\xF0\x9F\x98\x80", 4, 0},
+    {"a high half", "\xED\xA0\xBD", 3, 0},
+    {"a high half, then a zero byte", "\xED\xA0\xBD\0", 4, 0},
+    {"a high half, then a letter", "\xED\xA0\xBD" "a", 4, 0},
+    {"a high half, then another", "\xED\xA0\xBD\xED\xA0\xBD", 6, 0},
+    {"a high half, then a low one cut to a byte", "\xED\xA0\xBD\xED", 4, 0},
+    {"a high half, then a low one cut to two", "\xED\xA0\xBD\xED\xB8", 5, 0},
+    {"a high half, then a low one wrongly continued", "\xED\xA0\xBD\xED\xB8" "a", 6, 0},
+    {"a low half", "\xED\xB8\x80", 3, 0},
+    {"a low half after a whole pair", "\xED\xA0\xBD\xED\xB8\x80\xED\xB8\x80", 9, 6},
+    {"a high half after a whole pair", "\xED\xA0\xBD\xED\xB8\x80\xED\xA0\xBD", 9, 6},
+    {"a letter before four bytes", "a\xF0\x9F\x98\x80", 5, 1},
+    {"two that can't be read", "\x80\xFF", 2, 0},
+};
+enum { SEQUENCES = sizeof sequences / sizeof *sequences };
+
+/* What stands before and behind: nothing, a letter, and characters of one, two, three and six bytes. */
+#define WELL "r\xC3\xA9\xE2\x82\xAC\xC0\x80\xED\xA0\xBD\xED\xB8\x80"
+static const struct {
+    const char *bytes;
+    size_t n;
+} around[] = {{"", 0}, {"a", 1}, {WELL, sizeof WELL - 1}};
+enum { AROUND = 3, STRINGS = SEQUENCES * AROUND * AROUND };
+
+/* A string that is not modified UTF-8, and where. */
+struct broken {
+    uint8_t bytes[64];
+    size_t n, offset;
+    char what[96];
+};
+
+/* One of the STRINGS. */
+static inline struct broken broken_string(size_t which)
+{
+    struct broken b = {.n = 0};
+    const struct sequence *s = &sequences[which / (AROUND * AROUND)];
+    size_t before = which / AROUND % AROUND, behind = which % AROUND;
+    memcpy(b.bytes, around[before].bytes, around[before].n);
+    memcpy(b.bytes + around[before].n, s->bytes, s->n);
+    memcpy(b.bytes + around[before].n + s->n, around[behind].bytes, around[behind].n);
+    b.n = around[before].n + s->n + around[behind].n;
+    b.offset = around[before].n + s->offset;
+    snprintf(b.what, sizeof b.what, "%s, %zu bytes before and %zu behind", s->what, around[before].n, around[behind].n);
+    return b;
+}
+
+#endif
