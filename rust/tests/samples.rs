@@ -38,7 +38,7 @@ fn as_told(ending: &str, count: usize, document: impl Fn(Vec<u8>) -> Result<Vec<
 
 #[test]
 fn every_document_is_answered_as_told() {
-    as_told(".nbt", 13, Ok);
+    as_told(".nbt", 15, Ok);
 }
 
 #[test]
