@@ -1,5 +1,6 @@
 //! Bytes shown in hexadecimal.
 use std::fmt::Write;
+use std::ops::Range;
 
 /// How many bytes a line shows.
 pub const ACROSS: usize = 16;
@@ -37,24 +38,44 @@ pub fn dump(bytes: &[u8]) -> impl Iterator<Item = String> + '_ {
 /// The line of bytes that `at` lies in, with the ones before and after, and a mark below the byte. `at` may be the bytes' length, where
 /// they end too early, or beyond.
 pub fn window(bytes: &[u8], at: usize) -> String {
-    let marked = at.min(bytes.len()) / ACROSS;
+    let at = at.min(bytes.len());
+    window_of(bytes, at..at + 1)
+}
+
+/// The same of several bytes, which may stand on more than one line: a mark below each.
+///
+/// ```
+/// assert_eq!(tikfazrul::hex::window_of(b"S2B \xE2\x82 and more of it", 4..6), "\
+/// 00000000  53 32 42 20 E2 82 20 61  6E 64 20 6D 6F 72 65 20  |S2B .. and more |
+///                       ^^ ^^
+/// 00000010  6F 66 20 69 74                                    |of it|");
+/// ```
+pub fn window_of(bytes: &[u8], span: Range<usize>) -> String {
+    let start = span.start.min(bytes.len());
+    // at the least one mark, which may stand behind the last byte
+    let end = span.end.min(bytes.len()).max(start + 1);
+    let marked = start / ACROSS..=(end - 1) / ACROSS;
     let mut lines = Vec::new();
-    for row in marked.saturating_sub(1)..=marked + 1 {
-        let start = row * ACROSS;
+    for row in marked.start().saturating_sub(1)..=marked.end() + 1 {
+        let first = row * ACROSS;
         // an empty line is shown only where the mark needs it
-        if start < bytes.len() || row == marked {
-            lines.push(line(&bytes[start.min(bytes.len())..], start));
+        if first < bytes.len() || marked.contains(&row) {
+            lines.push(line(&bytes[first.min(bytes.len())..], first));
         }
-        if row == marked {
-            lines.push(mark(at.min(bytes.len()) % ACROSS));
+        if marked.contains(&row) {
+            lines.push(marks(start.max(first) - first..(end - first).min(ACROSS)));
         }
     }
     lines.join("\n")
 }
 
-fn mark(column: usize) -> String {
-    let before = "00000000  ".len() + 3 * column + usize::from(column >= ACROSS / 2);
-    format!("{}^^", " ".repeat(before))
+fn marks(columns: Range<usize>) -> String {
+    let mut shown = String::new();
+    for column in columns {
+        let before = "00000000  ".len() + 3 * column + usize::from(column >= ACROSS / 2);
+        shown = format!("{shown:before$}^^");
+    }
+    shown
 }
 
 #[cfg(test)]
@@ -76,6 +97,45 @@ mod tests {
         for at in 0..256 {
             assert_eq!(marked(&bytes, at), format!("{at:02X}"));
         }
+    }
+
+    /// The bytes above the marks, as they are shown.
+    fn all_marked(bytes: &[u8], span: Range<usize>) -> String {
+        let shown = window_of(bytes, span);
+        let lines: Vec<&str> = shown.lines().collect();
+        let above = |pair: &[&str]| -> String {
+            let row = pair[0].chars().chain(std::iter::repeat(' '));
+            row.zip(pair[1].chars()).filter(|&(_, mark)| mark == '^').map(|(shown, _)| shown).collect()
+        };
+        lines.windows(2).filter(|pair| pair[1].ends_with('^')).map(above).collect()
+    }
+
+    #[test]
+    fn each_byte_of_a_span_has_its_mark() {
+        let bytes: Vec<u8> = (0..=255).collect();
+        for start in 0..256usize {
+            for length in 1..40usize.min(257 - start) {
+                let wanted: String = bytes[start..start + length].iter().map(|byte| format!("{byte:02X}")).collect();
+                assert_eq!(all_marked(&bytes, start..start + length), wanted);
+            }
+            assert_eq!(all_marked(&bytes, start..start), format!("{start:02X}"));
+        }
+    }
+
+    #[test]
+    fn a_span_across_two_lines_has_a_mark_line_below_each() {
+        let wanted = "\
+00000010  10 11 12 13 14 15 16 17  18 19 1A 1B 1C 1D 1E 1F  |................|
+00000020  20 21 22 23 24 25 26 27  28 29 2A 2B 2C 2D 2E 2F  | !\"#$%&'()*+,-./|
+                                                     ^^ ^^
+00000030  30 31 32 33 34 35 36 37  38 39 3A 3B 3C 3D 3E 3F  |0123456789:;<=>?|
+          ^^
+00000040  40 41 42                                          |@AB|";
+        let bytes: Vec<u8> = (0..0x43).collect();
+        assert_eq!(window_of(&bytes, 0x2E..0x31), wanted);
+        // no more is marked than there is
+        assert_eq!(window_of(&bytes[..0x2F], 0x2E..0x31), window(&bytes[..0x2F], 0x2E));
+        assert_eq!(window_of(&bytes, 0x50..0x60), window(&bytes, 0x43));
     }
 
     #[test]

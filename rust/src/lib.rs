@@ -33,6 +33,16 @@
 //!                                    ^^");
 //! ```
 //!
+//! Of a name or a string that can't be read (4) the place is where the first sequence begins that is no character, and [`Refusal::broken`]
+//! tells which tag it is:
+//!
+//! ```
+//! let doc = b"\x0A\0\x04tile\x08\0\x07SceneId\0\x06S2B \xE2\x82\0";
+//! let refusal = tikfazrul::read(doc).unwrap_err();
+//! assert_eq!(refusal.place(), tikfazrul::Place::Byte(23));
+//! assert_eq!(refusal.broken(doc).unwrap().path, "root/SceneId");
+//! ```
+//!
 //! A document that was cut in transfer is refused with 1; [`rescue()`] makes a whole one of what came:
 //!
 //! ```
@@ -81,6 +91,7 @@
 //! | `snbt::parse_and_size` | [`parse`] |
 #![deny(unsafe_code, missing_docs)]
 
+mod broken;
 mod ffi;
 pub mod hex;
 mod lines;
@@ -93,6 +104,7 @@ mod rescue;
 mod table;
 mod text;
 
+pub use broken::{Broken, Part};
 pub use lines::{lines_into, read_lines_into, LINE};
 pub use moves::{lines_down, lines_down_into, lines_up, lines_up_into, OLD_LINE};
 pub use node::{Children, Kind, Link, Node, Trail, Walk};

@@ -3,6 +3,7 @@ use crate::mutf8;
 use crate::path;
 use crate::table::{word, WORDS};
 use std::borrow::Cow;
+use std::ops::Range;
 use std::{fmt, iter};
 
 /// What a tag holds.
@@ -169,10 +170,21 @@ impl<'a> Node<'a> {
         siblings.index + siblings.take_while(|sibling| sibling.record < self.record).count()
     }
 
+    /// Where in the document the name is, by its words: nowhere in a list's element.
+    pub(crate) fn name_range(&self) -> Range<usize> {
+        let start = self.word(word::NAME);
+        start..start + self.word(word::NAME_LENGTH)
+    }
+
+    /// Where in the document the payload is: nowhere of a list or a compound.
+    pub(crate) fn payload_range(&self) -> Range<usize> {
+        let start = self.word(word::START);
+        start..start + self.word(word::LENGTH)
+    }
+
     /// The bytes that the name words speak of: none in a list's element.
     fn name_span(&self) -> &'a [u8] {
-        let start = self.word(word::NAME);
-        &self.doc[start..start + self.word(word::NAME_LENGTH)]
+        &self.doc[self.name_range()]
     }
 
     /// The name's bytes, in modified UTF-8. `None` for a list's element.
@@ -188,8 +200,7 @@ impl<'a> Node<'a> {
 
     /// The payload's bytes, without a length or a count. Empty for a list or a compound.
     pub fn payload(&self) -> &'a [u8] {
-        let start = self.word(word::START);
-        &self.doc[start..start + self.word(word::LENGTH)]
+        &self.doc[self.payload_range()]
     }
 
     /// The number of children or of an array's elements; 0 for every other kind.

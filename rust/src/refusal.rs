@@ -1,6 +1,6 @@
 //! Why something is refused, and where.
 use crate::ffi::Answer;
-use crate::{hex, lines};
+use crate::{broken, hex, lines};
 use std::fmt;
 
 /// What a place counts.
@@ -10,6 +10,13 @@ pub enum Place {
     Byte(usize),
     /// A record of the table, from 0.
     Record(usize),
+    /// A byte of the document, in the name or the string of a record of the table, both from 0.
+    In {
+        /// The byte.
+        byte: usize,
+        /// The record.
+        record: usize,
+    },
     /// A byte of the query, from 0.
     Query(usize),
     /// A byte of the text, from 0.
@@ -21,11 +28,26 @@ pub enum Place {
 }
 
 impl Place {
-    /// The place as a bare number, 0 for the whole.
+    /// The place as a bare number, as the library gives it: the byte where a record stands beside it, 0 for the whole.
     pub fn number(self) -> usize {
         match self {
             Place::Byte(n) | Place::Record(n) | Place::Query(n) | Place::Text(n) | Place::Line(n) => n,
+            Place::In { byte, .. } => byte,
             Place::Whole => 0,
+        }
+    }
+
+    /// The record that it is, or in which it is.
+    ///
+    /// ```
+    /// use tikfazrul::Place;
+    /// assert_eq!(Place::In { byte: 23, record: 1 }.record(), Some(1));
+    /// assert_eq!(Place::Byte(23).record(), None);
+    /// ```
+    pub fn record(self) -> Option<usize> {
+        match self {
+            Place::Record(record) | Place::In { record, .. } => Some(record),
+            _ => None,
         }
     }
 }
@@ -35,6 +57,7 @@ impl fmt::Display for Place {
         match self {
             Place::Byte(n) => write!(f, "at byte {n}"),
             Place::Record(n) => write!(f, "at record {n}"),
+            Place::In { byte, record } => write!(f, "at byte {byte}, in record {record}"),
             Place::Query(n) => write!(f, "at byte {n} of the query"),
             Place::Text(n) => write!(f, "at byte {n} of the text"),
             Place::Line(n) => write!(f, "at line {n}"),
@@ -114,7 +137,7 @@ refusals! {
     1 DataEnds "the data ends before the document does", "where the field that is not whole begins";
     2 MissingRootTag "the root is no compound: a document begins with 0A", "";
     3 InvalidTagId "no tag has this id: ids are 1 to 12", "the id";
-    4 InvalidString "a string is not modified UTF-8", "where its content begins";
+    4 InvalidString "a string is not modified UTF-8", "where the first sequence that can't be read begins";
     5 NegativeCount "a count is below 0", "where the count begins";
     6 RepeatedName "a name stands twice in one compound", "the later entry";
     7 TooDeep "lists and compounds are more than 512 deep", "where the payload of the innermost begins";
@@ -141,7 +164,7 @@ refusals! {
 
 impl Refusal {
     /// The refusal that an answer holds, if it holds one. `place` says what the call's places count.
-    pub(crate) fn check(answer: &Answer, place: fn(usize) -> Place) -> Result<(), Refusal> {
+    pub(crate) fn check(answer: &Answer, place: impl Fn(usize) -> Place) -> Result<(), Refusal> {
         match answer[0] {
             0 => Ok(()),
             24 => Err(Refusal::MoreMatches(answer[2] as usize)),
@@ -160,9 +183,24 @@ impl Refusal {
     /// 00000000  0A 00 00 0D 00 00                                 |......|
     ///                    ^^");
     /// ```
+    ///
+    /// Of a string that can't be read (4) the whole sequence is marked: its lead and the continuation bytes that belong to it. Where `bytes`
+    /// is the document that [`read`](crate::read) refused, it ends with the string at the latest; elsewhere with `bytes`, for a refusal does
+    /// not know the string's length: [`Refusal::broken_in`] finds it in a table.
+    ///
+    /// ```
+    /// let doc = b"\x0A\0\x08S2B \xE2\x82 x\0";
+    /// let refusal = tikfazrul::read(doc).unwrap_err();
+    /// assert_eq!(refusal.window(doc).unwrap(), "\
+    /// 00000000  0A 00 08 53 32 42 20 E2  82 20 78 00              |...S2B .. x.|
+    ///                                ^^  ^^");
+    /// ```
     pub fn window(&self, bytes: &[u8]) -> Option<String> {
         match self.place() {
-            Place::Byte(at) | Place::Query(at) | Place::Text(at) => Some(hex::window(bytes, at)),
+            Place::Byte(at) | Place::In { byte: at, .. } if matches!(self, Refusal::InvalidString(_)) => {
+                Some(hex::window_of(bytes, broken::sequence(self, bytes, at)))
+            }
+            Place::Byte(at) | Place::In { byte: at, .. } | Place::Query(at) | Place::Text(at) => Some(hex::window(bytes, at)),
             Place::Line(number) => lines::window(bytes, number, self.digits()),
             Place::Record(_) | Place::Whole => None,
         }
@@ -213,7 +251,7 @@ impl fmt::Display for Refusal {
         if self.place() != Place::Whole {
             write!(f, ", {}", self.place())?;
         }
-        if matches!(self.place(), Place::Byte(_)) && !self.at_byte().is_empty() {
+        if matches!(self.place(), Place::Byte(_) | Place::In { .. }) && !self.at_byte().is_empty() {
             write!(f, ", {}", self.at_byte())?;
         }
         write!(f, " (refusal {})", self.number())
@@ -242,6 +280,10 @@ mod tests {
         assert_eq!(twice.to_string(), "a name stands twice in one compound, at byte 23, the later entry (refusal 6)");
         let record = Refusal::RepeatedName(Place::Record(2));
         assert_eq!(record.to_string(), "a name stands twice in one compound, at record 2 (refusal 6)");
+        let broken = |place| Refusal::InvalidString(place).to_string();
+        let words = "where the first sequence that can't be read begins (refusal 4)";
+        assert_eq!(broken(Place::Byte(23)), format!("a string is not modified UTF-8, at byte 23, {words}"));
+        assert_eq!(broken(Place::In { byte: 23, record: 1 }), format!("a string is not modified UTF-8, at byte 23, in record 1, {words}"));
         let line = Refusal::BadLine(Place::Line(3));
         assert_eq!(line.to_string(), "a line is not 72 digits (0 to 9, a to f) and a line feed, at line 3 (refusal 29)");
         let old = Refusal::BadOldLine(Place::Line(3));

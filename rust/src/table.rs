@@ -197,8 +197,8 @@ pub fn read_into(doc: &[u8], words: &mut [u32]) -> Result<Read, Refusal> {
 }
 
 /// Writes the document that a table stands for, whose names and payloads lie in `doc`. A document that would be over [`MAX_DOCUMENT`], and so
-/// could not be read again, is refused with 13; [`write_into`] writes longer ones. The table is used while the call lasts and comes back as
-/// it was.
+/// could not be read again, is refused with 13; [`write_into`] writes longer ones. A name or string that can't be read is refused with 4, at
+/// its broken character and with its record ([`Place::In`]). The table is used while the call lasts and comes back as it was.
 ///
 /// ```
 /// let doc = b"\x0A\0\0\x09\0\x01l\x05\0\0\0\0\0";
@@ -217,15 +217,16 @@ pub fn write(doc: &[u8], table: &mut Table) -> Result<Vec<u8>, Refusal> {
 /// Writes into bytes that the caller lends, and says how many. Refused: the output is as it was.
 pub fn write_into(doc: &[u8], table: &mut Table, out: &mut [u8]) -> Result<usize, Refusal> {
     let answer = ffi::write(doc, &mut table.words, out);
-    Refusal::check(&answer, record_or_whole(&answer))?;
+    Refusal::check(&answer, |place| written_place(&answer, place))?;
     Ok(answer[2] as usize)
 }
 
-/// 13 is the whole's; every other refusal of the writer is a record's.
-fn record_or_whole(answer: &Answer) -> fn(usize) -> Place {
+/// 13 is the whole's; 4 is at a byte of a record's name or string (02, [3]); every other refusal of the writer is a record's.
+fn written_place(answer: &Answer, place: usize) -> Place {
     match answer[0] {
-        13 => |_| Place::Whole,
-        _ => Place::Record,
+        4 => Place::In { byte: place, record: answer[2] as usize },
+        13 => Place::Whole,
+        _ => Place::Record(place),
     }
 }
 

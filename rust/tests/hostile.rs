@@ -136,7 +136,7 @@ fn a_table_over_another_document() {
     assert_eq!((root.name(), root.name_bytes()), (None, Some(&[0xFF][..])));
     let path = root.children().next().unwrap().path();
     assert_eq!(path, "root/\u{FFFD}");
-    assert_eq!(write(&other, &mut table.clone()), Err(Refusal::InvalidString(Place::Record(0))));
+    assert_eq!(write(&other, &mut table.clone()), Err(Refusal::InvalidString(Place::In { byte: 3, record: 0 })));
 }
 
 #[test]

@@ -673,8 +673,63 @@ fn lines_of_another_document_are_found_by_a_check() {
     let (out, _, _) = tile(&["list", "--json", "--lines", "reef.nbt.lines", "mosaic.nbt"]);
     assert!(out.contains(r#""kind":"String","name":null,"value":null}"#), "{out}");
     let (out, err, status) = tile(&["write", "--lines", "reef.nbt.lines", "mosaic.nbt", "-o", "-"]);
-    let words = "the lines in reef.nbt.lines don't fit: a string is not modified UTF-8, at record 1 (refusal 4)";
-    assert_eq!((out.as_str(), err, status), ("", format!("tile: mosaic.nbt: refused: {words}\n"), 1));
+    // record 1 has its name from byte 10 on, where the mosaic has the two bytes of a length
+    let words = "\
+the lines in reef.nbt.lines don't fit: a string is not modified UTF-8, at byte 10, in record 1, where the first sequence that can't be read \
+begins (refusal 4), in the name of an entry of root
+  00000000  0A 00 06 6D 6F 73 61 69  63 08 00 07 53 63 65 6E  |...mosaic...Scen|
+                                           ^^
+  00000010  65 49 64 00 03 61 6C 6C  09 00 05 54 69 6C 65 73  |eId..all...Tiles|
+";
+    assert_eq!((out.as_str(), err, status), ("", format!("tile: mosaic.nbt: refused: {words}"), 1));
+}
+
+/// The words for a string that can't be read, up to the path.
+fn unreadable(at: usize) -> String {
+    format!("a string is not modified UTF-8, at byte {at}, where the first sequence that can't be read begins (refusal 4)")
+}
+
+#[test]
+fn a_broken_character_is_marked_and_its_tag_named() {
+    // the last scene's name begins at byte 72, and its dash 25 bytes later
+    let words = format!(
+        "\
+broken-character.nbt: refused: {}, in root/Tiles[2]/SceneId
+  00000050  65 20 6C 61 20 47 72 61  6E 64 65 20 C3 8E 6C 65  |e la Grande ..le|
+  00000060  20 E2 80 20 63 C3 B4 74  C3 A9 20 76 65 6E 74 20  | .. c..t.. vent |
+               ^^ ^^
+  00000070  33 20 C3 A0 20 39 00 00                           |3 .. 9..|
+",
+        unreadable(97)
+    );
+    assert_eq!(tile(&["check", "broken-character.nbt"]), (words.clone(), String::new(), 1));
+    for args in [&["list"][..], &["query", "**/SceneId"], &["lines"], &["write", "-o", "-"], &["rescue", "-o", "-"]] {
+        assert_eq!(tile(&[args, &["broken-character.nbt"]].concat()), (String::new(), format!("tile: {words}"), 1), "{args:?}");
+    }
+    let (out, _, _) = tile(&["check", "broken-name.nbt"]);
+    assert!(out.starts_with(&format!("broken-name.nbt: refused: {}, in the name of an entry of root/Scene\n", unreadable(33))), "{out}");
+    assert!(out.ends_with("\n               ^^ ^^ ^^\n"), "{out}");
+    let out = String::from_utf8(fed(&["check", "-"], b"\x0A\0\x03S2\xFF\0").stdout).unwrap();
+    assert!(out.starts_with(&format!("standard input: refused: {}, in the root's name\n", unreadable(5))), "{out}");
+}
+
+#[test]
+fn json_tells_which_string_is_broken() {
+    let json = |at, message: &str, more: &str| {
+        format!("\"refusal\":4,\"place\":{at},\"of\":\"byte\",{more}}}\n").replace("MESSAGE", &format!("\"message\":\"{message}\""))
+    };
+    for (file, at, more) in [
+        ("broken-character.nbt", 97, r#"MESSAGE,"path":"root/Tiles[2]/SceneId","part":"string","length":2"#),
+        ("broken-name.nbt", 33, r#"MESSAGE,"path":"root/Scene","part":"name","length":3"#),
+        ("plain-emoji.nbt", 24, r#"MESSAGE,"path":"root/SceneId","part":"string","length":4"#),
+    ] {
+        let wanted = format!("{{\"file\":\"{file}\",\"ok\":false,{}", json(at, &unreadable(at), more));
+        for args in [&["check"][..], &["list"], &["query", "root"]] {
+            assert_eq!(tile(&[args, &["--json", file]].concat()), (wanted.clone(), String::new(), 1));
+        }
+    }
+    let out = String::from_utf8(fed(&["check", "--json", "-"], b"\x0A\0\x03S2\xFF\0").stdout).unwrap();
+    assert!(out.ends_with(&json(5, &unreadable(5), r#"MESSAGE,"path":"root","part":"root name","length":1"#)), "{out}");
 }
 
 #[test]

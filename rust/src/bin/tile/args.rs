@@ -92,10 +92,13 @@ const ABOUT_CHECK: &str = "\
 tile check [--json] [--lines FILE] FILE…
 
 Says of each file whether it is a lawful document. A refusal has a number, words, a place, and the bytes around the place with a mark below
-it. Places in gzip'd files count inflated bytes. Where the data ends too soon, tile rescue saves what came. With --lines the document
-is read all the same, and refused too if the lines are not exactly those of its own table. Exit status 1 if any file is refused.
+it. Of a name or a string that can't be read, all bytes of the broken character are marked, and the path tells which it is; with --json,
+path, part (string, name or root name; a name has the path of the compound that its entry stands in) and length. Places in gzip'd files
+count inflated bytes. Where the data ends too soon, tile rescue saves what came. With --lines the document is read all the same, and
+refused too if the lines are not exactly those of its own table. Exit status 1 if any file is refused.
 
   tile check samples/second-origin.nbt
+  tile check samples/broken-character.nbt
   find world -name '*.dat' -print0 | xargs -0 tile check >report.txt
 ";
 

@@ -3,7 +3,7 @@ use std::ffi::OsStr;
 use std::fs::File;
 use std::io::{self, Read, Write};
 use std::process::{Child, Command, Stdio};
-use tikfazrul::{Refusal, LINE, MAX_DOCUMENT, MAX_RECORDS};
+use tikfazrul::{Broken, Refusal, LINE, MAX_DOCUMENT, MAX_RECORDS};
 
 /// Why there is no document to be had from a file.
 pub enum Trouble {
@@ -15,6 +15,8 @@ pub enum Trouble {
     Refused(Refusal, Vec<u8>),
     /// The library refuses these lines, or what is done with their table; with the bytes that the place counts.
     Lines(String, Refusal, Vec<u8>),
+    /// The table of these lines has a name or a string that can't be read; with the document's bytes, and which it is.
+    Unreadable(String, Refusal, Vec<u8>, Box<Broken>),
     /// These lines have eight words each, and the library can move them to nine; with the bytes that the place counts, and the command.
     OldLines(String, Refusal, Vec<u8>, String),
     /// The library refuses to move these lines; with their bytes, and how many the document is said to have.

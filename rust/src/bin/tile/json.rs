@@ -2,7 +2,7 @@
 use crate::input::Trouble;
 use crate::show;
 use std::fmt::Write;
-use tikfazrul::{Change, Kind, Node, Place, Refusal, Rescued, Trail};
+use tikfazrul::{Broken, Change, Kind, Node, Part, Place, Refusal, Rescued, Trail};
 
 pub fn string(text: &str) -> String {
     let mut json = String::from("\"");
@@ -89,7 +89,14 @@ pub fn trouble(trouble: &Trouble) -> String {
     match trouble {
         Trouble::Io(words) => format!("\"error\":{}", string(words)),
         Trouble::Packed(words) => format!("\"message\":{}", string(words)),
-        Trouble::Refused(refusal, _) | Trouble::Unmoved(refusal, ..) => refused(refusal, &refusal.to_string()),
+        Trouble::Refused(refusal, bytes) => {
+            let broken = refusal.broken(bytes).map_or(String::new(), |broken| unreadable(&broken));
+            format!("{}{broken}", refused(refusal, &refusal.to_string()))
+        }
+        Trouble::Unmoved(refusal, ..) => refused(refusal, &refusal.to_string()),
+        Trouble::Unreadable(lines, refusal, _, broken) => {
+            format!("\"lines\":true,{}{}", refused(refusal, &show::unfit(lines, refusal)), unreadable(broken))
+        }
         Trouble::Lines(lines, refusal, _) | Trouble::OldLines(lines, refusal, ..) => {
             format!("\"lines\":true,{}", refused(refusal, &show::unfit(lines, refusal)))
         }
@@ -102,17 +109,49 @@ fn refused(refusal: &Refusal, message: &str) -> String {
 }
 
 fn at(place: Place, message: &str) -> String {
-    format!("\"place\":{},\"of\":{},\"message\":{}", place.number(), string(sort(place)), string(message))
+    let record = match place {
+        Place::In { record, .. } => format!("\"record\":{record},"),
+        _ => String::new(),
+    };
+    format!("\"place\":{},\"of\":{},{record}\"message\":{}", place.number(), string(sort(place)), string(message))
+}
+
+/// Which name or string it is that can't be read, and the bytes at fault: the first is the place.
+fn unreadable(broken: &Broken) -> String {
+    let part = match broken.part {
+        Part::RootName => "root name",
+        Part::Name => "name",
+        Part::String => "string",
+    };
+    format!(",\"path\":{},\"part\":{},\"length\":{}", string(&broken.path), string(part), broken.bytes.len())
 }
 
 /// What a place counts.
 fn sort(place: Place) -> &'static str {
     match place {
-        Place::Byte(_) => "byte",
+        Place::Byte(_) | Place::In { .. } => "byte",
         Place::Record(_) => "record",
         Place::Query(_) => "query",
         Place::Text(_) => "text",
         Place::Line(_) => "line",
         Place::Whole => "whole",
+    }
+}
+
+#[cfg(test)]
+mod tests {
+    use super::*;
+
+    /// What only a write refuses so, and no command that writes speaks JSON as yet.
+    #[test]
+    fn a_record_stands_beside_its_byte() {
+        let refusal = Refusal::InvalidString(Place::In { byte: 23, record: 1 });
+        let broken = Broken { path: "root/a".to_owned(), part: Part::String, bytes: 23..25 };
+        let json = trouble(&Trouble::Unreadable("the lines in x".to_owned(), refusal, Vec::new(), Box::new(broken)));
+        assert!(
+            json.starts_with(r#""lines":true,"refusal":4,"place":23,"of":"byte","record":1,"message":"the lines in x don't fit: "#),
+            "{json}"
+        );
+        assert!(json.ends_with(r#"(refusal 4)","path":"root/a","part":"string","length":2"#), "{json}");
     }
 }

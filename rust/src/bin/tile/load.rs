@@ -23,9 +23,11 @@ impl Loaded {
 
     /// What is refused of a table that was taken from lines is the lines' fault.
     pub fn refused(&self, refusal: Refusal) -> Trouble {
-        match &self.lines {
-            Some(lines) => Trouble::Lines(lines.clone(), refusal, Vec::new()),
-            None => Trouble::Refused(refusal, self.input.bytes.clone()),
+        let bytes = &self.input.bytes;
+        match (&self.lines, refusal.broken_in(bytes, &self.table)) {
+            (Some(lines), Some(broken)) => Trouble::Unreadable(lines.clone(), refusal, bytes.clone(), Box::new(broken)),
+            (Some(lines), None) => Trouble::Lines(lines.clone(), refusal, Vec::new()),
+            (None, _) => Trouble::Refused(refusal, bytes.clone()),
         }
     }
 }

@@ -2,7 +2,7 @@
 use crate::input::Trouble;
 use std::ffi::OsStr;
 use std::io::{self, Write};
-use tikfazrul::{quoted, Change, Kind, Link, Node, Place, Refusal, Rescued};
+use tikfazrul::{hex, quoted, Change, Kind, Link, Node, Place, Refusal, Rescued};
 
 /// How many characters of a string, and elements of an array, are shown unless all are asked for.
 const CHARACTERS: usize = 60;
@@ -127,20 +127,27 @@ pub fn trouble(trouble: &Trouble) -> String {
         Trouble::Io(words) => words.clone(),
         Trouble::Packed(words) => format!("refused: {words}"),
         Trouble::Lines(lines, refusal, bytes) => format!("refused: {}{}", unfit(lines, refusal), window(refusal, bytes)),
+        Trouble::Unreadable(lines, refusal, bytes, broken) => {
+            format!("refused: {}, {broken}\n{}", unfit(lines, refusal), hex::window_of(bytes, broken.bytes.clone()))
+        }
         Trouble::OldLines(lines, refusal, bytes, command) => {
             format!("refused: {}{}\n{command} brings them along", unfit(lines, refusal), window(refusal, bytes))
         }
         Trouble::Unmoved(refusal, bytes, length) => format!("refused: {refusal}{}{}", said(refusal, *length), window(refusal, bytes)),
         Trouble::Foreign(lines, first) => format!("refused: {}", foreign(lines, *first)),
-        Trouble::Refused(refusal, bytes) => {
-            let position = match refusal.place() {
-                Place::Text(at) => position(bytes, at),
-                _ => String::new(),
-            };
-            let hint = refusal.hint(bytes).map_or(String::new(), |hint| format!("; {hint}"));
-            format!("refused: {refusal}{position}{hint}{}", window(refusal, bytes))
-        }
+        Trouble::Refused(refusal, bytes) => format!("refused: {refusal}{}{}", whereabouts(refusal, bytes), window(refusal, bytes)),
     }
+}
+
+/// What the bytes tell beside the refusal: where in a text it is and what would be taken there, or which name or string can't be read.
+fn whereabouts(refusal: &Refusal, bytes: &[u8]) -> String {
+    let position = match refusal.place() {
+        Place::Text(at) => position(bytes, at),
+        _ => String::new(),
+    };
+    let hint = refusal.hint(bytes).map_or(String::new(), |hint| format!("; {hint}"));
+    let broken = refusal.broken(bytes).map_or(String::new(), |broken| format!(", {broken}"));
+    format!("{position}{hint}{broken}")
 }
 
 /// What to look at where lines form no table: the length that they were judged by.
