@@ -149,6 +149,20 @@ def rooms():
             yield refused(doc + bytes(5), number, len(doc))
 
 
+def characters():
+    """A broken character in the container that is 512 deep: 4 at that character (02, [3]), before the 7 of what is so named, but after the 7
+    of what holds it."""
+    some = list(listing.broken_strings())[5::97]
+    way, below = way_to([COMPOUND] * DEPTH), way_to([COMPOUND] * (DEPTH + 1))
+    for text, place in some:
+        yield refused(way + bytes([COMPOUND]) + string(text), 4, len(way) + 3 + place)
+        yield refused(below + bytes([COMPOUND]) + string(text), 7, len(below))
+    way, below = way_to([COMPOUND] + [LIST] * (DEPTH - 1)), way_to([COMPOUND] + [LIST] * DEPTH)
+    for text, place in some:
+        yield refused(way + b"\x08\0\0\0\2" + string(b"ab") + string(text), 4, len(way) + 11 + place)
+        yield refused(below + b"\x08\0\0\0\1" + string(text), 7, len(below))
+
+
 def cases():
     for shape in SHAPES:
         for d in (DEPTH - 1, DEPTH, DEPTH + 1, DEPTH + 2):
@@ -157,6 +171,7 @@ def cases():
         yield from around(shape)
     yield from branches()
     yield from rooms()
+    yield from characters()
 
 
 def main(folder):

@@ -3,8 +3,8 @@
 
     tests/replay/listing.py crates/listing
 
-The answers are worked out by a second reader, below, that is written from document 01 alone and looks at names entry by entry. It is run
-on the marked documents first, whose answers 01 gives.
+The answers are worked out by a second reader, below, that is written from documents 01 and 02 [3] alone and looks at names entry by entry.
+It is run on the marked documents first, whose answers 01 gives, and on strings whose first fault is placed by hand.
 """
 import random
 import sys
@@ -56,6 +56,11 @@ def well_formed(b):
     return True
 
 
+def readable(b):
+    """How many bytes the longest well-formed start of a string has: where the first sequence that can't be read begins (02, [3])."""
+    return next(n for n in range(len(b), -1, -1) if well_formed(b[:n]))
+
+
 class Reader:
     room, depth = ROOM, DEPTH
 
@@ -69,8 +74,9 @@ class Reader:
 
     def string(self, at):
         n = int.from_bytes(self.field(at, 2), "big")
-        if not well_formed(self.field(at + 2, n)):
-            raise Refused(4, at + 2)
+        good = readable(self.field(at + 2, n))
+        if good < n:
+            raise Refused(4, at + 2 + good)
         return at + 2, n
 
     def count(self, at):
@@ -164,6 +170,86 @@ def string(b):
     return len(b).to_bytes(2, "big") + b
 
 
+# Good characters of one, two, three and six bytes, with U+0000 among them; and what can't be read, with the offset in it at which the first
+# such sequence begins, by 02, [3]: whatever good characters stand before it and behind it, or none.
+CHARACTERS = [b"a", b"\xC3\xA9", b"\xE2\x82\xAC", b"\xED\xA0\xBD\xED\xB8\x80", b"\xC0\x80"]
+FAULTS = [(bytes.fromhex(fault), offset) for fault, offset in [
+    ("00", 0), ("80", 0), ("BF", 0), ("F8", 0), ("FF", 0), ("C080 00", 2), ("E282AC 82", 3),  # at their own offsets
+    ("C3", 0), ("E2", 0), ("E282", 0), ("E28261", 0), ("E26182", 0), ("C2 C3A9", 0), ("E2 E282AC", 0), ("C300", 0), ("E282FF", 0),  # at the lead
+    ("C1BF", 0), ("C081", 0), ("E09FBF", 0), ("E08080", 0),  # overlong
+    ("F09F9880", 0), ("F48FBFBF", 0), ("F09F98", 0),  # four bytes
+    ("EDA0BD", 0), ("EDA0BD EDB8", 0), ("EDA0BD ED", 0), ("EDA0BD 61", 0), ("EDA0BD C080", 0), ("EDAFBF EE8080", 0),  # a high half alone
+    ("EDA0BD 00", 0), ("EDA0BD 80", 0), ("EDA0BD FF", 0), ("EDA0BD EDB861", 0), ("EDA0BD C1BF", 0), ("EDA0BD EDA0BD", 0), ("EDA0BD EDA0BDEDB880", 0),
+    ("EDB880", 0), ("EDBFBF", 0), ("EDB880 EDA0BD", 0), ("EDA0BDEDB880 EDB880", 6), ("EDA0BDEDB880 EDA0BD", 6),  # a low half, and behind a pair
+]]
+
+
+def broken_strings():
+    """Each fault alone, and as the first, a middle and the last of good characters; with its place."""
+    every = b"".join(CHARACTERS)
+    for fault, offset in FAULTS:
+        sides = [(b"", b""), (every, every)]
+        for c, other in zip(CHARACTERS, CHARACTERS[1:] + CHARACTERS[:1]):
+            sides += [(b"", c), (c, b""), (c, other)]
+        for before, after in sides:
+            yield before + fault + after, len(before) + offset
+
+
+def good_bytes(n, first=0):
+    """So many bytes of good characters of every length in turn."""
+    out = b""
+    while len(out) < n:
+        c = CHARACTERS[first % len(CHARACTERS)]
+        out, first = out + (c if len(out + c) <= n else b"a"), first + 1
+    return out
+
+
+def far_strings():
+    """Faults behind and before many good characters; with their places."""
+    for i, (fault, offset) in enumerate(FAULTS):
+        for far in (14, 15, 16, 17, 62, 63, 64, 65, 127, 128, 200):
+            before = b"a" * far if (i + far) % 3 == 0 else good_bytes(far, i)
+            yield before + fault + good_bytes((i + far) % 5 * 30), far + offset
+
+
+def broken_documents():
+    """Documents with one broken string in each spot that a string has: the root's name, an entry's, a payload, an element; with its place."""
+    spots = [
+        (b"\x0A", b"\0"),
+        (bytes.fromhex("0A000161 01000162 07 08"), bytes.fromhex("000178 00")),
+        (bytes.fromhex("0A0000 0A000162 0800026162"), bytes.fromhex("01000162 07 00 00")),
+        (bytes.fromhex("0A0000 09000162 0800000003 0002C3A9"), bytes.fromhex("000178 00")),
+    ]
+    for text, place in broken_strings():
+        for head, tail in spots:
+            yield head + string(text) + tail, len(head) + 2 + place
+    for i, (text, place) in enumerate(far_strings()):
+        head, tail = spots[i % 4]
+        yield head + string(text) + tail, len(head) + 2 + place
+
+
+def of_characters():
+    """The place of refusal 4, by hand (02, [3]); and what comes before it and what does not, its order being 01's."""
+    for doc, place in broken_documents():
+        assert listed(1, doc.hex()) == [f"doc 1 refused 4 {place}"], (doc.hex(), place)
+        yield doc.hex()
+    many = bytes.fromhex("0A0000090000 01") + (510).to_bytes(4, "big") + bytes(510)  # as many records as there is room for
+    for line, number, place in [
+        ("0A0003 61FF", 1, 3), ("0A0000 0D0003 61FF", 1, 6), ("0A0000 08000161 0003 61FF", 1, 9),  # the content is not whole
+        ("0A0000 0D0002 61FF", 4, 7), ("0A0000 FF0004 61E282AC 07", 3, 3), ("090002 61FF", 2, 0),  # an id that no tag has
+        ("0A0000 010002 61FF 07 010002 61FF 07 00", 4, 7),  # a name twice
+        ("0A0000 01000161 07 08000161 0002 61FF 00", 6, 8), ("0A0000 01000161 07 08000162 0002 61FF 00", 4, 15),
+        ("0A0003 61FF00 00", 4, 4), ("0A0003 6100FF 00", 4, 4), ("0A0004 61EDA0BD", 4, 4),  # two faults in a string
+        ("0A0002 61FF 080002 62FF 0002 63FF 00", 4, 4), ("0A0001 61 080002 62FF 0002 63FF 00", 4, 8), ("0A0001 61 080002 6263 0002 63FF 00", 4, 12),
+        ("0A0000 09000161 0800000003 0000 0001 61 0001 FF 00", 4, 19), ("0A0000 09000161 0D00000001 0001 FF 00", 3, 7),
+        ("0A0000 00 080001 FF", None, 4),  # behind the root's end
+        (many.hex() + "080002 61FF 0002 61FF 00", 4, len(many) + 4), (many.hex() + "08000162 0002 61FF 00", 8, len(many) + 4),
+    ]:
+        line = line.replace(" ", "")
+        assert listed(1, line)[0] == (f"doc 1 refused {number} {place}" if number else f"doc 1 ok {place} 1"), line
+        yield line
+
+
 def random_payload(r, kind, deep):
     if kind <= 6:
         return bytes(r.randrange(256) for _ in range(WIDTH[kind]))
@@ -233,6 +319,7 @@ def cases():
         yield d.hex().upper() if i % 2 else d.hex()
         for _ in range(2):
             yield damaged(r, d).hex()
+    yield from of_characters()
 
 
 def main(folder):

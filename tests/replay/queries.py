@@ -281,6 +281,17 @@ def of_limits(r, cases):
                 cases.put(doc, words, a + b + c)
 
 
+def of_characters(cases):
+    """A name with a broken character is 14 at its step's first byte, wherever that character is (02, [3])."""
+    doc, words = bytes.fromhex("0A00016101000162FF00"), [10, 3, 1, 0, 0, 1, 0, 2, 0, 1, 7, 1, 8, 1, 0, 0, 2, 0]
+    before = [b"", DEEP, named(b"b") + ANY, indexed(1) + named("€".encode())]
+    for i, (text, _) in enumerate([*listing.broken_strings(), *listing.far_strings()]):
+        if i % 5 == 0:
+            steps = before[i % len(before)]
+            cases.put(doc, words, steps + named(text) + before[i % 3], 1)
+            assert cases.answers[-1] == f"refused 14 {len(steps)} 0: {UNTOUCHED}", text.hex()
+
+
 def of_parents(r, cases):
     """A wrong parent (02, [7]): 10, whatever is asked. The climb is no part of a query: its matches are by the tree."""
     some = [b"", DEEP, ANY, DEEP + ANY, named(b"b") + DEEP, DEEP + indexed(0), b"\5"]
@@ -312,6 +323,7 @@ def main(folder):
     of_documents(r, cases)
     of_tables(r, cases)
     of_parents(r, cases)
+    of_characters(cases)
     wanted = ["matches", "nothing", "0 steps", "1 steps", "16 steps", "empty name found", "room exact", "room one short", "two of one name found"]
     wanted += [f"refused {n}" for n in (7, 10, 14, 24)] + ["14 " + why for why in ("seventeenth", "unknown", "cut", "ill-formed", "negative")]
     for key in wanted:

@@ -12,6 +12,7 @@ import random
 import sys
 
 import depths
+import listing
 import tables
 from listing import WIDTH, Refused, random_entries, string
 
@@ -451,6 +452,16 @@ def of_parents(r, cases):
         cases.put(doc, lambda w: w + r.randrange(9))
 
 
+def of_characters(cases):
+    """The reader's place of refusal 4 is handed on (02, [3]); a string that is cut is 1, whatever came of it, and vanishes."""
+    for doc, place in list(listing.broken_documents())[1::37]:
+        cases.put(doc, exact, none, none)
+        assert cases.answers[-1] == f"refused 4 {place} 0: ;; zero", doc.hex()
+    for text, _ in list(listing.broken_strings())[3::23]:
+        cases.put(bytes.fromhex("0A0000 08000162") + string(text + b"a")[:-1])
+        assert cases.answers[-1] == "saved 4 1: 0A000000; 0 0 0; zero", text.hex()
+
+
 def at_random(r, cases):
     for _ in range(60):
         doc = bytes([COMPOUND]) + string(r.choice([b"", b"root", "Höhe".encode()])) + random_entries(r, r.randrange(1, 4))
@@ -473,6 +484,7 @@ def main(folder):
     deep_ones(r, cases)
     at_random(r, cases)
     of_parents(r, cases)
+    of_characters(cases)
     for key in ["saved"] + [f"refused {n}" for n in (2, 3, 4, 5, 6, 7, 8, 13, 24, 31, 32)]:
         assert cases.seen.get(key, 0) >= 8, key
     open(folder + "/stdin", "w", newline="").write("\n".join(cases.lines) + "\n")

@@ -3,15 +3,15 @@
 
     tests/replay/tables.py crates/replay_tables
 
-The answers are worked out by a second check and a second writer, below, that are written from documents 01 and 02 [7] alone: the check goes
-down the tree, then down it once more for the parents; the writer keeps the names of each open compound. Refusal 9 can't occur here, for no
-line is that long; tests/ffi/write.c has it.
+The answers are worked out by a second check and a second writer, below, that are written from documents 01 and 02 [3] and [7] alone: the
+check goes down the tree, then down it once more for the parents; the writer keeps the names of each open compound. Refusal 9 can't occur
+here, for no line is that long; tests/ffi/write.c has it.
 """
 import random
 import sys
 
 import listing
-from listing import WIDTH, Refused, string, well_formed
+from listing import WIDTH, Refused, readable, string
 
 KIND, NAME, NAME_LENGTH, START, LENGTH, COUNT, LIST_KIND, END, PARENT = range(9)
 WORDS = 9  # of a record, the parent's number being the last
@@ -87,11 +87,13 @@ def is_table(size, words):
     return [row[PARENT] for row in rows] == parents(rows)
 
 
-def fine(text, i):
-    if len(text) > 65535:
+def fine(doc, start, length, i):
+    """A name or string of record i: 12 at the record; 4 at the document's offset, with the record beside it (02, [3])."""
+    if length > 65535:
         raise Refused(12, i)
-    if not well_formed(text):
-        raise Refused(4, i)
+    good = readable(doc[start:start + length])
+    if good < length:
+        raise Refused(4, start + good, i)
 
 
 def judge(doc, rows):
@@ -100,8 +102,8 @@ def judge(doc, rows):
     for i, (kind, name, name_len, start, length, _, list_kind, end, _) in enumerate(rows):
         while opened and opened[-1][0] == i:
             opened.pop()
+        fine(doc, name, name_len, i)
         text = doc[name:name + name_len]
-        fine(text, i)
         if opened and opened[-1][1] == 10:
             if text in opened[-1][3]:
                 raise Refused(6, i)
@@ -111,7 +113,7 @@ def judge(doc, rows):
         if opened and opened[-1][1] == 9 and kind != opened[-1][2]:
             raise Refused(11, i)
         if kind == 8:
-            fine(doc[start:start + length], i)
+            fine(doc, start, length, i)
         if kind in (9, 10):
             opened.append((end, kind, list_kind, set()))
 
@@ -152,11 +154,11 @@ class Cases:
             out, answer = written(whole, words), None
             size = len(out)
         except Refused as e:
-            out, answer, size = b"", e.args, 12
+            out, answer, size = b"", (*e.args, 0)[:3], 12  # beside all but 4 there is 0
         space = size if room is None else max(0, room(size)) if callable(room) else room
         if answer is None and len(out) > space:
-            out, answer = b"", (13, 0)
-        said = f"written {len(out)}" if answer is None else f"refused {answer[0]} {answer[1]}"
+            out, answer = b"", (13, 0, 0)
+        said = f"written {len(out)}" if answer is None else "refused %d %d %d" % answer
         line = f"{doc.hex()} {more} " + "".join(f"{w:08x}" for w in words) + f" {space}"
         assert len(line) <= 65536 and len(whole) <= 70000 and space <= 70000 and len(words) <= 9216
         self.lines.append(line)
@@ -167,7 +169,12 @@ class Cases:
     def no_table(self, doc, words, more=0):
         """A case of words of which it is known beforehand that they form no table."""
         self.put(doc, words, 4, more)
-        assert self.answers[-1] == "none refused 10 0 AAAAAAAA", (doc, words)
+        assert self.answers[-1] == "none refused 10 0 0 AAAAAAAA", (doc, words)
+
+    def refused(self, doc, rows, answer, room=4, more=0):
+        """A case of a table of which it is known beforehand by what number, at what place and beside what record it is refused."""
+        self.put(doc, flat(rows), room, more)
+        assert self.answers[-1] == "table refused %d %d %d " % answer + "AA" * room, (doc, rows, self.answers[-1])
 
 
 def flat(rows):
@@ -489,6 +496,97 @@ def of_lengths(cases):
             cases.no_table(LETTERS, flat(row[PARENT:] + row[:PARENT] for row in rows))
 
 
+HEAD = b"abcdefgh"  # good names and strings, before what is broken
+SPOTS = [("root", 0), ("name", 1), ("text", 1), ("element", 4)]  # with their records
+
+
+def with_strings(root=(0, 1), name=(1, 1), text=(2, 1), element=(3, 1)):
+    """A table with a string in each spot, each a span: the root's name; the name and the payload of record 1; the payload of record 4, the
+    second element of a list."""
+    return [[10, *root, 0, 0, 2, 0, 5, 0], [8, *name, *text, 0, 0, 2, 0], [9, 4, 1, 0, 0, 2, 8, 5, 0], [8, 0, 0, 0, 2, 0, 0, 4, 2],
+            [8, 0, 0, *element, 0, 0, 5, 2]]
+
+
+def and_behind(rows, name, text):
+    """The table with one entry more in its root: a string behind all else."""
+    root, n = rows[0], len(rows)
+    return [root[:COUNT] + [root[COUNT] + 1, 0, n + 1, 0]] + rows[1:] + [[8, *name, *text, 0, 0, n + 1, 0]]
+
+
+def of_characters(cases):
+    """The place of refusal 4 and the record beside it, by hand (02, [3])."""
+    cases.put(HEAD, flat(with_strings()))
+    for text, place in listing.broken_strings():
+        span = len(HEAD), len(text)
+        for spot, record in SPOTS:
+            cases.refused(HEAD + text + b"z", with_strings(**{spot: span}), (4, len(HEAD) + place, record))
+    for i, (text, place) in enumerate(listing.far_strings()):
+        spot, record = SPOTS[i % 4]
+        cases.refused(HEAD + text, with_strings(**{spot: (len(HEAD), len(text))}), (4, len(HEAD) + place, record))
+    cases.refused(HEAD + b"a" * 32000 + b"\xE2\x82", with_strings(text=(8, 32002)), (4, 32008, 1))
+
+
+def of_spans(cases):
+    """Every span of a few bytes as a name or a string: spans that overlap, begin or end within a character, and hold one fault or more."""
+    doc = HEAD + bytes.fromhex("61 C3A9 E282AC EDA0BDEDB880 00 EDA0BD 62 FF")
+    for start in range(len(doc) + 1):
+        for end in range(max(start, len(HEAD)), len(doc) + 1):
+            cases.put(doc, flat(with_strings(**{SPOTS[(start + end) % 4][0]: (start, end - start)})))
+    doc = HEAD + b"ab\xFFc\x80"  # spans with a fault in common, at another offset in each
+    for name, text, answer in [
+        ((8, 5), (9, 4), (4, 10, 1)), ((9, 2), (8, 5), (4, 10, 1)), ((11, 2), (10, 3), (4, 12, 1)), ((12, 1), (8, 5), (4, 12, 1)),
+        ((8, 2), (8, 5), (4, 10, 1)), ((11, 1), (11, 2), (4, 12, 1)), ((8, 2), (8, 1), (4, 10, 4)),
+    ]:
+        cases.refused(doc, with_strings(name=name, text=text, element=(9, 3)), answer)
+
+
+def of_order(cases):
+    """What comes before refusal 4 and what does not: rule 8's order stays, whatever the places are."""
+    doc = HEAD + b"ab\xFF" + b"c\x80" + b"defg\0"
+    first, second, third = (8, 3), (11, 2), (13, 5)  # their faults are at 10, 12 and 17
+    for spots, answer in [
+        # a bad name and a bad string in one record: the name's, before or behind the string's in the document
+        (dict(name=first, text=second), (4, 10, 1)), (dict(name=second, text=first), (4, 12, 1)), (dict(name=third, text=third), (4, 17, 1)),
+        # records in turn, wherever their strings stand
+        (dict(root=third, name=second, text=first), (4, 17, 0)), (dict(text=third, element=first), (4, 17, 1)),
+        (dict(name=second, element=first), (4, 12, 1)), (dict(root=third, element=first), (4, 17, 0)), (dict(element=second), (4, 12, 4)),
+    ]:
+        for room in (0, 1, 60):  # 13 comes last
+            cases.refused(doc, with_strings(**spots), answer, room)
+        cases.no_table(doc, with_parent(with_strings(**spots), 1, 1))
+    for spot, record in SPOTS:  # a byte of room too few, without the fault and with it
+        cases.put(doc, flat(with_strings(**{spot: (8, 2)})), lambda n: n - 1)
+        cases.refused(doc, with_strings(**{spot: first}), (4, 10, record), len(laid(doc, with_strings(**{spot: first}), 0, True)) - 1)
+    long = (8, 65536)
+    for spots, answer in [
+        # 12 in the same record: the name's, the string's, and that of a string which is ill-formed too
+        (dict(name=long, text=first), (12, 1, 0)), (dict(name=first, text=long), (4, 10, 1)), (dict(text=long), (12, 1, 0)),
+        # and in another one
+        (dict(root=long, text=first), (12, 0, 0)), (dict(name=long, element=first), (12, 1, 0)), (dict(text=long, element=first), (12, 1, 0)),
+        (dict(root=first, text=long), (4, 10, 0)), (dict(text=first, element=long), (4, 10, 1)), (dict(name=first, element=long), (4, 10, 1)),
+    ]:
+        cases.refused(doc, with_strings(**spots), answer, more=65536)
+    # 6 in the same record, before it and behind it; and two entries of one bad name
+    again = (4, 1)  # the list's own name
+    cases.refused(doc, and_behind(with_strings(), again, first), (6, 5, 0))
+    cases.refused(doc, and_behind(with_strings(name=again), (5, 1), first), (6, 2, 0))
+    cases.refused(doc, and_behind(with_strings(text=first), again, second), (4, 10, 1))
+    cases.refused(doc, and_behind(with_strings(name=first), first, (0, 1)), (4, 10, 1))
+    # 11, of a string in a list of bytes: in the same record, before it and behind it
+    for spots, answer in [(dict(element=first), (11, 4, 0)), (dict(), (11, 4, 0)), (dict(text=first), (4, 10, 1))]:
+        rows = with_strings(**spots)
+        rows[2][LIST_KIND], rows[3][KIND], rows[3][LENGTH] = 1, 1, 1
+        cases.refused(doc, and_behind(rows, (5, 1), second), answer)
+    # 7: the name of the container at depth 513, of the one that holds it, and a string behind both
+    for at, answer in [(512, (4, 10, 512)), (511, (4, 10, 511)), (None, (7, 512, 0))]:
+        rows = chain(513, 10)
+        if at:
+            rows[at][NAME:START] = first
+        cases.refused(doc, and_behind(rows, (5, 1), second), answer)
+    cases.refused(doc, and_behind(chain(513, 9), (5, 1), second), (7, 512, 0))
+    cases.refused(doc, and_behind(chain(512, 9), (5, 1), second), (4, 12, 512))
+
+
 def main(folder):
     sys.setrecursionlimit(20000)
     r = random.Random(20261116)
@@ -514,6 +612,9 @@ def main(folder):
     of_parents(r, cases)
     before_all_else(cases)
     of_lengths(cases)
+    of_characters(cases)
+    of_spans(cases)
+    of_order(cases)
     cases.put(bytes.fromhex("0A00016101000162FF00"), [10, 3, 1, 0, 0, 1, 0, 2, 0, 1, 7, 1, 8, 1, 0, 0, 2, 0])
     for key in ["table", "none", "written"] + [f"refused {n}" for n in (4, 6, 7, 10, 11, 12, 13)]:
         assert cases.seen.get(key, 0) >= 50, key

@@ -1,8 +1,8 @@
 // Replays recorded answers on tables. A line of input has four fields, each after a blank but the first: a document in hexadecimal digits; a
 // decimal number of bytes `a` that follow it; the table's words, of eight hexadecimal digits each; and the room of the output in bytes,
-// decimal. For each line it prints whether the words form a table, the writer's answer, the whole output after the write, which was filled
-// with AA before, and whether the table's words changed. The answers in stdout are of a second check and a second writer:
-// tests/replay/tables.py made them.
+// decimal. For each line it prints whether the words form a table; the writer's answer, of a refusal its number, its place and the record
+// beside it (02, [3]); the whole output after the write, which was filled with AA before; and whether the table's words changed. The answers
+// in stdout are of a second check and a second writer: tests/replay/tables.py made them.
 ghost use mathlib.Core.Path.{_≡_};
 ghost use lib.ListN.{length};
 use lines::Line;
