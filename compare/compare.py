@@ -104,6 +104,7 @@ def large_documents():
 
 def documents(r, quick):
     yield from large_documents()
+    yield from (doc for doc, _ in listing.broken_documents())
     alphabet = bytes.fromhex("000102030708090A0B0C0DFF61")
     for n in range(4 if quick else 6):
         for body in itertools.product(alphabet, repeat=n):
@@ -240,6 +241,7 @@ def texts(r, quick):
 # ---- strings, by the JDK
 
 def strings(r, quick):
+    yield from (text for text, _ in [*listing.broken_strings(), *listing.far_strings()])
     edges = bytes.fromhex("00017F808F909FA0AFB0BFC0C1C2DFE0EDEFF0F4F8FF")
     for n in range(3 if quick else 5):
         for body in itertools.product(edges, repeat=n):
@@ -271,7 +273,7 @@ def chunk(job):
     refusals, entries, wrong = collections.Counter(), collections.Counter(), []
     for case, line in zip(cases, lines):
         ours, theirs = ours_of(lib, case), theirs_of(line)
-        refusals[int(ours.split(" ")[1]) if ours[0] == "r" else "refused" if ours == "bad" else "accepted"] += 1
+        refusals[int(ours.split(" ")[1]) if ours[0] == "r" else "refused" if ours.startswith("bad") else "accepted"] += 1
         if ours == theirs or same_but_place(ours, theirs):
             continue
         entry = entry_of(case, ours, theirs)

@@ -25,9 +25,9 @@ class Library:
         return f"refused {self.answer[0]} {self.answer[1]}"
 
     def string(self, s):
-        """Whether a string's content is modified UTF-8."""
+        """Whether a string's content is modified UTF-8, or where it is not."""
         self.lib.tikfazrul_check_mutf8(s, len(s), self.answer)
-        return "bad" if self.answer[0] else "ok"
+        return f"bad {self.answer[1]}" if self.answer[0] else "ok"
 
     def rewrite(self, doc):
         """Reads a document and writes it: the bytes consumed and what is written."""

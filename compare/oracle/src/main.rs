@@ -8,7 +8,8 @@
 //! | `lex STOPS START HEX` | `tok KIND VALUE INDEX WIDTH NEXT`, `end NEXT`, or `err KIND INDEX REACH` |
 //!
 //! Also `panic MESSAGE`, `abort alloc`, `abort stack`, `bad hex`, `bad utf8`, `bad line`, `bad start`. The crate keeps no place for some
-//! refusals: PLACE is worked out from the fields that it read; INDEX is `-` where there is none; REACH is how far its lexer had come.
+//! refusals: PLACE is worked out from the fields that it read, and within a string by the stand-in for cesu8; INDEX is `-` where there is
+//! none; REACH is how far its lexer had come.
 //! Two processes: a supervisor, and a worker with a large stack under a limit of memory; if that dies, the answer says so.
 use quartz_nbt::{io, io::Flavor, io::NbtIoError, snbt, NbtCompound, NbtTag};
 use std::{
@@ -253,15 +254,23 @@ fn read(bytes: &[u8]) -> Result<(NbtCompound, String, usize), String> {
     let mut r = Fields { data: bytes, at: 0, last: [(0, 0); 3] };
     match io::read_nbt(&mut r, Flavor::Uncompressed) {
         Ok((root, name)) => Ok((root, name, r.at)),
-        Err(e) => Err(describe(&e, &r.last)),
+        Err(e) => Err(describe(&e, bytes, &r.last)),
     }
 }
 
+/// The length of the longest start of a string that the stand-in for cesu8 takes: there the first sequence that can't be read begins.
+fn readable(s: &[u8]) -> usize {
+    (0..=s.len()).rev().find(|&n| cesu8::from_java_cesu8(&s[..n]).is_ok()).unwrap()
+}
+
 /// `err VARIANT DETAIL PLACE`: PLACE is worked out from the fields read.
-fn describe(e: &NbtIoError, last: &[(usize, usize); 3]) -> String {
+fn describe(e: &NbtIoError, data: &[u8], last: &[(usize, usize); 3]) -> String {
     match e {
         NbtIoError::StdIo(e) => format!("err StdIo {:?} {}", e.kind(), last[0].0),
-        NbtIoError::InvalidCesu8String => format!("err InvalidCesu8String - {}", last[0].0),
+        NbtIoError::InvalidCesu8String => {
+            let (start, len) = last[0];
+            format!("err InvalidCesu8String - {}", start + readable(&data[start..start + len]))
+        }
         NbtIoError::TagTypeMismatch { found, .. } => format!("err TagTypeMismatch {found} {}", last[0].0),
         NbtIoError::InvalidTagId(id) => {
             // A list's id and count, or an entry's id, length and name.
