@@ -24,14 +24,14 @@ use Rattle.form.proofs.Picks.{differ}
 use Rattle.form.proofs.Answer.{got-no}
 use Rattle.form.proofs.Strings.{string-judged, isGood-iff, isGood-not, wellFormed-iff}
 use Rattle.form.proofs.Tables.{table-sits, table-length}
-use Rattle.form.proofs.Writing.{Broken, Blamed, judged-only, only-no}
+use Rattle.form.proofs.Writing.{Broken, judged-told}
 use Rattle.form.proofs.Cut.{guard-no}
 use Rattle.snbt_form.specs.Lexing.{hexOf}
 use Rattle.calls.specs.Words.{readWords, besideWords, refusal}
 use Rattle.demands.specs.Characters.{BrokenString, IsReadCharacter, BrokenRecord, in-name, in-string, IsWriteCharacter}
 use Rattle.demands.specs.Characters.{strings, AreStringExamples, reads, AreReadExamples, writes, AreWriteExamples}
 use Rattle.demands.specs.Marked.{ascii, bytesIn}
-use Rattle.demands.proofs.Answers.{of-no}
+use Rattle.form.proofs.Answers.{of-no}
 use Rattle.demands.proofs.Documents.{document-sound}
 
 -- ---- reading
@@ -83,7 +83,7 @@ written-broken doc t i room n e = go (judged doc depthLimit false 0 none 0 root)
     go (no m p) j f =
         let number : m ≡ badString = cc in
         let place : p ≡ n = cc in
-        let b = only-no (Blamed doc t 0 (0 + size root)) (judged-only doc t depthLimit false 0 none 0 root (table-sits (length doc) t i)) j in
+        let b = of-no j (judged-told doc t depthLimit false 0 none 0 root (table-sits (length doc) t i)) in
         rw (← place) (omega (arith, b .before, table-length (length doc) t i), b .broken number)
 
 pub write-character : IsWriteCharacter

@@ -18,7 +18,7 @@ use Rattle.form.specs.Reading.{One, Run, Inside, heldOne, hasName, leafAt, leaf
 use Rattle.form.proofs.Fields.{entry-last}
 use Rattle.form.proofs.Digits.{digits-length}
 use Rattle.demands.proofs.Sits.{Sits, sits-first, sits-rest, sits-head}
-use Rattle.demands.proofs.Answers.{Answers, Accepted, bind-answers, guard-answers, got-answers}
+use Rattle.form.proofs.Answers.{Answers, Accepted, bind-answers, guard-answers, got-answers}
 use Rattle.demands.proofs.Tags.{tagOf, readAt, kind-range}
 use Rattle.demands.proofs.Fields.{StringLaw, string-content}
 use Rattle.demands.proofs.Heads.{list-head-read, entry-read}

@@ -26,7 +26,7 @@ use Rattle.form.proofs.Cut.{not-both, begun-compound, RootCut, KeptIs, kept-is}
 use Rattle.demands.specs.Reading.{Bytes}
 use Rattle.demands.specs.Rescue.{counts, cutTag, cutTags, cutEntries, cutDocument, manyEntries, tagLines, elementLines, entryLines, documentLines}
 use Rattle.demands.proofs.Tests.{and-both, and-left-false, and-right-false}
-use Rattle.demands.proofs.Answers.{of-got, accepted}
+use Rattle.form.proofs.Answers.{of-got, accepted}
 use Rattle.demands.proofs.Tags.{tagOf, readAt}
 use Rattle.demands.proofs.Fields.{StringLaw, string-length, string-sound}
 use Rattle.demands.proofs.Heads.{entry-sound}

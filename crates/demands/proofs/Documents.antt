@@ -16,7 +16,8 @@ use Rattle.form.specs.Reading.{One, Span, byteAt, stringAt, documentAt}
 use Rattle.snbt_form.specs.Lexing.{among}
 use Rattle.demands.specs.Reading.{Bytes, Sound}
 use Rattle.demands.proofs.Sits.{Sits, sits-first, sits-rest, sits-join}
-use Rattle.demands.proofs.Answers.{Answers, Accepted, Numbered, other, bind-answers, guard-answers, weaker}
+use Rattle.form.proofs.Answers.{Answers, Accepted, bind-answers, guard-answers, weaker}
+use Rattle.demands.proofs.Answers.{Numbered, other}
 use Rattle.demands.proofs.Tags.{tagOf, readAt}
 use Rattle.demands.proofs.Fields.{StringLaw, string-length, byte-sound, Worded, string-sound, byte-read, string-content, string-read}
 use Rattle.demands.proofs.Complete.{tag-read}

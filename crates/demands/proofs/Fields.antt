@@ -25,7 +25,8 @@ use Rattle.form.proofs.Places.{value-bytes}
 use Rattle.snbt_form.specs.Lexing.{among}
 use Rattle.demands.specs.Reading.{Bytes}
 use Rattle.demands.proofs.Sits.{Sits, sits-first, sits-rest, sits-join, sits-part, sits-head, sits-byte}
-use Rattle.demands.proofs.Answers.{Answers, Numbered, other, bind-answers, guard-answers, readable-answers, got-answers}
+use Rattle.form.proofs.Answers.{Answers, bind-answers, guard-answers, readable-answers, got-answers}
+use Rattle.demands.proofs.Answers.{Numbered, other}
 
 -- the law of strings that both directions rest on: the computed test is the declared one
 abbrev pub StringLaw : Type 0

@@ -19,7 +19,8 @@ use Rattle.form.proofs.Fields.{entry-got, list-head-empty, list-head-got}
 use Rattle.snbt_form.specs.Lexing.{among}
 use Rattle.demands.specs.Reading.{Bytes}
 use Rattle.demands.proofs.Sits.{Sits, sits-join, sits-rest, sits-head}
-use Rattle.demands.proofs.Answers.{Answers, Numbered, other, bind-answers, guard-answers, got-answers}
+use Rattle.form.proofs.Answers.{Answers, bind-answers, guard-answers, got-answers}
+use Rattle.demands.proofs.Answers.{Numbered, other}
 use Rattle.demands.proofs.Tags.{kind-range}
 use Rattle.demands.proofs.Fields.{StringLaw, byte-sound, number-sound, string-sound, string-length, number-read, string-read}
 

@@ -20,7 +20,7 @@ use Rattle.form.proofs.Fields.{entry-within, list-head-within}
 use Rattle.form.proofs.Cut.{elements-cut, kept-element, begun-element, no-element, EntriesCut, in-head, in-payload, later-on, entries-cut, no-entry}
 use Rattle.form.proofs.Cut.{kept-entry, begun-entry, payload-cut, list-cut, compound-cut, begun-list, no-list, begun-compound, begun-leaf}
 use Rattle.demands.specs.Reading.{Bytes}
-use Rattle.demands.proofs.Answers.{of-got}
+use Rattle.form.proofs.Answers.{of-got}
 use Rattle.demands.proofs.Tags.{readAt}
 use Rattle.demands.proofs.Fields.{StringLaw}
 use Rattle.demands.proofs.Heads.{HeadIs, head-sound, NamedIs, entry-sound}

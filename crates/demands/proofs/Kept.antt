@@ -16,7 +16,7 @@ use Rattle.form.specs.Reading.{One, Span, hasName}
 use Rattle.form.specs.Cut.{Kept, nothing, openHead}
 use Rattle.form.proofs.Tables.{fair-node, fair-none, name-within}
 use Rattle.form.proofs.Values.{kind-is, fair-kind, many-is}
-use Rattle.demands.proofs.Answers.{of-got}
+use Rattle.form.proofs.Answers.{of-got}
 use Rattle.demands.proofs.Names.{Apart, apart-back}
 use Rattle.demands.proofs.Induction.{HeadOf, TagWhole, Rules}
 use Rattle.demands.proofs.Sound.{alike}

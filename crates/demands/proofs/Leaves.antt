@@ -22,7 +22,8 @@ use Rattle.form.proofs.Digits.{digits-length, value-digits-below, bits-below, s
 use Rattle.form.proofs.Places.{value-bytes}
 use Rattle.demands.specs.Reading.{Bytes}
 use Rattle.demands.proofs.Sits.{Sits, sits-first, sits-rest, sits-join, sits-part}
-use Rattle.demands.proofs.Answers.{Answers, Accepted, Numbered, bind-answers, weaker, got-answers}
+use Rattle.form.proofs.Answers.{Answers, Accepted, bind-answers, weaker, got-answers}
+use Rattle.demands.proofs.Answers.{Numbered}
 use Rattle.demands.proofs.Fields.{StringLaw, string-length, bytes-sound, count-sound, string-sound, number-read, string-content, string-read}
 
 -- the record of a leaf

@@ -14,7 +14,7 @@ use Rattle.form.specs.Cut.{Kept, nothing, whole, openHead, opened, keptEntries,
 use Rattle.form.proofs.Fields.{string-within}
 use Rattle.form.proofs.Cut.{begun-compound, kept-is}
 use Rattle.demands.specs.Reading.{Bytes}
-use Rattle.demands.proofs.Answers.{of-got}
+use Rattle.form.proofs.Answers.{of-got}
 use Rattle.demands.proofs.Tags.{tagOf, readAt}
 use Rattle.demands.proofs.Fields.{StringLaw, string-length, string-sound}
 use Rattle.demands.proofs.Near.{payload-near}

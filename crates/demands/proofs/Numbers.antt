@@ -28,7 +28,7 @@ use Rattle.snbt_form.proofs.Tokens.{whole-any, token-held}
 use Rattle.demands.specs.Numbers.{writtenNumbers, writeNumbers, writeLinesNumbers, readLinesNumbers, askedNumbers, withinNumbers, queryNumbers, tokenNumbers, contentNumbers}
 use Rattle.demands.specs.Numbers.{IsReadNumbers, IsWriteNumbers, IsWriteRefusals, IsWriteLinesRefusals, IsReadLinesNumbers, IsQueryNumbers, IsWithinNumbers, IsQueryRefusals}
 use Rattle.demands.specs.Numbers.{IsTokenNumbers, IsContentNumbers, IsParseNumbers}
-use Rattle.demands.proofs.Answers.{of-no}
+use Rattle.form.proofs.Answers.{of-no}
 use Rattle.demands.proofs.Documents.{document-sound}
 use Rattle.demands.proofs.Meant.{parsed-fine}
 

@@ -17,7 +17,7 @@ use Rattle.form.specs.Reading.{leafAt, leafOne, listHeadAt, entryAt, elements, 
 use Rattle.form.proofs.Fields.{byte-no, number-no, bytes-got, bytes-no, string-within, entry-within, list-head-within}
 use Rattle.form.proofs.Agrees.{Agrees, agrees-self, agrees-is, agrees-no, bind-agrees, guard-agrees}
 use Rattle.demands.specs.Reading.{Bytes}
-use Rattle.demands.proofs.Answers.{of-got}
+use Rattle.form.proofs.Answers.{of-got}
 use Rattle.demands.proofs.Tags.{readAt}
 use Rattle.demands.proofs.Fields.{StringLaw}
 use Rattle.demands.proofs.Heads.{head-sound, entry-sound}

@@ -16,7 +16,7 @@ use Rattle.form.proofs.Table.{flat-length, size-one}
 use Rattle.demands.specs.Reading.{Bytes}
 use Rattle.demands.specs.Writing.{tableValue}
 use Rattle.demands.specs.Queries.{wordsOf, IsTabled, IsAnswered, Ascends, IsAscending, Among, PathAt, IsExact}
-use Rattle.demands.proofs.Answers.{of-got}
+use Rattle.form.proofs.Answers.{of-got}
 use Rattle.demands.proofs.Tabled.{root-is}
 use Rattle.demands.proofs.Reading.{sound}
 

@@ -18,7 +18,7 @@ use Rattle.form.specs.Reading.{One, documentAt}
 use Rattle.snbt_form.specs.Lexing.{among}
 use Rattle.demands.specs.Reading.{IsSound, IsComplete, IsUnambiguous, IsCanonical, IsNeverZero}
 use Rattle.demands.proofs.Sits.{Sits, sits-front}
-use Rattle.demands.proofs.Answers.{guard-answers, accepted, of-got}
+use Rattle.form.proofs.Answers.{guard-answers, accepted, of-got}
 use Rattle.demands.proofs.Fields.{StringLaw}
 use Rattle.demands.proofs.Canonical.{entries-laid}
 use Rattle.demands.proofs.Documents.{rootAt, document-sound, root-read}

@@ -32,7 +32,7 @@ use Rattle.demands.specs.Reading.{Bytes, Complete}
 use Rattle.demands.specs.Numbers.{readNumbers, rescueNumbers, IsRescueNumbers}
 use Rattle.demands.specs.Rescue.{Whole, SameBut, IsRescuedWhen, IsRescuedLawful, IsRescuedRead, IsRescuedLong, IsRescuedWritten, IsRescuedLined, IsRescuedAll}
 use Rattle.demands.specs.Rescue.{IsRescuedLines, IsCutRefused, IsEveryCut, cutDocument, documentLines, BeginsEntries, IsCutBegins, IsRescuedBegins}
-use Rattle.demands.proofs.Answers.{of-got}
+use Rattle.form.proofs.Answers.{of-got}
 use Rattle.demands.proofs.Fields.{StringLaw, string-length, string-sound}
 use Rattle.demands.proofs.Tags.{readAt}
 use Rattle.demands.proofs.Judged.{value-compound, counted, lawful-root}

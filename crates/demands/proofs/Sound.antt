@@ -20,7 +20,8 @@ use Rattle.form.proofs.Digits.{digits-length}
 use Rattle.snbt_form.specs.Lexing.{among}
 use Rattle.demands.specs.Reading.{Bytes}
 use Rattle.demands.proofs.Sits.{Sits, sits-join, sits-nil}
-use Rattle.demands.proofs.Answers.{Answers, Numbered, other, bind-answers, guard-answers, got-answers, no-answers}
+use Rattle.form.proofs.Answers.{Answers, bind-answers, guard-answers, got-answers, no-answers}
+use Rattle.demands.proofs.Answers.{Numbered, other}
 use Rattle.form.proofs.EachKind.{by-kind}
 use Rattle.demands.proofs.Tags.{tagOf, readAt}
 use Rattle.demands.proofs.Fields.{StringLaw}

@@ -20,7 +20,7 @@ use Rattle.form.specs.Reading.{leafOne, listHeadAt, entryAt, elements, entries,
 use Rattle.form.proofs.Picks.{differ}
 use Rattle.form.proofs.Tables.{fair-node, fair-none, name-within}
 use Rattle.form.proofs.Depths.{shallow-none, shallow-on, shallow-parts, then-got}
-use Rattle.demands.proofs.Answers.{Answers, bind-answers, guard-answers, readable-answers, weaker, got-answers, no-answers}
+use Rattle.form.proofs.Answers.{Answers, bind-answers, guard-answers, readable-answers, weaker, got-answers, no-answers}
 use Rattle.demands.proofs.Tags.{readAt}
 use Rattle.form.proofs.EachKind.{by-kind}
 

@@ -22,7 +22,7 @@ use Rattle.form.proofs.Tables.{table-length, fair-inner}
 use Rattle.demands.specs.Reading.{Complete}
 use Rattle.demands.specs.Writing.{tableValue, IsWrittenLawful, IsLawfulWritten, IsLawfulFull, IsReadBack, IsRewritten, IsDomain}
 use Rattle.demands.proofs.Judged.{then-got, root-lawful, lawful-root, counted}
-use Rattle.demands.proofs.Answers.{of-got}
+use Rattle.form.proofs.Answers.{of-got}
 use Rattle.demands.proofs.Tabled.{root-is}
 use Rattle.demands.proofs.Near.{near}
 use Rattle.demands.proofs.Reading.{canonical, sound, complete}

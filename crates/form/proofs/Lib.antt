@@ -12,6 +12,7 @@ pub mod Utf8
 pub mod Walks
 pub mod Strings
 pub mod Table
+pub mod Answers
 pub mod Fields
 pub mod Payloads
 pub mod Runs

@@ -8,7 +8,7 @@ use mathlib.Core.Path.{_≡_, refl, sym, subst}
 use native.Mathlib.Omega.{arith}
 use borrow.Author.Tests.{eq-eqb, ne-eqb, le-leb, lt-leb, eqb-true}
 use lib.Dec.{leb, ltb, eqb}
-use Rattle.form.specs.Answer.{Out, got, no, _>>_, guard, longString, badString, nameTwice, tooDeep, mixedList, stringLimit}
+use Rattle.form.specs.Answer.{got, no, _>>_, guard, longString, badString, nameTwice, tooDeep, mixedList, stringLimit}
 use Rattle.form.specs.Spans.{part}
 use Rattle.form.specs.Decoding.{wellFormed}
 use Rattle.form.specs.Table.{Head, Forest, none, node, size, _⊕_, headOf, holds}
@@ -16,6 +16,7 @@ use Rattle.form.specs.Records.{Sits}
 use Rattle.form.specs.Reading.{hasName}
 use Rattle.form.specs.Writing.{stringFine, payloadFine, judged}
 use Rattle.form.proofs.Answer.{got-no}
+use Rattle.form.proofs.Answers.{Answers, Any, guard-answers, then-answers, refused-also, got-answers, no-answers}
 use Rattle.form.proofs.Tables.{head-of, sits-first, sits-inner, sits-later}
 
 -- ---- strings
@@ -49,34 +50,6 @@ module _ (doc : List ℕ) (h : Head) (n : ℕ) where
 
 -- ---- which record a refusal means
 
-abbrev Refusal : (ℕ → ℕ → Type 0) → Out (Unit {0}) → Type 0
-Refusal R (got a) = Unit {0}
-Refusal R (no m p) = R m p
-
--- A refusal, if there is one, is of R.
-pub record Only (R : ℕ → ℕ → Type 0) (o : Out (Unit {0})) : Type 0 where
-  it : Refusal R o
-
-module _ {R : ℕ → ℕ → Type 0} where
-  pass-only : Only R (got tt)
-  pass-only = record { it = tt }
-
-  then-only : (o r : Out (Unit {0})) → Only R o → (o ≡ got tt → Only R r) → Only R (o >> r)
-  then-only (got tt) r h f = f refl
-  then-only (no m p) r h f = record { it = h .it }
-
-  guard-only : (t : Bool) (m p : ℕ) (r : Out (Unit {0})) → R m p → Only R r → Only R (guard t m p >> r)
-  guard-only true m p r h f = f
-  guard-only false m p r h f = record { it = h }
-
-  only-also : {S : ℕ → ℕ → Type 0} (o : Out (Unit {0})) → Only R o → ((m p : ℕ) → R m p → S m p) → Only S o
-  only-also (got a) h f = record { it = tt }
-  only-also (no m p) h f = record { it = f m p (h .it) }
-
--- A refusal that was given is of R.
-pub only-no : (R : ℕ → ℕ → Type 0) {o : Out (Unit {0})} {m p : ℕ} → Only R o → o ≡ no m p → R m p
-only-no R h e = (subst (Only R) e h) .it
-
 -- What a record that is refused with 4 has: a name that is not well formed; or a good one, and a string that is not.
 abbrev pub Broken : List ℕ → Head → Type 0
 Broken doc h =
@@ -91,14 +64,14 @@ pub record Blamed (doc t : List ℕ) (n to m p : ℕ) : Type 0 where
 
 module _ (doc : List ℕ) where
   -- A string is refused at the record, and with 4 only where it is not well formed.
-  string-only : (start size n : ℕ) → Only (λ m p. (p ≡ n) × (m ≡ badString → wellFormed (part doc start size) ≡ false)) (stringFine doc start size n)
+  string-told : (start size n : ℕ) → Answers (λ m p. (p ≡ n) × (m ≡ badString → wellFormed (part doc start size) ≡ false)) Any (stringFine doc start size n)
   unfolding stringFine
-  string-only start size n =
-      guard-only (leb size stringLimit) longString n _ (refl, λ e. absurd (omega (arith, e))) (go (wellFormed (part doc start size)))
+  string-told start size n =
+      guard-answers (leb size stringLimit) longString n _ (λ _. (refl, λ e. absurd (omega (arith, e)))) (λ _. go (wellFormed (part doc start size)))
     where
-      go : (b : Bool) → Only (λ m p. (p ≡ n) × (m ≡ badString → b ≡ false)) (guard b badString n)
-      go true = record { it = tt }
-      go false = record { it = (refl, λ e. refl) }
+      go : (b : Bool) → Answers (λ m p. (p ≡ n) × (m ≡ badString → b ≡ false)) Any (guard b badString n)
+      go true = got-answers tt
+      go false = no-answers n (refl, λ e. refl)
 
   -- One that passes is well formed.
   string-passed : (start size n : ℕ) → stringFine doc start size n ≡ got tt → wellFormed (part doc start size) ≡ true
@@ -111,38 +84,38 @@ module _ (doc : List ℕ) where
       go false b e = absurd (got-no (sym e))
 
   -- A payload is refused at the record, and with 4 only where it is a string that is not well formed.
-  payload-only : (h : Head) (n : ℕ)
-      → Only (λ m p. (p ≡ n) × (m ≡ badString → (h .kind ≡ 8) × (wellFormed (part doc (h .start) (h .size)) ≡ false))) (payloadFine doc h n)
+  payload-told : (h : Head) (n : ℕ)
+      → Answers (λ m p. (p ≡ n) × (m ≡ badString → (h .kind ≡ 8) × (wellFormed (part doc (h .start) (h .size)) ≡ false))) Any (payloadFine doc h n)
   unfolding payloadFine
-  payload-only h n = go (eqb (h .kind) 8) refl
+  payload-told h n = go (eqb (h .kind) 8) refl
     where
       go : (b : Bool) → eqb (h .kind) 8 ≡ b
-          → Only (λ m p. (p ≡ n) × (m ≡ badString → (h .kind ≡ 8) × (wellFormed (part doc (h .start) (h .size)) ≡ false)))
+          → Answers {A = Unit {0}} (λ m p. (p ≡ n) × (m ≡ badString → (h .kind ≡ 8) × (wellFormed (part doc (h .start) (h .size)) ≡ false))) Any
           (elim b [ true ↦ stringFine doc (h .start) (h .size) n | false ↦ got tt ])
-      go true k = only-also (stringFine doc (h .start) (h .size) n) (string-only (h .start) (h .size) n) (λ m p w. (w .0, λ e. (eqb-true (h .kind) 8 k, w .1 e)))
-      go false k = pass-only
+      go true k = refused-also (stringFine doc (h .start) (h .size) n) (string-told (h .start) (h .size) n) (λ m p w. (w .0, λ e. (eqb-true (h .kind) 8 k, w .1 e)))
+      go false k = got-answers tt
 
   module _ (t : List ℕ) where
     -- Records that stand in a table are refused at one of them.
-    pub judged-only : (left : ℕ) (list : Bool) (k : ℕ) (earlier : Forest) (n : ℕ) (f : Forest) → Sits t n f
-        → Only (Blamed doc t n (n + size f)) (judged doc left list k earlier n f)
+    pub judged-told : (left : ℕ) (list : Bool) (k : ℕ) (earlier : Forest) (n : ℕ) (f : Forest) → Sits t n f
+        → Answers (Blamed doc t n (n + size f)) Any (judged doc left list k earlier n f)
     unfolding judged size
-    judged-only left list k earlier n none s = pass-only
-    judged-only left list k earlier n (node h inner later) s =
-        then-only (stringFine doc (h .name) (h .name-length) n) _
-        (only-also (stringFine doc (h .name) (h .name-length) n) (string-only (h .name) (h .name-length) n) (λ m p w. here m p (w .0) (λ e. inl (w .1 e))))
-        (λ g. guard-only (list || not (hasName doc (part doc (h .name) (h .name-length)) earlier)) nameTwice n _ (other nameTwice (λ e. omega (arith, e)))
-        (guard-only (not (holds (h .kind)) || ltb 0 left) tooDeep n _ (other tooDeep (λ e. omega (arith, e)))
-        (guard-only (not list || eqb (h .kind) k) mixedList n _ (other mixedList (λ e. omega (arith, e)))
-        (then-only (payloadFine doc h n) _
-        (only-also (payloadFine doc h n) (payload-only h n)
+    judged-told left list k earlier n none s = got-answers tt
+    judged-told left list k earlier n (node h inner later) s =
+        then-answers (stringFine doc (h .name) (h .name-length) n) _
+        (refused-also (stringFine doc (h .name) (h .name-length) n) (string-told (h .name) (h .name-length) n) (λ m p w. here m p (w .0) (λ e. inl (w .1 e))))
+        (λ g. guard-answers (list || not (hasName doc (part doc (h .name) (h .name-length)) earlier)) nameTwice n _ (λ _. other nameTwice (λ e. omega (arith, e)))
+        (λ _. guard-answers (not (holds (h .kind)) || ltb 0 left) tooDeep n _ (λ _. other tooDeep (λ e. omega (arith, e)))
+        (λ _. guard-answers (not list || eqb (h .kind) k) mixedList n _ (λ _. other mixedList (λ e. omega (arith, e)))
+        (λ _. then-answers (payloadFine doc h n) _
+        (refused-also (payloadFine doc h n) (payload-told h n)
         (λ m p w. here m p (w .0) (λ e. inr (string-passed (h .name) (h .name-length) n g, w .1 e .0, w .1 e .1))))
-        (λ _. then-only (judged doc (left - 1) (eqb (h .kind) 9) (h .list-kind) none (n + 1) inner) _
-        (only-also (judged doc (left - 1) (eqb (h .kind) 9) (h .list-kind) none (n + 1) inner)
-        (judged-only (left - 1) (eqb (h .kind) 9) (h .list-kind) none (n + 1) inner (sits-inner t n h inner later s))
+        (λ _. then-answers (judged doc (left - 1) (eqb (h .kind) 9) (h .list-kind) none (n + 1) inner) _
+        (refused-also (judged doc (left - 1) (eqb (h .kind) 9) (h .list-kind) none (n + 1) inner)
+        (judged-told (left - 1) (eqb (h .kind) 9) (h .list-kind) none (n + 1) inner (sits-inner t n h inner later s))
         (λ m p b. record { from = omega (arith, b .from); before = omega (arith, b .before); broken = b .broken }))
-        (λ _. only-also (judged doc left list k (earlier ⊕ node h inner none) (n + 1 + size inner) later)
-        (judged-only left list k (earlier ⊕ node h inner none) (n + 1 + size inner) later (sits-later t n h inner later s))
+        (λ _. refused-also (judged doc left list k (earlier ⊕ node h inner none) (n + 1 + size inner) later)
+        (judged-told left list k (earlier ⊕ node h inner none) (n + 1 + size inner) later (sits-later t n h inner later s))
         (λ m p b. record { from = omega (arith, b .from); before = omega (arith, b .before); broken = b .broken })))))))
       where
         -- The first record itself is refused.

@@ -14,7 +14,8 @@ use Rattle.form.specs.Tables.{IsTable, Within}
 use Rattle.form.specs.Layout.{layout}
 use Rattle.form.specs.Writing.{judged, written, answerOf, WriteGives}
 use Rattle.form.proofs.Tables.{table-sits, table-under, table-length, sits-first, one-tree, record-at}
-use Rattle.form.proofs.Writing.{judged-only, only-no}
+use Rattle.form.proofs.Answers.{of-no}
+use Rattle.form.proofs.Writing.{judged-told}
 use Rattle.table.specs.declared.Verdict.{Verdict}
 use Rattle.table.specs.Check.{VerdictIs}
 use Rattle.nbt_writer.specs.declared.Answer.{Answer}
@@ -57,7 +58,7 @@ module _ (doc t : List ℕ) (small : Within (length doc) t) (i : IsTable (length
     unfolding size
     table-placed {m} {p} g same =
         let z : judged doc depthLimit false 0 none 0 (node (i .head) (i .inner) none) ≡ no m p = rw g at (told (root refl q)) in
-        let b = only-no _ (judged-only doc t depthLimit false 0 none 0 (node (i .head) (i .inner) none) (table-sits (length doc) t i)) z in
+        let b = of-no z (judged-told doc t depthLimit false 0 none 0 (node (i .head) (i .inner) none) (table-sits (length doc) t i)) in
         let x = record-at (length doc) t i p (omega (arith, b .before)) in
         let rows : Rows doc t (x .element) p (p + 1 + size (x .inner)) (node (x .head) (x .inner) none) = record {
           sits = x .sits;

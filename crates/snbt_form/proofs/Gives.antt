@@ -6,6 +6,7 @@ use mathlib.Core.List.{List, [], _∷_}
 use mathlib.Core.Path.{_≡_, refl, sym, subst}
 use lib.Dec.{eqb}
 use borrow.Author.Tests.{eqb-true}
+pub use Rattle.form.proofs.Answers.{Any}
 use Rattle.form.specs.Answer.{Out, got, no, guard, pick, _>>_, _>>=_}
 use Rattle.snbt_form.specs.Lexing.{among}
 
@@ -59,10 +60,6 @@ Case ns P (no n p) = among ns n ≡ true
 -- A value of which P holds, or a refusal with one of the numbers.
 pub record Gives {A : Type 0} (ns : List ℕ) (P : A → Type 0) (o : Out A) : Type 0 where
   it : Case ns P o
-
--- any value
-abbrev pub Any : {A : Type 0} → A → Type 0
-Any a = Unit {0}
 
 module _ {ns : List ℕ} where
   pub gives-got : {A : Type 0} {P : A → Type 0} {a : A} → P a → Gives ns P (got a)
