@@ -50,7 +50,7 @@ abbrev pub readAnswer : Out One → Out (List ℕ)
 readAnswer (got x) = got (x .next ∷ flat 0 0 (node (x .head) (x .inner) none))
 readAnswer (no n p) = no n p
 
--- A write as numbers: the bytes written, of the document as it was read; or the refusal's number and place.
+-- A write as numbers: the bytes written, of the document as it was read; or the refusal's number and where it was judged.
 abbrev pub writeAnswer : List ℕ → Out One → Out (List ℕ)
 writeAnswer doc (got x) = written doc (x .head) (x .inner) 64
 writeAnswer doc (no n p) = no n p
