@@ -7,9 +7,10 @@ use mathlib.Core.List.{List, [], _∷_}
 use mathlib.Core.Bool.{not}
 use lib.Dec.{eqb}
 use lib.ListN.{length}
-use Rattle.form.specs.Answer.{Out, badString, overLimit, badText, Count}
-use Rattle.form.specs.Strings.{scalarBytes, utf8Bytes}
-use Rattle.form.specs.Decoding.{Sequence, Verdict, scalarOf, utf8Of, Judged}
+use Rattle.form.specs.Answer.{Out, overLimit, Count}
+use Rattle.form.specs.Form.{Form, Rule}
+use Rattle.form.specs.Strings.{encOf}
+use Rattle.form.specs.Decoding.{Verdict, oneOf, Judged}
 use Rattle.form.specs.Tables.{IsTable, Within}
 use Rattle.form.specs.Reading.{countsOf, reading, tableAfter}
 use Rattle.form.specs.Writing.{WriteIs, lengthOf, outputAfter}
@@ -22,24 +23,17 @@ use Rattle.snbt_form.specs.Text as text
 use Rattle.snbt_form.specs.Text.{parsed, lengthsOf}
 use Rattle.calls.specs.Words.{accepted, refusal, verdictWords, readWords, countWords, besideWords, rescueWords, tokenWords, stopsOf, parseWords}
 
--- A check of a string of some coding, whose refusal has the number n: accepted exactly if the bytes are the encoding of some scalar
--- values, else refused where the first sequence that can't be read begins.
-pub record StringCalled (enc : ℕ → List ℕ) (one : List ℕ → Sequence) (n : ℕ) (s answer : List ℕ) : Type 0 where
+-- A check of a string by a rule, whose refusal has the number n, which is 4 of a document's string and 15 of a text: accepted exactly if the
+-- bytes are the encoding of some scalar values, else refused where the first sequence that can't be read begins.
+pub record StringCalled (r : Rule) (n : ℕ) (s answer : List ℕ) : Type 0 where
   pub result : Verdict
-  pub judged : Judged enc one s result
+  pub judged : Judged (encOf r) (oneOf r) s result
   pub words-are : answer ≡ verdictWords n result
 
--- The check of modified UTF-8 (refusal 4), and that of UTF-8 (refusal 15).
-abbrev pub Mutf8Called : List ℕ → List ℕ → Type 0
-Mutf8Called s answer = StringCalled scalarBytes scalarOf badString s answer
-
-abbrev pub Utf8Called : List ℕ → List ℕ → Type 0
-Utf8Called s answer = StringCalled utf8Bytes utf8Of badText s answer
-
--- A read (rules 3 to 6): every word of the answer and of the table.
-pub record ReadCalled (doc t t′ answer : List ℕ) : Type 0 where
-  pub answer-is : answer ≡ readWords (countsOf (reading doc t))
-  pub table-is : t′ ≡ tableAfter (reading doc t) t
+-- A read of a document in a form (rules 3 to 6; [2]): every word of the answer and of the table.
+pub record ReadCalled (form : Form) (doc t t′ answer : List ℕ) : Type 0 where
+  pub answer-is : answer ≡ readWords (countsOf (reading form doc t))
+  pub table-is : t′ ≡ tableAfter (reading form doc t) t
 
 -- A check of a table's words over a document of d bytes (rule 7): 9 where a limit is passed; else 1 or 0 in word 2, for whether the words
 -- form a table.
@@ -48,20 +42,20 @@ pub record TableCalled (d : ℕ) (t answer : List ℕ) : Type 0 where
   pub unfit : Within d t → (IsTable d t → ⊥) → answer ≡ accepted
   pub fit : Within d t → IsTable d t → answer ≡ 0 ∷ 0 ∷ 1 ∷ 0 ∷ 0 ∷ 0 ∷ 0 ∷ 0 ∷ []
 
--- A write: rule 8's answer in the words, every byte of the output, and the table as it was.
-pub record WriteCalled (doc t t′ o o′ answer : List ℕ) : Type 0 where
+-- A write in a form: rule 8's answer in the words, every byte of the output, and the table as it was.
+pub record WriteCalled (form : Form) (doc t t′ o o′ answer : List ℕ) : Type 0 where
   pub result : Count
-  pub is : WriteIs doc t o result o′
+  pub is : WriteIs form doc t o result o′
   pub words-are : answer ≡ besideWords result
   pub kept : t′ ≡ t
 
--- A rescue ([11]): every word of the answer and of the changes, every byte of the output, and the table as the read leaves it. The form is
--- not looked at: any number means 01's.
-pub record RescueCalled (form : ℕ) (doc t t′ o o′ c c′ answer : List ℕ) : Type 0 where
-  pub answer-is : answer ≡ rescueWords (sizesOf (rescuing doc t o c))
-  pub table-is : t′ ≡ tableAfter (reading doc t) t
-  pub output-is : o′ ≡ bytesAfter (rescuing doc t o c) o
-  pub changes-is : c′ ≡ linesAfter (rescuing doc t o c) c
+-- A rescue of a document in a form ([11], [2]): every word of the answer and of the changes, every byte of the output, and the table as the
+-- read leaves it.
+pub record RescueCalled (form : Form) (doc t t′ o o′ c c′ answer : List ℕ) : Type 0 where
+  pub answer-is : answer ≡ rescueWords (sizesOf (rescuing form doc t o c))
+  pub table-is : t′ ≡ tableAfter (reading form doc t) t
+  pub output-is : o′ ≡ bytesAfter (rescuing form doc t o c) o
+  pub changes-is : c′ ≡ linesAfter (rescuing form doc t o c) c
 
 -- Writing the lines of a table over a document of d bytes ([6]): the answer in the words, and every byte of the output.
 pub record WriteLinesCalled (d : ℕ) (t o o′ answer : List ℕ) : Type 0 where
@@ -80,10 +74,10 @@ pub record MoveCalled (e : Edition) (d : ℕ) (s o o′ answer : List ℕ) : Typ
   pub is : MoveIs e d s o result o′
   pub words-are : answer ≡ countWords result
 
--- A query: rule 9's answer in the words, and every word of the list.
-pub record QueryCalled (doc t q l l′ answer : List ℕ) : Type 0 where
+-- A query of a document in a form: rule 9's answer in the words, and every word of the list.
+pub record QueryCalled (form : Form) (doc t q l l′ answer : List ℕ) : Type 0 where
   pub result : Count
-  pub is : QueryIs doc t q l result l′
+  pub is : QueryIs form doc t q l result l′
   pub words-are : answer ≡ besideWords result
 
 -- A token (rules 10 to 13), for a stop set by its number.

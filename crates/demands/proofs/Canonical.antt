@@ -2,8 +2,9 @@
 -- Assumes nothing.
 use mathlib.Core.Path.{refl}
 use native.Mathlib.Omega.{arith}
+use Rattle.form.specs.Form.{Form}
 use Rattle.form.specs.Tree.{Tag, Tags, Entries, byte, short, int, long, float, double, byteArray, string, list, compound, intArray, longArray, nil, more, ended, entry}
-use Rattle.form.specs.Layout.{ListId, listId, Payload, Elements, EntryBytes, payload, elementBytes, entryBytes}
+use Rattle.form.specs.Layout.{ListId, listId, PayloadIn, ElementsIn, EntryBytesIn, payloadIn, elementBytesIn, entryBytesIn}
 
 -- the id that a writer gives a list is one that it may carry
 list-id : (ts : Tags) → ListId ts (listId ts)
@@ -11,26 +12,26 @@ list-id nil = omega arith
 list-id (more t ts) = refl
 
 mutual
-  unfolding Payload payload
+  unfolding PayloadIn payloadIn
 
-  pub payload-laid : (t : Tag) → Payload t (payload t)
-  payload-laid (byte v) = refl
-  payload-laid (short v) = refl
-  payload-laid (int v) = refl
-  payload-laid (long v) = refl
-  payload-laid (float b) = refl
-  payload-laid (double b) = refl
-  payload-laid (byteArray vs) = refl
-  payload-laid (string s) = refl
-  payload-laid (list ts) = (listId ts, elementBytes ts, list-id ts, elements-laid ts, refl)
-  payload-laid (compound es) = entries-laid es
-  payload-laid (intArray vs) = refl
-  payload-laid (longArray vs) = refl
+  pub payload-laid : (form : Form) (t : Tag) → PayloadIn form t (payloadIn form t)
+  payload-laid form (byte v) = refl
+  payload-laid form (short v) = refl
+  payload-laid form (int v) = refl
+  payload-laid form (long v) = refl
+  payload-laid form (float b) = refl
+  payload-laid form (double b) = refl
+  payload-laid form (byteArray vs) = refl
+  payload-laid form (string s) = refl
+  payload-laid form (list ts) = (listId ts, elementBytesIn form ts, list-id ts, elements-laid form ts, refl)
+  payload-laid form (compound es) = entries-laid form es
+  payload-laid form (intArray vs) = refl
+  payload-laid form (longArray vs) = refl
 
-  pub elements-laid : (ts : Tags) → Elements ts (elementBytes ts)
-  elements-laid nil = refl
-  elements-laid (more t ts) = (payload t, elementBytes ts, payload-laid t, elements-laid ts, refl)
+  pub elements-laid : (form : Form) (ts : Tags) → ElementsIn form ts (elementBytesIn form ts)
+  elements-laid form nil = refl
+  elements-laid form (more t ts) = (payloadIn form t, elementBytesIn form ts, payload-laid form t, elements-laid form ts, refl)
 
-  pub entries-laid : (es : Entries) → EntryBytes es (entryBytes es)
-  entries-laid ended = refl
-  entries-laid (entry n t es) = (payload t, entryBytes es, payload-laid t, entries-laid es, refl)
+  pub entries-laid : (form : Form) (es : Entries) → EntryBytesIn form es (entryBytesIn form es)
+  entries-laid form ended = refl
+  entries-laid form (entry n t es) = (payloadIn form t, entryBytesIn form es, payload-laid form t, entries-laid form es, refl)

@@ -5,7 +5,7 @@ use Rattle.form.specs.Numbers.{value, digits}
 use Rattle.form.specs.Spans.{same}
 use Rattle.form.specs.Decoding.{twoOf, threeOf, unitOf, pairOf, scalarOf, walk, verdictBy}
 use Rattle.form.specs.Tree.{kindOf, many}
-use Rattle.form.specs.Layout.{intsBytes, payload, elementBytes, entryBytes, layout}
+use Rattle.form.specs.Layout.{intsBytesIn, payloadIn, elementBytesIn, entryBytesIn, layoutIn}
 use Rattle.form.specs.Table.{size, width, _⊕_, widthOf, intsAt, valueBy, tagsOf, entriesOf}
 use Rattle.form.specs.Tables.{firstKind}
 use Rattle.form.specs.Reading.{hasName, byteAt, bytesAt, numberAt, stringAt, countAt, arrayAt, leafAt, leafOne, listHeadAt}
@@ -18,7 +18,7 @@ use Rattle.demands.specs.Cuts.{examples, AreCutExamples}
 pub cut-examples : AreCutExamples
 unfolding examples value digits same kindOf many firstKind
     twoOf threeOf unitOf pairOf scalarOf walk verdictBy
-    intsBytes payload elementBytes entryBytes layout size width _⊕_ widthOf valueBy tagsOf entriesOf intsAt
+    intsBytesIn payloadIn elementBytesIn entryBytesIn layoutIn size width _⊕_ widthOf valueBy tagsOf entriesOf intsAt
     hasName byteAt bytesAt numberAt stringAt countAt arrayAt leafAt leafOne listHeadAt entryAt
     elements entries listAt compoundAt containerAt payloadBy insideAt documentAt
     keptElements keptEntries begunAt keptOf rescued hexOf ascii bytesIn

@@ -11,11 +11,12 @@ use lib.Dec.{leb, eqb}
 use borrow.Author.Tests.{leb-true, eq-eqb}
 use lib.ListN.{length, drop, getD, replicate}
 use lib.Seq.{drop-append-seam}
+use Rattle.form.specs.Form.{Form, Rule}
 use Rattle.form.specs.Answer.{Out, got, no as refused, pick, Count, counted, failed, badString, overLimit, noTable, moreMatches, depthLimit}
 use Rattle.form.specs.Spans.{over}
-use Rattle.form.specs.Decoding.{Sequence, Verdict, good, bad}
+use Rattle.form.specs.Decoding.{Verdict, good, bad}
 use Rattle.form.specs.Table.{Head, Forest, none, node, size, headOf, flat, wrote, valueOf}
-use Rattle.form.specs.Layout.{layout}
+use Rattle.form.specs.Layout.{layout, layoutIn}
 use Rattle.form.specs.Tables.{IsTable, Within}
 use Rattle.form.specs.Reading.{One, countsOf, tableAfter, reading, roomOf}
 use Rattle.form.specs.Writing.{Gives, outputAfter, lengthOf, WriteGives, WriteIs, judged, written, badPlace, answerOf}
@@ -94,26 +95,26 @@ same-changed k old new = go (both (ℕ-discrete (length new) (length old)) (same
 
 -- ---- a read
 
-module _ (doc t : List ℕ) (bytes : Bytes doc) where
+module _ (form : Form) (doc t : List ℕ) (bytes : Bytes doc) where
   -- The records that were read fit the table.
-  read-changed : (x : One) → reading doc t ≡ got x → Changed (9 * (1 + size (x .inner))) t (tableAfter (got x) t)
+  read-changed : (x : One) → reading form doc t ≡ got x → Changed (9 * (1 + size (x .inner))) t (tableAfter (got x) t)
   unfolding wrote
   read-changed x e =
       let f = node (x .head) (x .inner) none in
-      let s = sound doc bytes (roomOf (length t)) x e in
+      let s = sound form doc bytes (roomOf (length t)) x e in
       let long : length (flat 0 0 f) ≡ 9 * (1 + size (x .inner)) = omega (arith, flat-length 0 0 f, size-one (x .head) (x .inner)) in
       over-changed (9 * (1 + size (x .inner))) t (flat 0 0 f) long (omega (arith, long, s .fits, s .records, room-fits (length t)))
 
-  read-each : (t′ a : List ℕ) → ReadCalled doc t t′ a
+  read-each : (t′ a : List ℕ) → ReadCalled form doc t t′ a
       → (Accepts a × Changed (9 * getD a 3 0) t t′) ⊎ (Refuses readNumbers [] a × (t′ ≡ replicate (length t) 0))
-  read-each t′ a r = go (reading doc t) refl (r .answer-is) (r .table-is)
+  read-each t′ a r = go (reading form doc t) refl (r .answer-is) (r .table-is)
     where
-      go : (o : Out One) → reading doc t ≡ o → a ≡ readWords (countsOf o) → t′ ≡ tableAfter o t
+      go : (o : Out One) → reading form doc t ≡ o → a ≡ readWords (countsOf o) → t′ ≡ tableAfter o t
           → (Accepts a × Changed (9 * getD a 3 0) t t′) ⊎ (Refuses readNumbers [] a × (t′ ≡ replicate (length t) 0))
       go (got x) e w k = rw (w, k) (inl ((_, refl, refl), read-changed x e))
-      go (refused n p) e w k = rw w (inr (refuses readNumbers n p (read-numbers doc bytes (roomOf (length t)) n p e), k))
+      go (refused n p) e w k = rw w (inr (refuses readNumbers n p (read-numbers form doc bytes (roomOf (length t)) n p e), k))
 
-  read-answers : Answers (ReadCalled doc t) readNumbers [] t (replicate (length t) 0) (λ a. 9 * getD a 3 0)
+  read-answers : Answers (ReadCalled form doc t) readNumbers [] t (replicate (length t) 0) (λ a. 9 * getD a 3 0)
   read-answers = record {
     one = λ m₁ m₂ a₁ a₂ r s. (r .table-is ∙ sym (s .table-is), r .answer-is ∙ sym (s .answer-is));
     each = read-each;
@@ -168,56 +169,56 @@ left-each numbers o o′ a (refused n p) w l f = rw w (inr (refuses numbers n p 
 -- ---- a write
 
 -- Memory as the answer of a call that counts has it: so many bytes or words have changed, or nothing has.
-abbrev Listed : List ℕ → List ℕ → Count → Type 0
-Listed l l′ (counted n) = Changed n l l′
-Listed l l′ (failed n p c) = l′ ≡ l
+abbrev Listed : Form → List ℕ → List ℕ → Count → Type 0
+Listed form l l′ (counted n) = Changed n l l′
+Listed form l l′ (failed n p c) = l′ ≡ l
 
-same-listed : (l l′ : List ℕ) (r : Count) → Dec (Listed l l′ r)
-same-listed l l′ (counted n) = same-changed n l l′
-same-listed l l′ (failed n p c) = same-list l′ l
+same-listed : (form : Form) (l l′ : List ℕ) (r : Count) → Dec (Listed form l l′ r)
+same-listed form l l′ (counted n) = same-changed n l l′
+same-listed form l l′ (failed n p c) = same-list l′ l
 
 -- The eight words and the memory, by the count or the refusal; `k` is the number that has something beside it.
-listed-each : (numbers : List ℕ) (k : ℕ) (l l′ a : List ℕ) (r : Count) → a ≡ besideWords r → Listed l l′ r
+listed-each : (form : Form) (numbers : List ℕ) (k : ℕ) (l l′ a : List ℕ) (r : Count) → a ≡ besideWords r → Listed form l l′ r
     → ((n p c : ℕ) → r ≡ failed n p c → (among numbers n ≡ true) × ((n ≡ k → ⊥) → c ≡ 0))
     → (Accepts a × Changed (getD a 2 0) l l′) ⊎ (Refuses numbers (k ∷ []) a × (l′ ≡ l))
-listed-each numbers k l l′ a (counted n) w h f = rw w (inl ((_, refl, refl), h))
-listed-each numbers k l l′ a (failed n p c) w h f =
+listed-each form numbers k l l′ a (counted n) w h f = rw w (inl ((_, refl, refl), h))
+listed-each form numbers k l l′ a (failed n p c) w h f =
     let told = f n p c refl in
     rw w (inr (record { number = n; place = p; beside = c; is = refl; one-of = told .0; plain = but-beside k n c (told .1) }, h))
 
 -- What is written fits.
-written-fits : (doc : List ℕ) (h : Head) (inner : Forest) (room : ℕ) (bs : List ℕ) → written doc h inner room ≡ got bs → length bs ≤ room
+written-fits : (form : Form) (doc : List ℕ) (h : Head) (inner : Forest) (room : ℕ) (bs : List ℕ) → written form doc h inner room ≡ got bs → length bs ≤ room
 unfolding written
-written-fits doc h inner room bs e =
-    let a = then-got (judged doc depthLimit false 0 none 0 (node h inner none)) _ e in
-    let b = guard-got (leb (length (layout (valueOf doc h inner))) room) _ _ _ (a .1) in
-    let q : layout (valueOf doc h inner) ≡ bs = cc (b .1) in
-    omega (arith, leb-true (length (layout (valueOf doc h inner))) room (b .0), ap length q)
+written-fits form doc h inner room bs e =
+    let a = then-got (judged form doc depthLimit false 0 none 0 (node h inner none)) _ e in
+    let b = guard-got (leb (length (layoutIn form (valueOf form doc h inner))) room) _ _ _ (a .1) in
+    let q : layoutIn form (valueOf form doc h inner) ≡ bs = cc (b .1) in
+    omega (arith, leb-true (length (layoutIn form (valueOf form doc h inner))) room (b .0), ap length q)
 
 -- What a write gives, if it fits.
-writes-listed : (doc t o o′ : List ℕ) (x : Out (List ℕ)) (r : Count) → ((bs : List ℕ) → x ≡ got bs → length bs ≤ length o) → WriteGives doc t x o r o′ → Listed o o′ r
-writes-listed doc t o o′ x r fits g = rw (g .answer-is, g .output-is) (go x fits)
+writes-listed : (form : Form) (doc t o o′ : List ℕ) (x : Out (List ℕ)) (r : Count) → ((bs : List ℕ) → x ≡ got bs → length bs ≤ length o) → WriteGives form doc t x o r o′ → Listed form o o′ r
+writes-listed form doc t o o′ x r fits g = rw (g .answer-is, g .output-is) (go x fits)
   where
-    go : (x : Out (List ℕ)) → ((bs : List ℕ) → x ≡ got bs → length bs ≤ length o) → Listed o (outputAfter x o) (answerOf doc t x)
+    go : (x : Out (List ℕ)) → ((bs : List ℕ) → x ≡ got bs → length bs ≤ length o) → Listed form o (outputAfter x o) (answerOf form doc t x)
     go (got bs) fits = over-changed (length bs) o bs refl (fits bs refl)
     go (refused m n) fits = by (eqb m badString)
       where
-        by : (b : Bool) → Listed o o (pick b (failed m (badPlace doc (headOf t n)) n) (failed m n 0))
+        by : (b : Bool) → Listed form o o (pick b (failed m (badPlace form doc (headOf t n)) n) (failed m n 0))
         by true = refl
         by false = refl
 
-write-listed : (doc t o : List ℕ) (r : Count) (o′ : List ℕ) → WriteIs doc t o r o′ → Listed o o′ r
-write-listed doc t o r o′ h =
-    in-each-case {W = Within (length doc) t} {T = IsTable (length doc) t} (same-listed o o′ r)
-    (λ w. writes-listed doc t o o′ (refused overLimit 0) r (λ bs e. absurd (got-no (sym e))) (h .large w))
-    (λ w i. writes-listed doc t o o′ (refused noTable 0) r (λ bs e. absurd (got-no (sym e))) (h .unfit w i))
-    (λ w i. writes-listed doc t o o′ (written doc (i .head) (i .inner) (length o)) r (written-fits doc (i .head) (i .inner) (length o)) (h .fit w i))
+write-listed : (form : Form) (doc t o : List ℕ) (r : Count) (o′ : List ℕ) → WriteIs form doc t o r o′ → Listed form o o′ r
+write-listed form doc t o r o′ h =
+    in-each-case {W = Within (length doc) t} {T = IsTable (length doc) t} (same-listed form o o′ r)
+    (λ w. writes-listed form doc t o o′ (refused overLimit 0) r (λ bs e. absurd (got-no (sym e))) (h .large w))
+    (λ w i. writes-listed form doc t o o′ (refused noTable 0) r (λ bs e. absurd (got-no (sym e))) (h .unfit w i))
+    (λ w i. writes-listed form doc t o o′ (written form doc (i .head) (i .inner) (length o)) r (written-fits form doc (i .head) (i .inner) (length o)) (h .fit w i))
 
-write-answers : (doc t t′ o : List ℕ) → Answers (WriteCalled doc t t′ o) writeNumbers (badString ∷ []) o o (λ a. getD a 2 0)
-write-answers doc t t′ o = record {
-  one = λ o₁ o₂ a₁ a₂ r s. let e = one-write-called doc t o a₁ a₂ o₁ o₂ t′ t′ r s in (e .1, e .0);
-  each = λ o′ a r. listed-each writeNumbers badString o o′ a (r .result) (r .words-are) (write-listed doc t o (r .result) o′ (r .is))
-      (λ n p c. write-refusals doc t o (r .result) o′ n p c (r .is));
+write-answers : (form : Form) (doc t t′ o : List ℕ) → Answers (WriteCalled form doc t t′ o) writeNumbers (badString ∷ []) o o (λ a. getD a 2 0)
+write-answers form doc t t′ o = record {
+  one = λ o₁ o₂ a₁ a₂ r s. let e = one-write-called form doc t o a₁ a₂ o₁ o₂ t′ t′ r s in (e .1, e .0);
+  each = λ o′ a r. listed-each form writeNumbers badString o o′ a (r .result) (r .words-are) (write-listed form doc t o (r .result) o′ (r .is))
+      (λ n p c. write-refusals form doc t o (r .result) o′ n p c (r .is));
 }
 
 -- ---- stored lines
@@ -296,10 +297,10 @@ content-answers t start e quoted o =
 
 -- ---- a query
 
-finds-listed : (l l′ : List ℕ) (x : Answered) (r : Count) → ((ms : List ℕ) → x ≡ matched ms → length ms ≤ length l) → Finds x l r l′ → Listed l l′ r
-finds-listed l l′ x r fits f = rw (f .answer-is, f .list-is) (go x fits)
+finds-listed : (form : Form) (l l′ : List ℕ) (x : Answered) (r : Count) → ((ms : List ℕ) → x ≡ matched ms → length ms ≤ length l) → Finds x l r l′ → Listed form l l′ r
+finds-listed form l l′ x r fits f = rw (f .answer-is, f .list-is) (go x fits)
   where
-    go : (x : Answered) → ((ms : List ℕ) → x ≡ matched ms → length ms ≤ length l) → Listed l (listAfter x l) (countOf x)
+    go : (x : Answered) → ((ms : List ℕ) → x ≡ matched ms → length ms ≤ length l) → Listed form l (listAfter x l) (countOf x)
     go (matched ms) fits = over-changed (length ms) l ms refl (fits ms refl)
     go (query.refused n p c) fits = refl
 
@@ -312,18 +313,18 @@ within-fits room (got xs) ms e = go (leb (length xs) room) refl e
     go false h k = absurd (matched-refused (sym k))
 within-fits room (refused n p) ms e = absurd (matched-refused (sym e))
 
-query-listed : (doc t q l : List ℕ) (r : Count) (l′ : List ℕ) → QueryIs doc t q l r l′ → Listed l l′ r
-query-listed doc t q l r l′ h =
-    in-each-case {W = Within (length doc) t} {T = IsTable (length doc) t} (same-listed l l′ r)
-    (λ w. finds-listed l l′ (query.refused overLimit 0 0) r (λ ms e. absurd (matched-refused (sym e))) (h .large w))
-    (λ w i. finds-listed l l′ (query.refused noTable 0 0) r (λ ms e. absurd (matched-refused (sym e))) (h .unfit w i))
-    (λ w i. finds-listed l l′ (within (length l) (asked doc q (i .head) (i .inner))) r (within-fits (length l) (asked doc q (i .head) (i .inner))) (h .fit w i))
+query-listed : (form : Form) (doc t q l : List ℕ) (r : Count) (l′ : List ℕ) → QueryIs form doc t q l r l′ → Listed form l l′ r
+query-listed form doc t q l r l′ h =
+    in-each-case {W = Within (length doc) t} {T = IsTable (length doc) t} (same-listed form l l′ r)
+    (λ w. finds-listed form l l′ (query.refused overLimit 0 0) r (λ ms e. absurd (matched-refused (sym e))) (h .large w))
+    (λ w i. finds-listed form l l′ (query.refused noTable 0 0) r (λ ms e. absurd (matched-refused (sym e))) (h .unfit w i))
+    (λ w i. finds-listed form l l′ (within (length l) (asked form doc q (i .head) (i .inner))) r (within-fits (length l) (asked form doc q (i .head) (i .inner))) (h .fit w i))
 
-query-answers : (doc t q l : List ℕ) → Answers (QueryCalled doc t q l) queryNumbers (moreMatches ∷ []) l l (λ a. getD a 2 0)
-query-answers doc t q l = record {
-  one = λ l₁ l₂ a₁ a₂ r s. let e = one-query-called doc t q l a₁ a₂ l₁ l₂ r s in (e .1, e .0);
-  each = λ l′ a r. listed-each queryNumbers moreMatches l l′ a (r .result) (r .words-are) (query-listed doc t q l (r .result) l′ (r .is))
-      (λ n p c. query-refusals doc t q l (r .result) l′ n p c (r .is));
+query-answers : (form : Form) (doc t q l : List ℕ) → Answers (QueryCalled form doc t q l) queryNumbers (moreMatches ∷ []) l l (λ a. getD a 2 0)
+query-answers form doc t q l = record {
+  one = λ l₁ l₂ a₁ a₂ r s. let e = one-query-called form doc t q l a₁ a₂ l₁ l₂ r s in (e .1, e .0);
+  each = λ l′ a r. listed-each form queryNumbers moreMatches l l′ a (r .result) (r .words-are) (query-listed form doc t q l (r .result) l′ (r .is))
+      (λ n p c. query-refusals form doc t q l (r .result) l′ n p c (r .is));
 }
 
 -- ---- a rescue
@@ -335,12 +336,12 @@ line-words [] = refl
 line-words (l ∷ ls) = omega (arith, line-words ls)
 
 -- By what the definition answers: bytes and lines in the room for them, or nothing.
-rescue-each : (form : ℕ) (doc t t′ o o′ c c′ a : List ℕ) → Bytes doc → RescueCalled form doc t t′ o o′ c c′ a
+rescue-each : (form : Form) (doc t t′ o o′ c c′ a : List ℕ) → Bytes doc → RescueCalled form doc t t′ o o′ c c′ a
     → (Accepts a × Changed (getD a 2 0) o o′ × Changed (3 * getD a 3 0) c c′) ⊎ (Refuses rescueNumbers (moreMatches ∷ []) a × (o′ ≡ o) × (c′ ≡ c))
 rescue-each form doc t t′ o o′ c c′ a bytes r =
-    go (rescuing doc t o c) (rescue-way doc bytes (roomOf (length t)) (length c / 3) (length o)) (r .answer-is) (r .output-is) (r .changes-is)
+    go (rescuing form doc t o c) (rescue-way form doc bytes (roomOf (length t)) (length c / 3) (length o)) (r .answer-is) (r .output-is) (r .changes-is)
   where
-    go : (x : Rescue) → Way doc (roomOf (length t)) (length c / 3) (length o) x → a ≡ rescueWords (sizesOf x) → o′ ≡ bytesAfter x o → c′ ≡ linesAfter x c
+    go : (x : Rescue) → Way form doc (roomOf (length t)) (length c / 3) (length o) x → a ≡ rescueWords (sizesOf x) → o′ ≡ bytesAfter x o → c′ ≡ linesAfter x c
         → (Accepts a × Changed (getD a 2 0) o o′ × Changed (3 * getD a 3 0) c c′) ⊎ (Refuses rescueNumbers (moreMatches ∷ []) a × (o′ ≡ o) × (c′ ≡ c))
     go (saved bs ls) w e f g =
         let in-room : length (lineWords ls) ≤ length c = omega (arith, line-words ls, w .5) in
@@ -349,7 +350,7 @@ rescue-each form doc t t′ o o′ c c′ a bytes r =
         rw e (inr (record { number = n; place = p; beside = k; is = refl; one-of = w .0; plain = but-beside moreMatches n k (w .1) }, f, g))
 
 -- The output, and the list of changes, each for itself.
-rescue-answers : (form : ℕ) (doc t t′ o c c′ : List ℕ) → Bytes doc → Answers (λ o′ a. RescueCalled form doc t t′ o o′ c c′ a) rescueNumbers (moreMatches ∷ []) o o (λ a. getD a 2 0)
+rescue-answers : (form : Form) (doc t t′ o c c′ : List ℕ) → Bytes doc → Answers (λ o′ a. RescueCalled form doc t t′ o o′ c c′ a) rescueNumbers (moreMatches ∷ []) o o (λ a. getD a 2 0)
 rescue-answers form doc t t′ o c c′ bytes = record {
   one = λ o₁ o₂ a₁ a₂ r s. (r .output-is ∙ sym (s .output-is), r .answer-is ∙ sym (s .answer-is));
   each = λ o′ a r. go o′ a (rescue-each form doc t t′ o o′ c c′ a bytes r);
@@ -360,7 +361,7 @@ rescue-answers form doc t t′ o c c′ bytes = record {
     go o′ a (inl x) = inl (x .0, x .1)
     go o′ a (inr x) = inr (x .0, x .1)
 
-changes-answers : (form : ℕ) (doc t t′ o o′ c : List ℕ) → Bytes doc → Answers (RescueCalled form doc t t′ o o′ c) rescueNumbers (moreMatches ∷ []) c c (λ a. 3 * getD a 3 0)
+changes-answers : (form : Form) (doc t t′ o o′ c : List ℕ) → Bytes doc → Answers (RescueCalled form doc t t′ o o′ c) rescueNumbers (moreMatches ∷ []) c c (λ a. 3 * getD a 3 0)
 changes-answers form doc t t′ o o′ c bytes = record {
   one = λ c₁ c₂ a₁ a₂ r s. (r .changes-is ∙ sym (s .changes-is), r .answer-is ∙ sym (s .answer-is));
   each = λ c′ a r. go c′ a (rescue-each form doc t t′ o o′ c c′ a bytes r);
@@ -398,9 +399,9 @@ parse-each t o o′ a r = go (parsed t (length o)) refl (r .answer-is) (r .outpu
         rw (w, k) (inl ((_, refl, refl), over-changed (b .used) o (layout (documentOf b)) (sym (f .0)) (omega (arith, f .0, f .1))))
     go (refused n p) e w k = rw w (inr (refuses parseNumbers n p (parse-numbers t (length o) n p e), k))
 
-string-answers : (enc : ℕ → List ℕ) (one : List ℕ → Sequence) (n : ℕ) (s : List ℕ) → Answers (Alone (StringCalled enc one n s)) (n ∷ []) [] [] [] (λ a. 0)
-string-answers enc one n s = record {
-  one = alone-one (StringCalled enc one n s) (λ a₁ a₂ r q. r .words-are ∙ ap (verdictWords n) (r .judged .is ∙ sym (q .judged .is)) ∙ sym (q .words-are));
+string-answers : (r : Rule) (n : ℕ) (s : List ℕ) → Answers (Alone (StringCalled r n s)) (n ∷ []) [] [] [] (λ a. 0)
+string-answers r n s = record {
+  one = alone-one (StringCalled r n s) (λ a₁ a₂ p q. p .words-are ∙ ap (verdictWords n) (p .judged .is ∙ sym (q .judged .is)) ∙ sym (q .words-are));
   each = λ m a p. go m a (p .0) (p .1 .result) (p .1 .words-are);
 }
   where
@@ -413,7 +414,7 @@ demand-one = record {
   read = read-answers;
   is-table = λ d t. record { one = alone-one (TableCalled d t) (one-table-called d t); each = table-each d t };
   write = write-answers;
-  write-table = λ doc t t′ o o′ a r. r .kept;
+  write-table = λ form doc t t′ o o′ a r. r .kept;
   rescue = rescue-answers;
   rescue-changes = changes-answers;
   rescue-table = λ form doc t t′ o o′ c c′ a r t″ b s. r .table-is ∙ sym (s .table-is);
@@ -424,6 +425,5 @@ demand-one = record {
   token = λ t start stops. record { one = alone-one (TokenCalled t start stops) (λ a₁ a₂ r s. r .answer-is ∙ sym (s .answer-is)); each = token-each t start stops };
   content = content-answers;
   parse = λ t o. record { one = λ o₁ o₂ a₁ a₂ r s. (r .output-is ∙ sym (s .output-is), r .answer-is ∙ sym (s .answer-is)); each = parse-each t o };
-  check-mutf8 = string-answers _ _ _;
-  check-utf8 = string-answers _ _ _;
+  check-string = string-answers;
 }

@@ -8,10 +8,11 @@ use mathlib.Core.Bool.{Bool, true, false}
 use lib.ListN.{length, take}
 use lib.Dec.{leb}
 use borrow.Author.Tests.{le-leb, lt-leb}
+use Rattle.form.specs.Form.{Form}
 use Rattle.form.specs.Answer.{got, pick, moreMatches, recordLimit, Count}
 use Rattle.form.specs.Spans.{over}
 use Rattle.form.specs.Tree.{Tag, compound, Document}
-use Rattle.form.specs.Layout.{Layout}
+use Rattle.form.specs.Layout.{LayoutIn}
 use Rattle.form.specs.Table.{valueOf}
 use Rattle.form.specs.Reading.{One, documentAt, roomOf}
 use Rattle.form.specs.Paths.{Hop, paths, matches}
@@ -39,34 +40,34 @@ module _ (ms l l′ b : List ℕ) (r : Count) (w : b ≡ besideWords r) (f : Fin
   short lt = let g = found-by false (lt-leb (length ms) (length l) lt) in (w ∙ ap besideWords (g .answer-is), g .list-is)
 
 -- The records that a read wrote stand for the tags that the document's paths lead to.
-tags : (doc : List ℕ) → Bytes doc → (room : ℕ) (x : One) → room ≤ recordLimit → documentAt doc room ≡ got x → (n : ℕ) (p : List Hop)
-    → PathAt (paths (valueOf doc (x .head) (x .inner))) n p
-    → (g : Tag) × Leads p (compound (valueOf doc (x .head) (x .inner) .root)) g × StandsFor doc (wordsOf x) n g
-tags doc bytes room x few e =
-    subst (λ (d : Document). (n : ℕ) (p : List Hop) → PathAt (paths d) n p → (g : Tag) × Leads p (compound (d .root)) g × StandsFor doc (wordsOf x) n g)
-    (tabled-value doc bytes room x few e) (numbered doc (wordsOf x) (tabled doc bytes room x few e .0))
+tags : (form : Form) (doc : List ℕ) → Bytes doc → (room : ℕ) (x : One) → room ≤ recordLimit → documentAt form doc room ≡ got x → (n : ℕ) (p : List Hop)
+    → PathAt (paths (valueOf form doc (x .head) (x .inner))) n p
+    → (g : Tag) × Leads p (compound (valueOf form doc (x .head) (x .inner) .root)) g × StandsFor form doc (wordsOf x) n g
+tags form doc bytes room x few e =
+    subst (λ (d : Document). (n : ℕ) (p : List Hop) → PathAt (paths d) n p → (g : Tag) × Leads p (compound (d .root)) g × StandsFor form doc (wordsOf x) n g)
+    (tabled-value form doc bytes room x few e) (numbered form doc (wordsOf x) (tabled form doc bytes room x few e .0))
 
-pub demand-three : IsDemandThree
-demand-three doc t t′ a bytes r c n e q ss sp l l′ b k =
-    let accepted = held doc t t′ bytes r c n e in
+pub demand-three : (form : Form) → IsDemandThree form
+demand-three form doc t t′ a bytes r c n e q ss sp l l′ b k =
+    let accepted = held form doc t t′ bytes r c n e in
     let x = accepted .0 in
     let y = accepted .1 in
     let room = roomOf (length t) in
     let few = room-le (length t) in
-    let s = sound doc bytes room x (y .is) in
-    let d = valueOf doc (x .head) (x .inner) in
-    let i : QueryIs doc (wordsOf x) q l (k .result) l′ = subst (λ (v : List ℕ). QueryIs doc v q l (k .result) l′) (y .words) (k .is) in
-    let f = answered doc bytes room x few (y .is) q ss sp l (k .result) l′ i in
-    let listed : Listed doc (wordsOf x) d ss l l′ b = record {
+    let s = sound form doc bytes room x (y .is) in
+    let d = valueOf form doc (x .head) (x .inner) in
+    let i : QueryIs form doc (wordsOf x) q l (k .result) l′ = subst (λ (v : List ℕ). QueryIs form doc v q l (k .result) l′) (y .words) (k .is) in
+    let f = answered form doc bytes room x few (y .is) q ss sp l (k .result) l′ i in
+    let listed : Listed form doc (wordsOf x) d ss l l′ b = record {
       found = matches d ss;
       every = exact d ss;
       order = ascending d ss;
-      tag = tags doc bytes room x few (y .is);
+      tag = tags form doc bytes room x few (y .is);
       enough = enough (matches d ss) l l′ b (k .result) (k .words-are) f;
       short = short (matches d ss) l l′ b (k .result) (k .words-are) f;
     } in (
       d,
-      subst (λ (m : ℕ). Layout d (take m doc)) (y .consumed) (s .laid),
+      subst (λ (m : ℕ). LayoutIn form d (take m doc)) (y .consumed) (s .laid),
       s .lawful,
-      subst (λ (v : List ℕ). Listed doc v d ss l l′ b) (sym (y .words)) listed,
+      subst (λ (v : List ℕ). Listed form doc v d ss l l′ b) (sym (y .words)) listed,
     )

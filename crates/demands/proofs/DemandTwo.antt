@@ -7,10 +7,11 @@ use mathlib.Core.List.{List, [], _∷_, _++_}
 use native.Mathlib.Omega.{arith}
 use lib.ListN.{length, drop, take, getD}
 use lib.Dec.{eqb}
+use Rattle.form.specs.Form.{Form, java}
 use Rattle.form.specs.Answer.{Out, got, no, pick, failed, badString}
 use Rattle.form.specs.Spans.{over}
-use Rattle.form.specs.Tree.{Document, Lawful, entriesCount}
-use Rattle.form.specs.Layout.{Layout, layout}
+use Rattle.form.specs.Tree.{Document, Lawful, LawfulIn, entriesCount}
+use Rattle.form.specs.Layout.{LayoutIn, layout, layoutIn}
 use Rattle.form.specs.Table.{size, headOf, valueOf}
 use Rattle.form.specs.Reading.{One, countsOf, tableAfter, roomOf}
 use Rattle.form.specs.Writing.{written, WriteGives, badPlace, answerOf}
@@ -39,51 +40,51 @@ use Rattle.demands.proofs.Rescue.{Way, rescue-way, rescued-lawful, ever
 -- ---- reading
 
 -- A read that was accepted leaves a table that holds the document read.
-held-reads : (doc t t′ a : List ℕ) → Bytes doc → (c n : ℕ) → a ≡ 0 ∷ 0 ∷ c ∷ n ∷ 0 ∷ 0 ∷ 0 ∷ 0 ∷ [] → (x : One) → Held doc t t′ c n x
-    → Reads doc t′ a c (valueOf doc (x .head) (x .inner))
-held-reads doc t t′ a bytes c n e x y =
-    let d = valueOf doc (x .head) (x .inner) in
+held-reads : (form : Form) (doc t t′ a : List ℕ) → Bytes doc → (c n : ℕ) → a ≡ 0 ∷ 0 ∷ c ∷ n ∷ 0 ∷ 0 ∷ 0 ∷ 0 ∷ [] → (x : One) → Held form doc t t′ c n x
+    → Reads form doc t′ a c (valueOf form doc (x .head) (x .inner))
+held-reads form doc t t′ a bytes c n e x y =
+    let d = valueOf form doc (x .head) (x .inner) in
     let room = roomOf (length t) in
     let few = room-le (length t) in
-    let s = reading.sound doc bytes room x (y .is) in
-    let i = tabled doc bytes room x few (y .is) in
+    let s = reading.sound form doc bytes room x (y .is) in
+    let i = tabled form doc bytes room x few (y .is) in
     record {
       records = n;
       answer = e;
       each = omega (arith, y .records, s .records);
-      holds = subst (λ (w : List ℕ). Holds doc w d) (sym (y .words)) (record { table = i .0; small = i .1; value = tabled-value doc bytes room x few (y .is) });
+      holds = subst (λ (w : List ℕ). Holds form doc w d) (sym (y .words)) (record { table = i .0; small = i .1; value = tabled-value form doc bytes room x few (y .is) });
     }
 
-sound : (doc t t′ a : List ℕ) → Bytes doc → ReadCalled doc t t′ a → (c n : ℕ) → a ≡ 0 ∷ 0 ∷ c ∷ n ∷ 0 ∷ 0 ∷ 0 ∷ 0 ∷ []
-    → (d : Document) × Layout d (take c doc) × Lawful d × Reads doc t′ a c d
-sound doc t t′ a bytes r c n e =
-    let accepted = held doc t t′ bytes r c n e in
+sound : (form : Form) (doc t t′ a : List ℕ) → Bytes doc → ReadCalled form doc t t′ a → (c n : ℕ) → a ≡ 0 ∷ 0 ∷ c ∷ n ∷ 0 ∷ 0 ∷ 0 ∷ 0 ∷ []
+    → (d : Document) × LayoutIn form d (take c doc) × LawfulIn form d × Reads form doc t′ a c d
+sound form doc t t′ a bytes r c n e =
+    let accepted = held form doc t t′ bytes r c n e in
     let x = accepted .0 in
     let y = accepted .1 in
-    let d = valueOf doc (x .head) (x .inner) in
-    let s = reading.sound doc bytes (roomOf (length t)) x (y .is) in
-    (d, subst (λ (m : ℕ). Layout d (take m doc)) (y .consumed) (s .laid), s .lawful, held-reads doc t t′ a bytes c n e x y)
+    let d = valueOf form doc (x .head) (x .inner) in
+    let s = reading.sound form doc bytes (roomOf (length t)) x (y .is) in
+    (d, subst (λ (m : ℕ). LayoutIn form d (take m doc)) (y .consumed) (s .laid), s .lawful, held-reads form doc t t′ a bytes c n e x y)
 
 -- Room for a document's records.
 room-for : (d : Document) (n : ℕ) → RoomFor d n → 1 + entriesCount (d .root) ≤ roomOf n
 unfolding roomOf
 room-for d n r = omega (arith, r .room, r .few)
 
-complete : (d : Document) (bs rest : List ℕ) → Layout d bs → Lawful d → ReadAs (bs ++ rest) (length bs) d
-complete d bs rest laid lawful bytes small t t′ a room r =
+complete : (form : Form) (d : Document) (bs rest : List ℕ) → LayoutIn form d bs → LawfulIn form d → ReadAs form (bs ++ rest) (length bs) d
+complete form d bs rest laid lawful bytes small t t′ a room r =
     let doc = bs ++ rest in
-    let k = reading.complete d bs rest (roomOf (length t)) laid lawful (room-for d (length t) room) small in
+    let k = reading.complete form d bs rest (roomOf (length t)) laid lawful (room-for d (length t) room) small in
     let x = k .x in
     let n = 1 + size (x .inner) in
-    let y : Held doc t t′ (length bs) n x = held-by doc t t′ x (k .accepted) (k .consumed) refl (r .table-is ∙ ap (λ o. tableAfter o t) (k .accepted)) in
+    let y : Held form doc t t′ (length bs) n x = held-by form doc t t′ x (k .accepted) (k .consumed) refl (r .table-is ∙ ap (λ o. tableAfter o t) (k .accepted)) in
     let words : a ≡ 0 ∷ 0 ∷ length bs ∷ n ∷ 0 ∷ 0 ∷ 0 ∷ 0 ∷ [] =
     r .answer-is ∙ ap (λ o. readWords (countsOf o)) (k .accepted) ∙ ap (λ (c : ℕ). 0 ∷ 0 ∷ c ∷ n ∷ 0 ∷ 0 ∷ 0 ∷ 0 ∷ []) (k .consumed) in
-    subst (λ (e : Document). Reads doc t′ a (length bs) e) (k .tree) (held-reads doc t t′ a bytes (length bs) n words x y)
+    subst (λ (e : Document). Reads form doc t′ a (length bs) e) (k .tree) (held-reads form doc t t′ a bytes (length bs) n words x y)
 
 -- An output that begins with a lawful document's layout is read as that document.
-output-read : (d : Document) (o : List ℕ) → Lawful d → ReadAs (over o 0 (layout d)) (length (layout d)) d
+output-read : (form : Form) (d : Document) (o : List ℕ) → LawfulIn form d → ReadAs form (over o 0 (layoutIn form d)) (length (layoutIn form d)) d
 unfolding over
-output-read d o lawful = complete d (layout d) (drop (0 + length (layout d)) o) (canonical d) lawful
+output-read form d o lawful = complete form d (layoutIn form d) (drop (0 + length (layoutIn form d)) o) (canonical form d) lawful
 
 -- ---- writing
 
@@ -96,69 +97,69 @@ unfolding among
 zero-not-rescued e = let z : _≡_ {A = ℕ} 0 1 = cc in omega arith
 
 -- The first word of a refused write is the number.
-first-word : (doc t : List ℕ) (m n : ℕ) → getD (besideWords (answerOf doc t (no m n))) 0 0 ≡ m
-first-word doc t m n = go (eqb m badString)
+first-word : (form : Form) (doc t : List ℕ) (m n : ℕ) → getD (besideWords (answerOf form doc t (no m n))) 0 0 ≡ m
+first-word form doc t m n = go (eqb m badString)
   where
-    go : (b : Bool) → getD (besideWords (pick b (failed m (badPlace doc (headOf t n)) n) (failed m n 0))) 0 0 ≡ m
+    go : (b : Bool) → getD (besideWords (pick b (failed m (badPlace form doc (headOf t n)) n) (failed m n 0))) 0 0 ≡ m
     go true = refl
     go false = refl
 
-module _ (doc w : List ℕ) (d : Document) (bytes : Bytes doc) (h : Holds doc w d) (w′ o o′ b : List ℕ) (k : WriteCalled doc w w′ o o′ b) where
+module _ (form : Form) (doc w : List ℕ) (d : Document) (bytes : Bytes doc) (h : Holds form doc w d) (w′ o o′ b : List ℕ) (k : WriteCalled form doc w w′ o o′ b) where
   -- What the definition writes of the table is what the call answers and leaves.
-  gives : WriteGives doc w (written doc (h .table .head) (h .table .inner) (length o)) o (k .result) o′
+  gives : WriteGives form doc w (written form doc (h .table .head) (h .table .inner) (length o)) o (k .result) o′
   gives = k .is .fit (h .small) (h .table)
 
-  table-lawful : Lawful d → Lawful (tableValue doc w (h .table))
-  table-lawful l = subst Lawful (sym (h .value)) l
+  table-lawful : LawfulIn form d → LawfulIn form (tableValue form doc w (h .table))
+  table-lawful l = subst (LawfulIn form) (sym (h .value)) l
 
-  table-long : length (layout (tableValue doc w (h .table))) ≡ length (layout d)
-  table-long = ap (λ (e : Document). length (layout e)) (h .value)
+  table-long : length (layoutIn form (tableValue form doc w (h .table))) ≡ length (layoutIn form d)
+  table-long = ap (λ (e : Document). length (layoutIn form e)) (h .value)
 
-  is-written : Lawful d → Writes d o o′ b
+  is-written : LawfulIn form d → Writes form d o o′ b
   is-written l = record {
     enough = λ le.
-        let e = lawful-written doc w bytes (h .small) (h .table) (length o) (table-lawful l) (omega (arith, table-long)) ∙ ap (λ (f : Document). got (layout f)) (h .value) in
-        let g = subst (λ (x : Out (List ℕ)). WriteGives doc w x o (k .result) o′) e gives in
+        let e = lawful-written form doc w bytes (h .small) (h .table) (length o) (table-lawful l) (omega (arith, table-long)) ∙ ap (λ (f : Document). got (layoutIn form f)) (h .value) in
+        let g = subst (λ (x : Out (List ℕ)). WriteGives form doc w x o (k .result) o′) e gives in
         (k .words-are ∙ ap besideWords (g .answer-is), g .output-is);
     short = λ lt.
-        let e = lawful-full doc w bytes (h .small) (h .table) (length o) (table-lawful l) (omega (arith, table-long)) in
-        let g = subst (λ (x : Out (List ℕ)). WriteGives doc w x o (k .result) o′) e gives in
+        let e = lawful-full form doc w bytes (h .small) (h .table) (length o) (table-lawful l) (omega (arith, table-long)) in
+        let g = subst (λ (x : Out (List ℕ)). WriteGives form doc w x o (k .result) o′) e gives in
         (k .words-are ∙ ap besideWords (g .answer-is), g .output-is);
   }
 
-  is-read-back : (c : ℕ) → b ≡ 0 ∷ 0 ∷ c ∷ 0 ∷ 0 ∷ 0 ∷ 0 ∷ 0 ∷ [] → Lawful d × ReadAs o′ c d
-  is-read-back c e = go (written doc (h .table .head) (h .table .inner) (length o)) refl gives
+  is-read-back : (c : ℕ) → b ≡ 0 ∷ 0 ∷ c ∷ 0 ∷ 0 ∷ 0 ∷ 0 ∷ 0 ∷ [] → LawfulIn form d × ReadAs form o′ c d
+  is-read-back c e = go (written form doc (h .table .head) (h .table .inner) (length o)) refl gives
     where
-      go : (x : Out (List ℕ)) → written doc (h .table .head) (h .table .inner) (length o) ≡ x → WriteGives doc w x o (k .result) o′
-          → Lawful d × ReadAs o′ c d
+      go : (x : Out (List ℕ)) → written form doc (h .table .head) (h .table .inner) (length o) ≡ x → WriteGives form doc w x o (k .result) o′
+          → LawfulIn form d × ReadAs form o′ c d
       go (got bs) is g =
-          let l = written-lawful doc w bytes (h .small) (h .table) (length o) bs is in
-          let laid : bs ≡ layout d = l .laid ∙ ap layout (h .value) in
+          let l = written-lawful form doc w bytes (h .small) (h .table) (length o) bs is in
+          let laid : bs ≡ layoutIn form d = l .laid ∙ ap (layoutIn form) (h .value) in
           let words : 0 ∷ 0 ∷ length bs ∷ 0 ∷ 0 ∷ 0 ∷ 0 ∷ 0 ∷ [] ≡ 0 ∷ 0 ∷ c ∷ 0 ∷ 0 ∷ 0 ∷ 0 ∷ 0 ∷ [] = ap besideWords (sym (g .answer-is)) ∙ sym (k .words-are) ∙ e in
-          let long : length (layout d) ≡ c = sym (ap length laid) ∙ cc in
-          let out : over o 0 (layout d) ≡ o′ = ap (over o 0) (sym laid) ∙ sym (g .output-is) in
-          let lawful = subst Lawful (h .value) (l .lawful) in
-          (lawful, subst (λ (m : ℕ). ReadAs o′ m d) long (subst (λ (x : List ℕ). ReadAs x (length (layout d)) d) out (output-read d o lawful)))
+          let long : length (layoutIn form d) ≡ c = sym (ap length laid) ∙ cc in
+          let out : over o 0 (layoutIn form d) ≡ o′ = ap (over o 0) (sym laid) ∙ sym (g .output-is) in
+          let lawful = subst (LawfulIn form) (h .value) (l .lawful) in
+          (lawful, subst (λ (m : ℕ). ReadAs form o′ m d) long (subst (λ (x : List ℕ). ReadAs form x (length (layoutIn form d)) d) out (output-read form d o lawful)))
       go (no n p) is g =
-          let words : besideWords (answerOf doc w (no n p)) ≡ 0 ∷ 0 ∷ c ∷ 0 ∷ 0 ∷ 0 ∷ 0 ∷ 0 ∷ [] = ap besideWords (sym (g .answer-is)) ∙ sym (k .words-are) ∙ e in
-          let z : n ≡ 0 = sym (first-word doc w n p) ∙ ap (λ ws. getD ws 0 0) words in
-          let f = write-numbers doc (h .table .head) (h .table .inner) (length o) n p is in
+          let words : besideWords (answerOf form doc w (no n p)) ≡ 0 ∷ 0 ∷ c ∷ 0 ∷ 0 ∷ 0 ∷ 0 ∷ 0 ∷ [] = ap besideWords (sym (g .answer-is)) ∙ sym (k .words-are) ∙ e in
+          let z : n ≡ 0 = sym (first-word form doc w n p) ∙ ap (λ ws. getD ws 0 0) words in
+          let f = write-numbers form doc (h .table .head) (h .table .inner) (length o) n p is in
           absurd (zero-not-among (rw z at f))
 
 -- ---- texts
 
 parse-back : (t o o′ b : List ℕ) → ParseCalled t o o′ b → (e c : ℕ) → b ≡ 0 ∷ 0 ∷ e ∷ c ∷ 0 ∷ 0 ∷ 0 ∷ 0 ∷ []
-    → (k : Block) × (parsed t (length o) ≡ got k) × Lawful (documentOf k) × ReadAs o′ c (documentOf k)
+    → (k : Block) × (parsed t (length o) ≡ got k) × Lawful (documentOf k) × ReadAs java o′ c (documentOf k)
 parse-back t o o′ b r e c w = go (parsed t (length o)) refl (sym (r .answer-is) ∙ w) (r .output-is)
   where
     go : (x : Out Block) → parsed t (length o) ≡ x → parseWords (lengthsOf x) ≡ 0 ∷ 0 ∷ e ∷ c ∷ 0 ∷ 0 ∷ 0 ∷ 0 ∷ [] → o′ ≡ text.outputAfter x o
-        → (k : Block) × (parsed t (length o) ≡ got k) × Lawful (documentOf k) × ReadAs o′ c (documentOf k)
+        → (k : Block) × (parsed t (length o) ≡ got k) × Lawful (documentOf k) × ReadAs java o′ c (documentOf k)
     go (got k) is words out =
         let d = documentOf k in
         let f = text-fills t (length o) k is in
         let long : length (layout d) ≡ c = sym (f .0) ∙ cc in
         let lawful = lawful-text t (length o) k is in
-        (k, is, lawful, subst (λ (m : ℕ). ReadAs o′ m d) long (subst (λ (x : List ℕ). ReadAs x (length (layout d)) d) (sym out) (output-read d o lawful)))
+        (k, is, lawful, subst (λ (m : ℕ). ReadAs java o′ m d) long (subst (λ (x : List ℕ). ReadAs java x (length (layout d)) d) (sym out) (output-read java d o lawful)))
     go (no n p) is words out =
         let z : n ≡ 0 = cc in
         absurd (text-never-zero t (length o) p (is ∙ ap (λ (m : ℕ). no m p) z))
@@ -166,42 +167,42 @@ parse-back t o o′ b r e c w = go (parsed t (length o)) refl (sym (r .answer-is
 -- ---- rescues
 
 -- An answer that begins with 0 is of what is kept.
-rescue-back : (form : ℕ) (doc t t′ o o′ c c′ b : List ℕ) → Bytes doc → RescueCalled form doc t t′ o o′ c c′ b
+rescue-back : (form : Form) (doc t t′ o o′ c c′ b : List ℕ) → Bytes doc → RescueCalled form doc t t′ o o′ c c′ b
     → (n m : ℕ) → b ≡ 0 ∷ 0 ∷ n ∷ m ∷ 0 ∷ 0 ∷ 0 ∷ 0 ∷ []
-    → (k : Kept) × (keptOf doc (roomOf (length t)) ≡ got k) × Lawful (cut.documentOf doc (k .forest)) × ReadAs o′ n (cut.documentOf doc (k .forest))
+    → (k : Kept) × (keptOf form doc (roomOf (length t)) ≡ got k) × LawfulIn form (cut.documentOf form doc (k .forest)) × ReadAs form o′ n (cut.documentOf form doc (k .forest))
 rescue-back form doc t t′ o o′ c c′ b bytes r n m e =
-    go (rescuing doc t o c) (rescue-way doc bytes (roomOf (length t)) (length c / 3) (length o)) (sym (r .answer-is) ∙ e) (r .output-is)
+    go (rescuing form doc t o c) (rescue-way form doc bytes (roomOf (length t)) (length c / 3) (length o)) (sym (r .answer-is) ∙ e) (r .output-is)
   where
-    go : (x : Rescue) → Way doc (roomOf (length t)) (length c / 3) (length o) x → rescueWords (sizesOf x) ≡ 0 ∷ 0 ∷ n ∷ m ∷ 0 ∷ 0 ∷ 0 ∷ 0 ∷ [] → o′ ≡ bytesAfter x o
-        → (k : Kept) × (keptOf doc (roomOf (length t)) ≡ got k) × Lawful (cut.documentOf doc (k .forest)) × ReadAs o′ n (cut.documentOf doc (k .forest))
+    go : (x : Rescue) → Way form doc (roomOf (length t)) (length c / 3) (length o) x → rescueWords (sizesOf x) ≡ 0 ∷ 0 ∷ n ∷ m ∷ 0 ∷ 0 ∷ 0 ∷ 0 ∷ [] → o′ ≡ bytesAfter x o
+        → (k : Kept) × (keptOf form doc (roomOf (length t)) ≡ got k) × LawfulIn form (cut.documentOf form doc (k .forest)) × ReadAs form o′ n (cut.documentOf form doc (k .forest))
     go (saved bs ls) w words out =
         let k = w .0 in
-        let d = cut.documentOf doc (k .forest) in
-        let whole = rescued-lawful doc bytes (roomOf (length t)) k (room-le (length t)) (w .1) in
-        let lawful : Lawful d = subst (λ f. Lawful (cut.documentOf doc f)) (sym (whole .is)) (whole .lawful) in
-        let long : length (layout d) ≡ n = sym (ap length (w .2)) ∙ cc in
-        let here : over o 0 (layout d) ≡ o′ = ap (over o 0) (sym (w .2)) ∙ sym out in
-        (k, w .1, lawful, subst (λ (i : ℕ). ReadAs o′ i d) long (subst (λ (x : List ℕ). ReadAs x (length (layout d)) d) here (output-read d o lawful)))
+        let d = cut.documentOf form doc (k .forest) in
+        let whole = rescued-lawful form doc bytes (roomOf (length t)) k (room-le (length t)) (w .1) in
+        let lawful : LawfulIn form d = subst (λ f. LawfulIn form (cut.documentOf form doc f)) (sym (whole .is)) (whole .lawful) in
+        let long : length (layoutIn form d) ≡ n = sym (ap length (w .2)) ∙ cc in
+        let here : over o 0 (layoutIn form d) ≡ o′ = ap (over o 0) (sym (w .2)) ∙ sym out in
+        (k, w .1, lawful, subst (λ (i : ℕ). ReadAs form o′ i d) long (subst (λ (x : List ℕ). ReadAs form x (length (layoutIn form d)) d) here (output-read form d o lawful)))
     go (cut.refused k p i) w words out =
         let z : k ≡ 0 = cc in
         absurd (zero-not-rescued (rw z at (w .0)))
 
 -- A cut of what was read.
-rescue-cut : (doc rest t₁ t₁′ a : List ℕ) → Bytes (doc ++ rest) → ReadCalled (doc ++ rest) t₁ t₁′ a → (e n : ℕ) → a ≡ 0 ∷ 0 ∷ e ∷ n ∷ 0 ∷ 0 ∷ 0 ∷ 0 ∷ []
-    → (d : Document) × Reads (doc ++ rest) t₁′ a e d × CutRescued doc e (length t₁) d
-rescue-cut doc rest t₁ t₁′ a bytes r e n w =
-    let accepted = held (doc ++ rest) t₁ t₁′ bytes r e n w in
+rescue-cut : (form : Form) (doc rest t₁ t₁′ a : List ℕ) → Bytes (doc ++ rest) → ReadCalled form (doc ++ rest) t₁ t₁′ a → (e n : ℕ) → a ≡ 0 ∷ 0 ∷ e ∷ n ∷ 0 ∷ 0 ∷ 0 ∷ 0 ∷ []
+    → (d : Document) × Reads form (doc ++ rest) t₁′ a e d × CutRescued form doc e (length t₁) d
+rescue-cut form doc rest t₁ t₁′ a bytes r e n w =
+    let accepted = held form (doc ++ rest) t₁ t₁′ bytes r e n w in
     let x = accepted .0 in
     let y = accepted .1 in
-    let d = valueOf (doc ++ rest) (x .head) (x .inner) in (
+    let d = valueOf form (doc ++ rest) (x .head) (x .inner) in (
       d,
-      held-reads (doc ++ rest) t₁ t₁′ a bytes e n w x y,
+      held-reads form (doc ++ rest) t₁ t₁′ a bytes e n w x y,
       record {
-        rescues = λ short named form t t′ o o′ c c′ b same lines out s.
+        rescues = λ short named t t′ o o′ c c′ b same lines out s.
             let room : roomOf (length t) ≡ roomOf (length t₁) = ap roomOf same in
-            let saves : rescuing doc t o c ≡ saved (layout (cutDocument d (length doc))) (documentLines d (length doc)) =
-            ap (λ (i : ℕ). rescued doc i (length c / 3) (length o)) room
-            ∙ every-cut doc rest bytes (roomOf (length t₁)) x (y .is) d refl (omega (arith, short, y .consumed)) named (length c / 3) (length o) (omega (arith, lines)) out in (
+            let saves : rescuing form doc t o c ≡ saved (layoutIn form (cutDocument form d (length doc))) (documentLines form d (length doc)) =
+            ap (λ (i : ℕ). rescued form doc i (length c / 3) (length o)) room
+            ∙ every-cut form doc rest bytes (roomOf (length t₁)) x (y .is) d refl (omega (arith, short, y .consumed)) named (length c / 3) (length o) (omega (arith, lines)) out in (
               s .answer-is ∙ ap (λ z. rescueWords (sizesOf z)) saves,
               s .output-is ∙ ap (λ z. bytesAfter z o) saves,
               s .changes-is ∙ ap (λ z. linesAfter z c) saves,
@@ -213,8 +214,8 @@ pub demand-two : DemandTwo
 demand-two = record {
   sound = sound;
   complete = complete;
-  written = λ doc w d bytes l h w′ o o′ b k. is-written doc w d bytes h w′ o o′ b k l;
-  write-back = λ doc w w′ o o′ b d bytes h k. is-read-back doc w d bytes h w′ o o′ b k;
+  written = λ form doc w d bytes l h w′ o o′ b k. is-written form doc w d bytes h w′ o o′ b k l;
+  write-back = λ form doc w w′ o o′ b d bytes h k. is-read-back form doc w d bytes h w′ o o′ b k;
   parse-back = parse-back;
   rescue-back = rescue-back;
   rescue-cut = rescue-cut;

@@ -5,7 +5,7 @@ use Rattle.form.specs.Numbers.{value, digits}
 use Rattle.form.specs.Strings.{unitBytes, scalarBytes, utf8Bytes}
 use Rattle.form.specs.Decoding.{twoOf, threeOf, fourOf, unitOf, utf8Of, pairOf, scalarOf, walk, verdictBy}
 use Rattle.form.specs.Tree.{kindOf}
-use Rattle.form.specs.Layout.{entryBytes, layout}
+use Rattle.form.specs.Layout.{entryBytesIn, layoutIn}
 use Rattle.form.specs.Table.{size, width, flat, valueBy, entriesOf}
 use Rattle.form.specs.Reading.{hasName, byteAt, bytesAt, numberAt, stringAt, leafAt, leafOne, entryAt, entries, compoundAt, containerAt, payloadBy, insideAt, documentAt}
 use Rattle.form.specs.Writing.{stringFine, payloadFine, judged, written}
@@ -16,7 +16,7 @@ use Rattle.demands.specs.Examples.{examples, AreWorked}
 pub worked : AreWorked
 unfolding examples value digits kindOf
     unitBytes scalarBytes utf8Bytes twoOf threeOf fourOf unitOf utf8Of pairOf scalarOf walk verdictBy
-    entryBytes layout size width flat valueBy entriesOf
+    entryBytesIn layoutIn size width flat valueBy entriesOf
     hasName byteAt bytesAt numberAt stringAt leafAt leafOne entryAt entries compoundAt containerAt payloadBy insideAt documentAt
     stringFine payloadFine judged written hexOf ascii bytesIn
 worked = refl

@@ -34,6 +34,7 @@ pub mod Rounding
 pub mod Marked
 pub mod Examples
 pub mod Cuts
+pub mod Pocket
 pub mod Front
 pub mod Prefix
 pub mod Induction

@@ -9,6 +9,7 @@ use native.Mathlib.Omega.{arith}
 use lib.Dec.{ltb}
 use borrow.Author.Tests.{ltb-true, ltb-false}
 use lib.ListN.{length}
+use Rattle.form.specs.Form.{Form}
 use Rattle.form.specs.Answer.{Out, got, no, depthLimit}
 use Rattle.form.specs.Table.{size, width, holds}
 use Rattle.form.specs.Reading.{One, Span, Entry, end, named, Reader, ListHead, entryAt, listHeadAt, payloadBy, insideAt}
@@ -43,88 +44,89 @@ fit-open d kind name len n promised k p f = record {
   one = omega arith;
 }
 
-module _ (doc : List ℕ) (d : ℕ) (read : Reader) (begun : Opener) (B : (kind name len at n : ℕ) → FitOne d n (begun kind name len at n)) where
+module _ (form : Form) (doc : List ℕ) (d : ℕ) (read : Reader) (begun : Opener) (B : (kind name len at n : ℕ) → FitOne d n (begun kind name len at n)) where
   record FitSome (c n : ℕ) (k : Kept) : Type 0 where
     fit : Fit d n k
     some : width (k .forest) ≤ c
 
-  elements-fit : (c k at n : ℕ) → FitSome c n (keptElements doc read begun c k at n)
+  elements-fit : (c k at n : ℕ) → FitSome c n (keptElements form doc read begun c k at n)
   unfolding keptElements width
   elements-fit zero k at n = let z = fit-none d n in record { fit = z .fit; some = omega arith }
   elements-fit (suc c) k at n = go (elements-fit c) (read k 0 0 at n) refl
     where
       kept : Kept
-      kept = keptElements doc read begun (suc c) k at n
+      kept = keptElements form doc read begun (suc c) k at n
 
       first : (m p : ℕ) → read k 0 0 at n ≡ no m p → (t : Bool) → ltb at (length doc) ≡ t → FitSome (suc c) n kept
       first m p e true t =
           let b = B k 0 0 at n in
-          subst (FitSome (suc c) n) (sym (begun-element doc read begun c k at n e (ltb-true at (length doc) t))) (record { fit = b .fit; some = omega (arith, b .one) })
+          subst (FitSome (suc c) n) (sym (begun-element form doc read begun c k at n e (ltb-true at (length doc) t))) (record { fit = b .fit; some = omega (arith, b .one) })
       first m p e false t =
-          subst (FitSome (suc c) n) (sym (no-element doc read begun c k at n e (ltb-false at (length doc) t))) (record { fit = fit-none d n .fit; some = omega arith })
+          subst (FitSome (suc c) n) (sym (no-element form doc read begun c k at n e (ltb-false at (length doc) t))) (record { fit = fit-none d n .fit; some = omega arith })
 
-      go : ((k at n : ℕ) → FitSome c n (keptElements doc read begun c k at n)) → (o : Out One) → read k 0 0 at n ≡ o → FitSome (suc c) n kept
+      go : ((k at n : ℕ) → FitSome c n (keptElements form doc read begun c k at n)) → (o : Out One) → read k 0 0 at n ≡ o → FitSome (suc c) n kept
       go ih (got x) e =
           let i = ih k (x .next) (n + 1 + size (x .inner)) in
-          subst (FitSome (suc c) n) (sym (kept-element doc read begun c k at n e)) (record { fit = fit-whole d n x _ (i .fit); some = omega (arith, i .some) })
+          subst (FitSome (suc c) n) (sym (kept-element form doc read begun c k at n e)) (record { fit = fit-whole d n x _ (i .fit); some = omega (arith, i .some) })
       go ih (no m p) e = first m p e (ltb at (length doc)) refl
 
-  entries-fit : (fuel at n : ℕ) → Fit d n (keptEntries doc read begun fuel at n)
+  entries-fit : (fuel at n : ℕ) → Fit d n (keptEntries form doc read begun fuel at n)
   unfolding keptEntries
   entries-fit zero at n = fit-none d n .fit
-  entries-fit (suc fuel) at n = go (entries-fit fuel) (entryAt doc at) refl
+  entries-fit (suc fuel) at n = go (entries-fit fuel) (entryAt form doc at) refl
     where
       kept : Kept
-      kept = keptEntries doc read begun (suc fuel) at n
+      kept = keptEntries form doc read begun (suc fuel) at n
 
-      payload : ((at n : ℕ) → Fit d n (keptEntries doc read begun fuel at n)) → (kind : ℕ) (s : Span) → entryAt doc at ≡ got (named kind s) → (o : Out One)
+      payload : ((at n : ℕ) → Fit d n (keptEntries form doc read begun fuel at n)) → (kind : ℕ) (s : Span) → entryAt form doc at ≡ got (named kind s) → (o : Out One)
           → read kind (s .start) (s .size) (s .next) n ≡ o → Fit d n kept
-      payload ih kind s a (got x) e = subst (Fit d n) (sym (kept-entry doc read begun fuel at n a e)) (fit-whole d n x _ (ih (x .next) (n + 1 + size (x .inner))))
-      payload ih kind s a (no m p) e = subst (Fit d n) (sym (begun-entry doc read begun fuel at n a e)) (B kind (s .start) (s .size) (s .next) n .fit)
+      payload ih kind s a (got x) e = subst (Fit d n) (sym (kept-entry form doc read begun fuel at n a e)) (fit-whole d n x _ (ih (x .next) (n + 1 + size (x .inner))))
+      payload ih kind s a (no m p) e = subst (Fit d n) (sym (begun-entry form doc read begun fuel at n a e)) (B kind (s .start) (s .size) (s .next) n .fit)
 
-      go : ((at n : ℕ) → Fit d n (keptEntries doc read begun fuel at n)) → (o : Out Entry) → entryAt doc at ≡ o → Fit d n kept
-      go ih (no m p) a = subst (Fit d n) (sym (no-entry doc read begun fuel at n a)) (fit-none d n .fit)
+      go : ((at n : ℕ) → Fit d n (keptEntries form doc read begun fuel at n)) → (o : Out Entry) → entryAt form doc at ≡ o → Fit d n kept
+      go ih (no m p) a = subst (Fit d n) (sym (no-entry form doc read begun fuel at n a)) (fit-none d n .fit)
       go ih (got end) a = subst (Fit d n) (sym (ended a)) (fit-none d n .fit)
         where
-          ended : entryAt doc at ≡ got end → kept ≡ nothing
+          ended : entryAt form doc at ≡ got end → kept ≡ nothing
           ended a = ap (λ (o : Out Entry). elim o [
             | no m p ↦ nothing
             | got e ↦ elim e [
               | end ↦ nothing
               | named kind s ↦ elim (read kind (s .start) (s .size) (s .next) n) [
-                | got x ↦ whole x (keptEntries doc read begun fuel (x .next) (n + 1 + size (x .inner)))
+                | got x ↦ whole x (keptEntries form doc read begun fuel (x .next) (n + 1 + size (x .inner)))
                 | no m p ↦ begun kind (s .start) (s .size) (s .next) n
               ]
             ]
           ]) a
       go ih (got (named kind s)) a = payload ih kind s a (read kind (s .start) (s .size) (s .next) n) refl
 
-module _ (doc : List ℕ) (room : ℕ) where
-  begun-fit : (d kind name len at n : ℕ) → FitOne d n (begunAt doc room d kind name len at n)
+module _ (form : Form) (doc : List ℕ) (room : ℕ) where
+  begun-fit : (d kind name len at n : ℕ) → FitOne d n (begunAt form doc room d kind name len at n)
   unfolding begunAt
   begun-fit zero kind name len at n = fit-none 0 n
   begun-fit (suc d) kind name len at n = go (begun-fit d) (holds kind) refl
     where
-      list : ((kind name len at n : ℕ) → FitOne d n (begunAt doc room d kind name len at n)) → (o : Out ListHead) → listHeadAt doc at ≡ o → FitOne (suc d) n (begunAt doc room (suc d) 9 name len at n)
-      list ih (no m p) e = subst (FitOne (suc d) n) (sym (no-list doc room d at n name len e)) (fit-none (suc d) n)
+      list : ((kind name len at n : ℕ) → FitOne d n (begunAt form doc room d kind name len at n)) → (o : Out ListHead)
+          → listHeadAt form doc at ≡ o → FitOne (suc d) n (begunAt form doc room (suc d) 9 name len at n)
+      list ih (no m p) e = subst (FitOne (suc d) n) (sym (no-list form doc room d at n name len e)) (fit-none (suc d) n)
       list ih (got h) e =
-          let i = elements-fit doc d (payloadBy doc room (insideAt doc room d)) (begunAt doc room d) ih (h .count) (h .kind) (at + 5) (n + 1) in
-          subst (FitOne (suc d) n) (sym (begun-list doc room d at n name len e)) (fit-open d 9 name len n (h .count) _ (inl (refl, i .some)) (i .fit))
+          let i = elements-fit form doc d (payloadBy form doc room (insideAt form doc room d)) (begunAt form doc room d) ih (h .count) (h .kind) (at + 5) (n + 1) in
+          subst (FitOne (suc d) n) (sym (begun-list form doc room d at n name len e)) (fit-open d 9 name len n (h .count) _ (inl (refl, i .some)) (i .fit))
 
-      kinds : ((kind name len at n : ℕ) → FitOne d n (begunAt doc room d kind name len at n)) → (kind ≡ 9) ⊎ (kind ≡ 10) → FitOne (suc d) n (begunAt doc room (suc d) kind name len at n)
-      kinds ih (inl k) = subst (λ k. FitOne (suc d) n (begunAt doc room (suc d) k name len at n)) (sym k) (list ih (listHeadAt doc at) refl)
-      kinds ih (inr k) = subst (λ k. FitOne (suc d) n (begunAt doc room (suc d) k name len at n)) (sym k)
-          (subst (FitOne (suc d) n) (sym (begun-compound doc room d at n name len))
-          (fit-open d 10 name len n 0 _ (inr (refl, refl)) (entries-fit doc d (payloadBy doc room (insideAt doc room d)) (begunAt doc room d) ih (suc (length doc)) at (n + 1))))
+      kinds : ((kind name len at n : ℕ) → FitOne d n (begunAt form doc room d kind name len at n)) → (kind ≡ 9) ⊎ (kind ≡ 10) → FitOne (suc d) n (begunAt form doc room (suc d) kind name len at n)
+      kinds ih (inl k) = subst (λ k. FitOne (suc d) n (begunAt form doc room (suc d) k name len at n)) (sym k) (list ih (listHeadAt form doc at) refl)
+      kinds ih (inr k) = subst (λ k. FitOne (suc d) n (begunAt form doc room (suc d) k name len at n)) (sym k)
+          (subst (FitOne (suc d) n) (sym (begun-compound form doc room d at n name len))
+          (fit-open d 10 name len n 0 _ (inr (refl, refl)) (entries-fit form doc d (payloadBy form doc room (insideAt form doc room d)) (begunAt form doc room d) ih (suc (length doc)) at (n + 1))))
 
-      go : ((kind name len at n : ℕ) → FitOne d n (begunAt doc room d kind name len at n)) → (t : Bool) → holds kind ≡ t → FitOne (suc d) n (begunAt doc room (suc d) kind name len at n)
+      go : ((kind name len at n : ℕ) → FitOne d n (begunAt form doc room d kind name len at n)) → (t : Bool) → holds kind ≡ t → FitOne (suc d) n (begunAt form doc room (suc d) kind name len at n)
       go ih true h = kinds ih (held-kind kind h)
-      go ih false h = subst (FitOne (suc d) n) (sym (begun-leaf doc room (suc d) kind name len at n h)) (fit-none (suc d) n)
+      go ih false h = subst (FitOne (suc d) n) (sym (begun-leaf form doc room (suc d) kind name len at n h)) (fit-none (suc d) n)
 
 -- The lines of a document that is cut.
-pub document-lined : IsRescuedLined
-document-lined doc room k e =
-    let i = kept-is doc room e in
+pub document-lined : (form : Form) → IsRescuedLined form
+document-lined form doc room k e =
+    let i = kept-is form doc room e in
     let s = i .s in
-    let f = subst (FitOne depthLimit 0) (sym (i .is)) (begun-fit doc room depthLimit 10 (s .start) (s .size) (s .next) 0) in
-    (f .fit .lined, (_, _, ap (λ (k : Kept). k .lines) (i .is ∙ begun-compound doc room 511 (s .next) 0 (s .start) (s .size)), refl), f .fit .few)
+    let f = subst (FitOne depthLimit 0) (sym (i .is)) (begun-fit form doc room depthLimit 10 (s .start) (s .size) (s .next) 0) in
+    (f .fit .lined, (_, _, ap (λ (k : Kept). k .lines) (i .is ∙ begun-compound form doc room 511 (s .next) 0 (s .start) (s .size)), refl), f .fit .few)

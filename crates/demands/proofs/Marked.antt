@@ -7,7 +7,7 @@ use Rattle.form.specs.Spans.{same}
 use Rattle.form.specs.Strings.{unitBytes, scalarBytes}
 use Rattle.form.specs.Decoding.{twoOf, threeOf, fourOf, unitOf, utf8Of, pairOf, scalarOf, walk, verdictBy}
 use Rattle.form.specs.Tree.{kindOf, many}
-use Rattle.form.specs.Layout.{intsBytes, payload, elementBytes, entryBytes, layout}
+use Rattle.form.specs.Layout.{intsBytesIn, payloadIn, elementBytesIn, entryBytesIn, layoutIn}
 use Rattle.form.specs.Table.{size, width, _⊕_, flat, widthOf, valueBy, tagsOf, entriesOf}
 use Rattle.form.specs.Reading.{hasName, byteAt, bytesAt, numberAt, stringAt, countAt, arrayAt, leafAt, leafOne, listHeadAt, entryAt}
 use Rattle.form.specs.Reading.{elements, entries, listAt, compoundAt, containerAt, payloadBy, insideAt, documentAt}
@@ -25,7 +25,7 @@ pub marked : AreMarked
 unfolding records value same twoOf threeOf unitOf pairOf scalarOf walk verdictBy size width _⊕_ flat widthOf hasName byteAt bytesAt numberAt stringAt
     countAt arrayAt leafAt leafOne listHeadAt entryAt elements entries listAt compoundAt containerAt payloadBy insideAt documentAt valueBy tagsOf
     entriesOf oneThen someTail fits tagPaths itemPaths entryPaths paths which matches stepBy stepAt stepsAt spelt shallow asked toBits ofInt round
-    digits unitBytes scalarBytes fourOf utf8Of kindOf many intsBytes payload elementBytes entryBytes layout ascii bytesIn has before behind
+    digits unitBytes scalarBytes fourOf utf8Of kindOf many intsBytesIn payloadIn elementBytesIn entryBytesIn layoutIn ascii bytesIn has before behind
     decimalDigits worth wholeOf wholeNumber decimalOf decimalNumber number among after slurp word hexOf hexes escapeOf quotedBy quoted skipBy skip
     unquotedAt quotedAt tokenBy tokenAt judgedText lexed frontOf scalarsBy contentOf content known due following stringOf scalarTag scalarValue intsBy
     textArrayAt elementsBy listFrom textListAt squareAt keyOf colonAt closeAt textEntryAt entriesBy textCompoundAt textValueBy valueAt parsed

@@ -11,12 +11,13 @@ use lib.Dec.{ltb, leb, eqb}
 use lib.IntN.{ℤ, pos, negsuc}
 use borrow.Author.Tests.{ltb-true, leb-true, eqb-true, ne-eqb, not-true}
 use lib.ListN.{length, getD, length-append}
+use Rattle.form.specs.Form.{java}
 use Rattle.form.specs.Answer.{Out, got, no, _>>_, pick, textLimit, depthLimit, stringLimit, tooDeep, textEnds, unmatchedBrace}
 use Rattle.form.specs.Numbers.{FitsIn, bytesOf, bitsOf}
 use Rattle.form.specs.Spans.{same}
 use Rattle.form.specs.Tree as tree
-use Rattle.form.specs.Tree.{Tag, Tags, Entries, nil, more, entry, kindOf, many, depth, tagsDepth, entriesDepth, Text, Array, AllFit, hasEntry, OneKind, Valid, ValidTags, ValidEntries}
-use Rattle.form.specs.Layout.{stringBytes, intBytes, intsBytes, payload, elementBytes, entryBytes}
+use Rattle.form.specs.Tree.{Tag, Tags, Entries, nil, more, entry, kindOf, many, depth, tagsDepth, entriesDepth, TextIn, Array, AllFit, hasEntry, OneKind, ValidIn, ValidTagsIn, ValidEntriesIn}
+use Rattle.form.specs.Layout.{stringBytes, intBytes, intsBytes, payload, elementBytes, entryBytes, elementBytesIn, intsBytesIn, payloadIn}
 use Rattle.form.proofs.Answer.{guard-got}
 use Rattle.form.proofs.Digits.{digits-length}
 use Rattle.snbt_form.specs.Numbers.{Number, byte, short, int, long, float, double}
@@ -50,7 +51,7 @@ kind-wanted want k e n = eqb-true k want (subst (λ b. (b || eqb k want) ≡ tru
 
 -- A tag that is no container and keeps the rules.
 record Leaf (tag : Tag) : Type 0 where
-  valid : Valid tag
+  valid : ValidIn java tag
   flat : depth tag ≡ 0
 
 ranged-leaf : (w : ℕ) (z : ℤ) (tag : Tag) (p : ℕ) → (FitsIn w z → Leaf tag) → Gives parseNumbers Leaf (ranged w z tag p)
@@ -58,7 +59,7 @@ unfolding among
 ranged-leaf w z tag p f = gives-guard (inRange w z) _ _ _ refl (λ e. gives-got (f (in-range w z e)))
 
 number-leaf : (n : Number) (p : ℕ) → TokenHeld (numeral n) → Gives parseNumbers Leaf (numberTag n p)
-unfolding Valid depth
+unfolding ValidIn depth
 number-leaf (byte z) p h = ranged-leaf 1 z (tree.byte z) p (λ f. record { valid = f; flat = refl })
 number-leaf (short z) p h = ranged-leaf 2 z (tree.short z) p (λ f. record { valid = f; flat = refl })
 number-leaf (int z) p h = ranged-leaf 4 z (tree.int z) p (λ f. record { valid = f; flat = refl })
@@ -107,12 +108,12 @@ by-width P w (inr (inr e)) a b c = subst P (sym e) c
 
 -- An element takes its width.
 ints-length : (w : ℕ) (z : ℤ) (vs : List ℤ) → length (intsBytes w (z ∷ vs)) ≡ w + length (intsBytes w vs)
-unfolding intsBytes
+unfolding intsBytesIn
 ints-length w z vs = omega (arith, length-append (intBytes w z) (intsBytes w vs), digits-length w (bitsOf w z))
 
 -- An array of elements that fit takes four bytes and its elements.
 array-leaf : (w : ℕ) → Width w → (vs : List ℤ) → Array w vs → Leaf (arrayTag w vs) × (length (payload (arrayTag w vs)) ≡ 4 + length (intsBytes w vs))
-unfolding Valid depth payload
+unfolding ValidIn depth payloadIn
 array-leaf w h vs = by-width (λ w. Array w vs → Leaf (arrayTag w vs) × (length (payload (arrayTag w vs)) ≡ 4 + length (intsBytes w vs))) w h
     (λ a. (record { valid = a; flat = refl }, long 1)) (λ a. (record { valid = a; flat = refl }, long 4)) (λ a. (record { valid = a; flat = refl }, long 8))
   where
@@ -130,7 +131,7 @@ module _ (t : List ℕ) (room : ℕ) where
   pub record ValueFine (left want p u : ℕ) (v : Value) : Type 0 where
     ahead : Ahead p (v .next)
     kind : (want ≡ 0 → ⊥) → kindOf (v .tag) ≡ want
-    valid : Valid (v .tag)
+    valid : ValidIn java (v .tag)
     deep : depth (v .tag) ≤ left
     used : v .used ≡ u + length (payload (v .tag))
     fits : v .used ≤ room
@@ -147,7 +148,7 @@ module _ (t : List ℕ) (room : ℕ) where
   record RowFine (left f k p u : ℕ) (r : Row) : Type 0 where
     ahead : Ahead p (r .next)
     one-kind : OneKind k (r .tags)
-    valid : ValidTags (r .tags)
+    valid : ValidTagsIn java (r .tags)
     deep : tagsDepth (r .tags) ≤ left
     few : many (r .tags) < f
     used : r .used ≡ u + length (elementBytes (r .tags))
@@ -156,7 +157,7 @@ module _ (t : List ℕ) (room : ℕ) where
   -- The rest of a compound behind the earlier names.
   pub record BlockFine (left p u : ℕ) (earlier : List (List ℕ)) (b : Block) : Type 0 where
     pub ahead : Ahead p (b .next)
-    pub valid : ValidEntries (b .entries)
+    pub valid : ValidEntriesIn java (b .entries)
     apart : Apart earlier (b .entries)
     pub deep : entriesDepth (b .entries) ≤ left
     pub used : b .used ≡ u + length (entryBytes (b .entries))
@@ -175,14 +176,14 @@ module _ (t : List ℕ) (room : ℕ) where
 
   -- ---- scalars
 
-  string-text : (q : Bool) (a e p : ℕ) → Gives parseNumbers Text (stringOf t room q a e p)
+  string-text : (q : Bool) (a e p : ℕ) → Gives parseNumbers (TextIn java) (stringOf t room q a e p)
   unfolding stringOf among
   string-text q a e p =
       gives-bind (contentOf t q a e) _ (gives-all refl (content-formed t q a e))
       (λ s w. gives-guard (leb (length s) stringLimit) _ _ _ refl (λ l. gives-got (w, leb-true (length s) stringLimit l)))
 
   scalar-leaf : (k : Token) (p : ℕ) → TokenHeld k → Gives parseNumbers Leaf (scalarTag t room k p)
-  unfolding scalarTag Valid depth among
+  unfolding scalarTag ValidIn depth among
   scalar-leaf openCurly p h = gives-no refl
   scalar-leaf closedCurly p h = gives-no refl
   scalar-leaf openSquare p h = gives-no refl
@@ -243,7 +244,7 @@ module _ (t : List ℕ) (room : ℕ) where
   -- ---- arrays
 
   ints-fine : (f w brace : ℕ) (last : Last) (p u : ℕ) → p ≤ length t → length t < f + p → u ≤ room → Gives parseNumbers (IntsFine f w p u) (intsBy t room f w brace last p u)
-  unfolding intsBy AllFit intsBytes among
+  unfolding intsBy AllFit intsBytesIn among
   ints-fine zero w brace last p u l m r = absurd (omega arith)
   ints-fine (suc f) w brace last p u l m r =
       gives-bind (due t room later p unmatchedBrace brace) _ (due-in later p unmatchedBrace brace refl l)
@@ -283,7 +284,7 @@ module _ (t : List ℕ) (room : ℕ) where
 
     module _ (left : ℕ) (val : Reads) (right : Right (left - 1) val) where
       row-fine : (f k p u : ℕ) → 0 < k → p ≤ length t → length t < f + p → u ≤ room → Gives parseNumbers (RowFine (left - 1) f k p u) (elementsBy t room f val k p u)
-      unfolding elementsBy OneKind Valid depth many payload among
+      unfolding elementsBy OneKind ValidIn depth many payloadIn among
       row-fine zero k p u o l m r = absurd (omega arith)
       row-fine (suc f) k p u o l m r =
           gives-bind (following t room 93 p textEnds (length t)) _ (following-in 93 p textEnds (length t) refl l)
@@ -304,11 +305,11 @@ module _ (t : List ℕ) (room : ℕ) where
 
       -- A list takes five bytes and its elements.
       list-length : (ts : Tags) → length (payload (tree.list ts)) ≡ 5 + length (elementBytes ts)
-      unfolding payload
+      unfolding payloadIn
       list-length ts = omega (arith, length-append (bytesOf 4 (many ts)) (elementBytes ts), digits-length 4 (many ts))
 
       from-fine : (p : ℕ) (x : Next) (u : ℕ) → 0 < left → NextFine t p x → u + 5 ≤ room → Gives parseNumbers (ValueFine left 0 p u) (listFrom t room val x (u + 5))
-      unfolding listFrom Valid depth many OneKind elementBytes
+      unfolding listFrom ValidIn depth many OneKind elementBytesIn
       from-fine p x u o h r = gives-elim (eqb (signOf (x .td .token)) 93)
           (λ _. gives-got (record {
             ahead = (omega (arith, h .1), h .2);
@@ -395,7 +396,7 @@ module _ (t : List ℕ) (room : ℕ) where
 
       -- ---- compounds
 
-      key-text : (k : Token) (p : ℕ) → Gives parseNumbers Text (keyOf t room k p)
+      key-text : (k : Token) (p : ℕ) → Gives parseNumbers (TextIn java) (keyOf t room k p)
       unfolding keyOf among
       key-text openCurly p = gives-no refl
       key-text closedCurly p = gives-no refl
@@ -408,7 +409,7 @@ module _ (t : List ℕ) (room : ℕ) where
       key-text (numeral n) p = gives-no refl
 
       close-fine : (i p n u : ℕ) (earlier : List (List ℕ)) → p ≤ n → n ≤ length t → Gives parseNumbers (BlockFine (left - 1) p u earlier) (closeAt t room i n u)
-      unfolding closeAt Valid depth payload hasEntry among
+      unfolding closeAt ValidIn depth payloadIn hasEntry among
       close-fine i p n u earlier l h =
           gives-guard (leb (u + 1) room) _ _ _ refl
           (λ e. gives-got (record { ahead = (l, h); valid = tt; apart = λ x _. refl; deep = omega arith; used = refl; fits = leb-true (u + 1) room e }))
@@ -421,7 +422,7 @@ module _ (t : List ℕ) (room : ℕ) where
 
       -- An entry by its key, whose token ends at p.
       record EntryFine (earlier : List (List ℕ)) (p u : ℕ) (e : List ℕ × Value) : Type 0 where
-        text : Text (e .0)
+        text : TextIn java (e .0)
         new : known (e .0) earlier ≡ false
         value : ValueFine (left - 1) 0 p (u + (3 + length (e .0))) (e .1)
 
@@ -437,7 +438,7 @@ module _ (t : List ℕ) (room : ℕ) where
 
       more-entries : (earlier : List (List ℕ)) (p q u : ℕ) (e : List ℕ × Value) (r : Block) → p ≤ q → EntryFine earlier q u e → BlockFine (left - 1) (e .1 .next) (e .1 .used) (e .0 ∷ earlier) r
           → BlockFine (left - 1) p u earlier (record { entries = entry (e .0) (e .1 .tag) (r .entries); next = r .next; used = r .used })
-      unfolding Valid depth payload
+      unfolding ValidIn depth payloadIn
       more-entries earlier p q u e r l h k =
           let a = apart-entry earlier (e .0) (e .1 .tag) (r .entries) (h .new) (k .apart) in
           let x = payload (e .1 .tag) in
@@ -492,7 +493,7 @@ module _ (t : List ℕ) (room : ℕ) where
       -- ---- values
 
       value-fine : Right left (valueBy t room left val)
-      unfolding valueBy Valid depth payload among
+      unfolding valueBy ValidIn depth payloadIn among
       value-fine want x n u h l = gives-elim (eqb (signOf (x .token)) 123)
           (λ _. gives-bind (compoundAt t room left val (x .index) n u) _ (compound-fine (x .index) n u l)
           (λ b k. gives-guard (eqb want 0 || eqb (kindOf (tree.compound (b .entries))) want) _ _ _ refl

@@ -9,11 +9,12 @@ use lib.Dec.{ltb, eqb}
 use borrow.Author.Tests.{ltb-true, ltb-false}
 use lib.ListN.{length, getD, length-append, List·getD-append}
 use lib.Seq.{getD-append-add}
+use Rattle.form.specs.Form.{Form}
 use Rattle.form.specs.Answer.{pick}
-use Rattle.form.specs.Numbers.{bytesOf}
+use Rattle.form.specs.Numbers.{bytesIn}
 use Rattle.form.specs.Tree.{Tag, Tags, Entries, byte, short, int, long, float, double, byteArray, string, list, compound, intArray, longArray, nil, more, ended, entry, kindOf, many}
-use Rattle.form.specs.Layout.{stringBytes, ListId, listId, Payload, Elements, EntryBytes, payload, elementBytes, entryBytes, layout}
-use Rattle.form.proofs.Digits.{digits-length}
+use Rattle.form.specs.Layout.{stringBytesIn, ListId, listId, PayloadIn, ElementsIn, EntryBytesIn, payloadIn, elementBytesIn, entryBytesIn, layoutIn}
+use Rattle.form.proofs.Orders.{bytes-length}
 use Rattle.form.proofs.Picks.{differ}
 use Rattle.demands.specs.Writing.{isNil, idIn, elementIdIn, entryIdIn, Near, IsNear}
 use Rattle.demands.proofs.Fields.{string-length}
@@ -40,52 +41,54 @@ near-append s t bs cs xs ys m e a b = record {
         ap (λ q. getD (bs ++ xs) q 0) i ∙ getD-append-add bs xs (k - m) 0 ∙ b .same (k - m) z ∙ sym (ap (λ q. getD (cs ++ ys) q 0) j ∙ getD-append-add cs ys (k - m) 0)
 
 -- a list's head
-head-near : (ts : Tags) (id : ℕ) → ListId ts id → Near (λ k. eqb k 0 && isNil ts) (id ∷ bytesOf 4 (many ts)) (listId ts ∷ bytesOf 4 (many ts))
-head-near nil id i = record { long = refl; same = go }
+head-near : (form : Form) (ts : Tags) (id : ℕ) → ListId ts id → Near (λ k. eqb k 0 && isNil ts) (id ∷ bytesIn (form .order) 4 (many ts)) (listId ts ∷ bytesIn (form .order) 4 (many ts))
+head-near form nil id i = record { long = refl; same = go }
   where
-    go : (k : ℕ) → (eqb k 0 && true) ≡ false → getD (id ∷ bytesOf 4 (many nil)) k 0 ≡ getD (listId nil ∷ bytesOf 4 (many nil)) k 0
+    go : (k : ℕ) → (eqb k 0 && true) ≡ false → getD (id ∷ bytesIn (form .order) 4 (many nil)) k 0 ≡ getD (listId nil ∷ bytesIn (form .order) 4 (many nil)) k 0
     go zero z = differ z
     go (suc k) z = refl
-head-near (more t ts) id i = near-is _ (ap (λ b. b ∷ bytesOf 4 (many (more t ts))) i)
+head-near form (more t ts) id i = near-is _ (ap (λ b. b ∷ bytesIn (form .order) 4 (many (more t ts))) i)
 
 mutual
-  unfolding Payload payload idIn kindOf many
+  unfolding PayloadIn payloadIn idIn kindOf many
 
-  pub payload-near : (t : Tag) (bs : List ℕ) → Payload t bs → Near (idIn t) bs (payload t)
-  payload-near (byte v) bs p = near-is _ p
-  payload-near (short v) bs p = near-is _ p
-  payload-near (int v) bs p = near-is _ p
-  payload-near (long v) bs p = near-is _ p
-  payload-near (float b) bs p = near-is _ p
-  payload-near (double b) bs p = near-is _ p
-  payload-near (byteArray vs) bs p = near-is _ p
-  payload-near (string s) bs p = near-is _ p
-  payload-near (list ts) bs p =
+  pub payload-near : (form : Form) (t : Tag) (bs : List ℕ) → PayloadIn form t bs → Near (idIn form t) bs (payloadIn form t)
+  payload-near form (byte v) bs p = near-is _ p
+  payload-near form (short v) bs p = near-is _ p
+  payload-near form (int v) bs p = near-is _ p
+  payload-near form (long v) bs p = near-is _ p
+  payload-near form (float b) bs p = near-is _ p
+  payload-near form (double b) bs p = near-is _ p
+  payload-near form (byteArray vs) bs p = near-is _ p
+  payload-near form (string s) bs p = near-is _ p
+  payload-near form (list ts) bs p =
       rw (p .4)
-      (near-append (λ k. eqb k 0 && isNil ts) (elementIdIn ts) (p .0 ∷ bytesOf 4 (many ts)) (listId ts ∷ bytesOf 4 (many ts)) (p .1) (elementBytes ts) 5
-      (omega (arith, digits-length 4 (many ts))) (head-near ts (p .0) (p .2)) (elements-near ts (p .1) (p .3)))
-  payload-near (compound es) bs p = entries-near es bs p
-  payload-near (intArray vs) bs p = near-is _ p
-  payload-near (longArray vs) bs p = near-is _ p
+      (near-append (λ k. eqb k 0 && isNil ts) (elementIdIn form ts) (p .0 ∷ bytesIn (form .order) 4 (many ts)) (listId ts ∷ bytesIn (form .order) 4 (many ts)) (p .1) (elementBytesIn form ts) 5
+      (omega (arith, bytes-length (form .order) 4 (many ts))) (head-near form ts (p .0) (p .2)) (elements-near form ts (p .1) (p .3)))
+  payload-near form (compound es) bs p = entries-near form es bs p
+  payload-near form (intArray vs) bs p = near-is _ p
+  payload-near form (longArray vs) bs p = near-is _ p
 
-  elements-near : (ts : Tags) (bs : List ℕ) → Elements ts bs → Near (elementIdIn ts) bs (elementBytes ts)
-  elements-near nil bs e = near-is _ e
-  elements-near (more t ts) bs e =
-      rw (e .4) (near-append (idIn t) (elementIdIn ts) (e .0) (payload t) (e .1) (elementBytes ts) (length (payload t)) refl (payload-near t (e .0) (e .2)) (elements-near ts (e .1) (e .3)))
+  elements-near : (form : Form) (ts : Tags) (bs : List ℕ) → ElementsIn form ts bs → Near (elementIdIn form ts) bs (elementBytesIn form ts)
+  elements-near form nil bs e = near-is _ e
+  elements-near form (more t ts) bs e =
+      rw (e .4) (near-append (idIn form t) (elementIdIn form ts) (e .0) (payloadIn form t) (e .1) (elementBytesIn form ts)
+      (length (payloadIn form t)) refl (payload-near form t (e .0) (e .2)) (elements-near form ts (e .1) (e .3)))
 
-  entries-near : (es : Entries) (bs : List ℕ) → EntryBytes es bs → Near (entryIdIn es) bs (entryBytes es)
-  entries-near ended bs e = near-is _ e
-  entries-near (entry n t es) bs e =
+  entries-near : (form : Form) (es : Entries) (bs : List ℕ) → EntryBytesIn form es bs → Near (entryIdIn form es) bs (entryBytesIn form es)
+  entries-near form ended bs e = near-is _ e
+  entries-near form (entry n t es) bs e =
       rw (e .4)
-      (near-append (λ k. false) (λ k. pick (ltb k (length (payload t))) (idIn t k) (entryIdIn es (k - length (payload t))))
-      (kindOf t ∷ stringBytes n) (kindOf t ∷ stringBytes n) (e .0 ++ e .1) (payload t ++ entryBytes es) (3 + length n)
-      (omega (arith, string-length n)) (near-is _ refl)
-      (near-append (idIn t) (entryIdIn es) (e .0) (payload t) (e .1) (entryBytes es) (length (payload t)) refl (payload-near t (e .0) (e .2)) (entries-near es (e .1) (e .3))))
+      (near-append (λ k. false) (λ k. pick (ltb k (length (payloadIn form t))) (idIn form t k) (entryIdIn form es (k - length (payloadIn form t))))
+      (kindOf t ∷ stringBytesIn form n) (kindOf t ∷ stringBytesIn form n) (e .0 ++ e .1) (payloadIn form t ++ entryBytesIn form es) (3 + length n)
+      (omega (arith, string-length form n)) (near-is _ refl)
+      (near-append (idIn form t) (entryIdIn form es) (e .0) (payloadIn form t) (e .1) (entryBytesIn form es) (length (payloadIn form t)) refl
+      (payload-near form t (e .0) (e .2)) (entries-near form es (e .1) (e .3))))
 
 -- Two layouts of a document.
-pub near : IsNear
-unfolding layout
-near d bs l =
+pub near : (form : Form) → IsNear form
+unfolding layoutIn
+near form d bs l =
     rw (l .is)
-    (near-append (λ k. false) (entryIdIn (d .root)) (10 ∷ stringBytes (d .name)) (10 ∷ stringBytes (d .name)) (l .body) (entryBytes (d .root)) (3 + length (d .name))
-    (omega (arith, string-length (d .name))) (near-is _ refl) (entries-near (d .root) (l .body) (l .entries)))
+    (near-append (λ k. false) (entryIdIn form (d .root)) (10 ∷ stringBytesIn form (d .name)) (10 ∷ stringBytesIn form (d .name)) (l .body) (entryBytesIn form (d .root)) (3 + length (d .name))
+    (omega (arith, string-length form (d .name))) (near-is _ refl) (entries-near form (d .root) (l .body) (l .entries)))

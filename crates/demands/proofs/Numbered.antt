@@ -8,6 +8,7 @@ use mathlib.Core.Bool.{Bool, true, false}
 use native.Mathlib.Omega.{arith}
 use lib.ListN.{length}
 use lib.Dec.{eqb}
+use Rattle.form.specs.Form.{Form}
 use Rattle.form.specs.Answer.{pick}
 use Rattle.form.specs.Spans.{part}
 use Rattle.form.specs.Tree.{Tag, compound}
@@ -32,10 +33,10 @@ path-split (p ∷ ps) qs (suc m) q h = go (path-split ps qs m q h)
     go (inl a) = inl a
     go (inr b) = let z : suc m - suc (length ps) ≡ m - length ps = omega arith in let l = b .0 in inr (omega arith, subst (λ (k : ℕ). PathAt qs k q) (sym z) (b .1))
 
-module _ (doc w : List ℕ) where
+module _ (form : Form) (doc w : List ℕ) where
   -- The tag of a record.
   abbrev tagOf : Head → Forest → Tag
-  tagOf h inner = valueBy doc h (tagsOf doc inner) (entriesOf doc inner)
+  tagOf h inner = valueBy form doc h (tagsOf form doc inner) (entriesOf form doc inner)
 
   -- The path of a record that is number i in one of kind k and path p, and the paths of the records in it.
   abbrev pathOf : ℕ → ℕ → List Hop → Head → List Hop
@@ -46,8 +47,8 @@ module _ (doc w : List ℕ) where
 
   -- Where a hop leads among records side by side: by name in a compound (c), by number, from i on, in a list.
   abbrev Side : Bool → ℕ → Forest → Hop → Tag → Type 0
-  Side true i f h u = (nm : List ℕ) × (h ≡ named nm) × EntryOf (entriesOf doc f) nm u
-  Side false i f h u = (j : ℕ) × (h ≡ item (i + j)) × Nth (tagsOf doc f) j u
+  Side true i f h u = (nm : List ℕ) × (h ≡ named nm) × EntryOf (entriesOf form doc f) nm u
+  Side false i f h u = (j : ℕ) × (h ≡ item (i + j)) × Nth (tagsOf form doc f) j u
 
   record Found (c : Bool) (i n m : ℕ) (p q : List Hop) (f : Forest) : Type 0 where
     hop : Hop
@@ -57,7 +58,7 @@ module _ (doc w : List ℕ) where
     path : q ≡ p ++ (hop ∷ hs)
     first : Side c i f hop u
     leads : Leads hs u g
-    stands : StandsFor doc w (n + m) g
+    stands : StandsFor form doc w (n + m) g
 
   -- The first of them.
   side-first : (c : Bool) (i : ℕ) (h : Head) (inner later : Forest)
@@ -76,19 +77,19 @@ module _ (doc w : List ℕ) where
   down : (d : ℕ) (h : Head) (inner : Forest) → LeafIs d h inner ⊎ ContainerIs h inner → (n m : ℕ) (p q : List Hop)
       → PathAt (recordPaths doc (h .kind) 0 p inner) m q
       → (Found (eqb (h .kind) 10) 0 n m p q inner)
-      → (hs : List Hop) × (g : Tag) × (q ≡ p ++ hs) × Leads hs (tagOf h inner) g × StandsFor doc w (n + m) g
+      → (hs : List Hop) × (g : Tag) × (q ≡ p ++ hs) × Leads hs (tagOf h inner) g × StandsFor form doc w (n + m) g
   unfolding Leads valueBy recordPaths
   down d h inner (inl l) n m p q a f = absurd (rw (l .bare) at a)
   down d h inner (inr c) n m p q a f = go (held-kind (h .kind) (c .kind))
     where
-      go : (h .kind ≡ 9) ⊎ (h .kind ≡ 10) → (hs : List Hop) × (g : Tag) × (q ≡ p ++ hs) × Leads hs (tagOf h inner) g × StandsFor doc w (n + m) g
+      go : (h .kind ≡ 9) ⊎ (h .kind ≡ 10) → (hs : List Hop) × (g : Tag) × (q ≡ p ++ hs) × Leads hs (tagOf h inner) g × StandsFor form doc w (n + m) g
       go (inl e) =
           let s : Side false 0 inner (f .hop) (f .u) = subst (λ (k : ℕ). Side (eqb k 10) 0 inner (f .hop) (f .u)) e (f .first) in
           let z : item (0 + s .0) ≡ item (s .0) = ap item (omega arith) in
-          (item (s .0) ∷ f .hs, f .g, f .path ∙ ap (λ (x : Hop). p ++ (x ∷ f .hs)) (s .1 ∙ z), (tagsOf doc inner, f .u, rw e refl, s .2, f .leads), f .stands)
+          (item (s .0) ∷ f .hs, f .g, f .path ∙ ap (λ (x : Hop). p ++ (x ∷ f .hs)) (s .1 ∙ z), (tagsOf form doc inner, f .u, rw e refl, s .2, f .leads), f .stands)
       go (inr e) =
           let s : Side true 0 inner (f .hop) (f .u) = subst (λ (k : ℕ). Side (eqb k 10) 0 inner (f .hop) (f .u)) e (f .first) in
-          (named (s .0) ∷ f .hs, f .g, f .path ∙ ap (λ (x : Hop). p ++ (x ∷ f .hs)) (s .1), (entriesOf doc inner, f .u, rw e refl, s .2, f .leads), f .stands)
+          (named (s .0) ∷ f .hs, f .g, f .path ∙ ap (λ (x : Hop). p ++ (x ∷ f .hs)) (s .1), (entriesOf form doc inner, f .u, rw e refl, s .2, f .leads), f .stands)
 
   -- One step of that: below the first of the records, or after it.
   step : (d : ℕ) (l : Bool) (h : Head) (inner later : Forest) → Fair d l (node h inner later) → (n : ℕ) → Sits w n (node h inner later)
@@ -111,7 +112,7 @@ module _ (doc w : List ℕ) where
         path = y .2 ∙ append-assoc p (x ∷ []) (y .0);
         first = side-first (eqb k 10) i h inner later;
         leads = y .3;
-        stands = subst (λ (v : ℕ). StandsFor doc w v (y .1)) z (y .4);
+        stands = subst (λ (v : ℕ). StandsFor form doc w v (y .1)) z (y .4);
       }
   step d l h inner later fr n s k i p m q below after (inr b) =
       let r = pathOf k i p h in
@@ -127,7 +128,7 @@ module _ (doc w : List ℕ) where
         path = y .path;
         first = side-later (eqb k 10) i h inner later (y .hop) (y .u) (y .first);
         leads = y .leads;
-        stands = subst (λ (v : ℕ). StandsFor doc w v (y .g)) z (y .stands);
+        stands = subst (λ (v : ℕ). StandsFor form doc w v (y .g)) z (y .stands);
       }
 
   -- Each path among those of some records leads to the tag of the record at its place.
@@ -137,7 +138,7 @@ module _ (doc w : List ℕ) where
   find d l none fr n s k i p m q a = absurd a
   find d l (node h inner later) fr n s k i p zero q a =
       let z : n ≡ n + 0 = omega arith in
-      let here : StandsFor doc w n (tagOf h inner) = record { head = h; inner = inner; words-are = sits-first w n h inner later s; value = refl } in
+      let here : StandsFor form doc w n (tagOf h inner) = record { head = h; inner = inner; words-are = sits-first w n h inner later s; value = refl } in
       record {
         hop = hopOf k i (part doc (h .name) (h .name-length));
         hs = [];
@@ -146,7 +147,7 @@ module _ (doc w : List ℕ) where
         path = sym a;
         first = side-first (eqb k 10) i h inner later;
         leads = refl;
-        stands = subst (λ (x : ℕ). StandsFor doc w x (tagOf h inner)) z here;
+        stands = subst (λ (x : ℕ). StandsFor form doc w x (tagOf h inner)) z here;
       }
   find d l (node h inner later) fr n s k i p (suc m) q a =
       step d l h inner later fr n s k i p m q
@@ -155,17 +156,17 @@ module _ (doc w : List ℕ) where
       (path-split (pathsIn k i p h inner) (recordPaths doc k (suc i) p later) m q a)
 
 -- The paths of a table's document are the root's and those of the records in it.
-pub table-paths : (doc w : List ℕ) (t : IsTable (length doc) w) → paths (tableValue doc w t) ≡ [] ∷ recordPaths doc 10 0 [] (t .inner)
-table-paths doc w t =
+pub table-paths : (form : Form) (doc w : List ℕ) (t : IsTable (length doc) w) → paths (tableValue form doc w t) ≡ [] ∷ recordPaths doc 10 0 [] (t .inner)
+table-paths form doc w t =
     let inner-fair = fair-inner (length doc) false (t .head) (t .inner) none (t .fair) in
-    tree-paths doc (length doc) (t .head) (t .inner) (subst (λ (k : ℕ). Fair (length doc) (eqb k 9) (t .inner)) (t .compound) inner-fair)
+    tree-paths form doc (length doc) (t .head) (t .inner) (subst (λ (k : ℕ). Fair (length doc) (eqb k 9) (t .inner)) (t .compound) inner-fair)
 
-pub numbered : IsNumbered
+pub numbered : (form : Form) → IsNumbered form
 unfolding Leads valueBy
-numbered doc w t n p a = go n (subst (λ (ps : List (List Hop)). PathAt ps n p) (table-paths doc w t) a)
+numbered form doc w t n p a = go n (subst (λ (ps : List (List Hop)). PathAt ps n p) (table-paths form doc w t) a)
   where
     root : Tag
-    root = compound (entriesOf doc (t .inner))
+    root = compound (entriesOf form doc (t .inner))
 
     sits : Sits w 0 (node (t .head) (t .inner) none)
     sits = table-sits (length doc) w t
@@ -173,21 +174,21 @@ numbered doc w t n p a = go n (subst (λ (ps : List (List Hop)). PathAt ps n p) 
     inner-fair : Fair (length doc) (eqb (t .head .kind) 9) (t .inner)
     inner-fair = fair-inner (length doc) false (t .head) (t .inner) none (t .fair)
 
-    root-value : valueBy doc (t .head) (tagsOf doc (t .inner)) (entriesOf doc (t .inner)) ≡ root
+    root-value : valueBy form doc (t .head) (tagsOf form doc (t .inner)) (entriesOf form doc (t .inner)) ≡ root
     root-value = rw (t .compound) refl
 
-    go : (n : ℕ) → PathAt ([] ∷ recordPaths doc 10 0 [] (t .inner)) n p → (g : Tag) × Leads p root g × StandsFor doc w n g
+    go : (n : ℕ) → PathAt ([] ∷ recordPaths doc 10 0 [] (t .inner)) n p → (g : Tag) × Leads p root g × StandsFor form doc w n g
     go zero b = (
       root,
       subst (λ (q : List Hop). Leads q root root) b refl,
       record { head = t .head; inner = t .inner; words-are = sits-first w 0 (t .head) (t .inner) none sits; value = root-value },
     )
     go (suc m) b =
-        let f = find doc w (length doc) (eqb (t .head .kind) 9) (t .inner) inner-fair 1 (sits-inner w 0 (t .head) (t .inner) none sits) 10 0 [] m p b in
+        let f = find form doc w (length doc) (eqb (t .head .kind) 9) (t .inner) inner-fair 1 (sits-inner w 0 (t .head) (t .inner) none sits) 10 0 [] m p b in
         let s = f .first in
         let by-name : p ≡ named (s .0) ∷ f .hs = f .path ∙ ap (λ (x : Hop). x ∷ f .hs) (s .1) in
         let z : 1 + m ≡ suc m = omega arith in (
           f .g,
-          subst (λ (q : List Hop). Leads q root (f .g)) (sym by-name) (entriesOf doc (t .inner), f .u, refl, s .2, f .leads),
-          subst (λ (v : ℕ). StandsFor doc w v (f .g)) z (f .stands),
+          subst (λ (q : List Hop). Leads q root (f .g)) (sym by-name) (entriesOf form doc (t .inner), f .u, refl, s .2, f .leads),
+          subst (λ (v : ℕ). StandsFor form doc w v (f .g)) z (f .stands),
         )

@@ -9,10 +9,11 @@ use native.Mathlib.Decide.{ℕ-discrete}
 use lib.Dec.{ltb, leb, eqb}
 use lib.ListN.{length}
 use borrow.Author.Tests.{eqb-true}
+use Rattle.form.specs.Form.{Form}
 use Rattle.form.specs.Answer.{Out, got, no, guard, _>>=_, _>>_, pick, Count, counted, failed, badString, depthLimit, recordLimit, stringLimit, stepLimit}
 use Rattle.form.specs.Spans.{part}
-use Rattle.form.specs.Decoding.{wellFormed}
-use Rattle.form.specs.Layout.{layout}
+use Rattle.form.specs.Decoding.{wellFormedIn}
+use Rattle.form.specs.Layout.{layoutIn}
 use Rattle.form.specs.Table.{Head, Forest, none, node, size, _⊕_, headOf, holds, valueOf}
 use Rattle.form.specs.Tables.{IsTable, Within}
 use Rattle.form.specs.Reading.{hasName, byteAt}
@@ -34,69 +35,69 @@ use Rattle.demands.proofs.Meant.{parsed-fine}
 
 -- ---- reading
 
-pub read-numbers : IsReadNumbers
-read-numbers doc bytes room n p e = of-no e (document-sound wellFormed-iff doc room bytes) .number
+pub read-numbers : (form : Form) → IsReadNumbers form
+read-numbers form doc bytes room n p e = of-no e (document-sound form (wellFormed-iff (form .strings)) doc room bytes) .number
 
 -- ---- writing
 
-module _ (doc : List ℕ) where
-  string-any : (start len n : ℕ) → Gives writtenNumbers Any (stringFine doc start len n)
+module _ (form : Form) (doc : List ℕ) where
+  string-any : (start len n : ℕ) → Gives writtenNumbers Any (stringFine form doc start len n)
   unfolding stringFine among
-  string-any start len n = gives-guard (leb len stringLimit) _ _ _ refl (λ _. gives-test (wellFormed (part doc start len)) _ _ refl)
+  string-any start len n = gives-guard (leb len stringLimit) _ _ _ refl (λ _. gives-test (wellFormedIn (form .strings) (part doc start len)) _ _ refl)
 
-  payload-any : (h : Head) (n : ℕ) → Gives writtenNumbers Any (payloadFine doc h n)
+  payload-any : (h : Head) (n : ℕ) → Gives writtenNumbers Any (payloadFine form doc h n)
   unfolding payloadFine
   payload-any h n = gives-elim (eqb (h .kind) 8) (λ _. string-any (h .start) (h .size) n) (λ _. gives-got tt)
 
-  judged-any : (left : ℕ) (list : Bool) (k : ℕ) (earlier : Forest) (n : ℕ) (f : Forest) → Gives writtenNumbers Any (judged doc left list k earlier n f)
+  judged-any : (left : ℕ) (list : Bool) (k : ℕ) (earlier : Forest) (n : ℕ) (f : Forest) → Gives writtenNumbers Any (judged form doc left list k earlier n f)
   unfolding judged among
   judged-any left list k earlier n none = gives-got tt
   judged-any left list k earlier n (node h inner later) =
-      gives-then (stringFine doc (h .name) (h .name-length) n) _ (string-any (h .name) (h .name-length) n)
+      gives-then (stringFine form doc (h .name) (h .name-length) n) _ (string-any (h .name) (h .name-length) n)
       (λ _. gives-guard (list || not (hasName doc (part doc (h .name) (h .name-length)) earlier)) _ _ _ refl
       (λ _. gives-guard (not (holds (h .kind)) || ltb 0 left) _ _ _ refl
       (λ _. gives-guard (not list || eqb (h .kind) k) _ _ _ refl
-      (λ _. gives-then (payloadFine doc h n) _ (payload-any h n)
-      (λ _. gives-then (judged doc (left - 1) (eqb (h .kind) 9) (h .list-kind) none (n + 1) inner) _
+      (λ _. gives-then (payloadFine form doc h n) _ (payload-any h n)
+      (λ _. gives-then (judged form doc (left - 1) (eqb (h .kind) 9) (h .list-kind) none (n + 1) inner) _
       (judged-any (left - 1) (eqb (h .kind) 9) (h .list-kind) none (n + 1) inner)
       (λ _. judged-any left list k (earlier ⊕ node h inner none) (n + 1 + size inner) later))))))
 
-  written-any : (h : Head) (inner : Forest) (room : ℕ) → Gives writtenNumbers Any (written doc h inner room)
+  written-any : (h : Head) (inner : Forest) (room : ℕ) → Gives writtenNumbers Any (written form doc h inner room)
   unfolding written among
   written-any h inner room =
-      gives-then (judged doc depthLimit false 0 none 0 (node h inner none)) _ (judged-any depthLimit false 0 none 0 (node h inner none))
-      (λ _. gives-guard (leb (length (layout (valueOf doc h inner))) room) _ _ _ refl (λ _. gives-got tt))
+      gives-then (judged form doc depthLimit false 0 none 0 (node h inner none)) _ (judged-any depthLimit false 0 none 0 (node h inner none))
+      (λ _. gives-guard (leb (length (layoutIn form (valueOf form doc h inner))) room) _ _ _ refl (λ _. gives-got tt))
 
-pub write-numbers : IsWriteNumbers
-write-numbers doc h inner room n p e = gives-number e (written-any doc h inner room)
+pub write-numbers : (form : Form) → IsWriteNumbers form
+write-numbers form doc h inner room n p e = gives-number e (written-any form doc h inner room)
 
 -- A refusal's number is one of a write's, and what is beside it is 0 but in 4.
 abbrev Told : Count → Type 0
 Told (counted k) = Unit {0}
 Told (failed n p r) = (among writeNumbers n ≡ true) × ((n ≡ 4 → ⊥) → r ≡ 0)
 
-answer-told : (doc t : List ℕ) (x : Out (List ℕ)) → Gives writeNumbers Any x → Told (answerOf doc t x)
-answer-told doc t (got bs) h = tt
-answer-told doc t (no m n) h = go (eqb m badString) refl
+answer-told : (form : Form) (doc t : List ℕ) (x : Out (List ℕ)) → Gives writeNumbers Any x → Told (answerOf form doc t x)
+answer-told form doc t (got bs) h = tt
+answer-told form doc t (no m n) h = go (eqb m badString) refl
   where
-    go : (b : Bool) → eqb m badString ≡ b → Told (pick b (failed m (badPlace doc (headOf t n)) n) (failed m n 0))
+    go : (b : Bool) → eqb m badString ≡ b → Told (pick b (failed m (badPlace form doc (headOf t n)) n) (failed m n 0))
     go true e = (gives-number refl h, λ d. absurd (d (eqb-true m badString e)))
     go false e = (gives-number refl h, λ d. refl)
 
 -- In each of the promise's cases; both claims can be decided.
-pub write-refusals : IsWriteRefusals
+pub write-refusals : (form : Form) → IsWriteRefusals form
 unfolding among
-write-refusals doc t o answer o′ n p r w e = (each (Bool-discrete (among writeNumbers n) true) (λ x. x .0), λ u. each (ℕ-discrete r 0) (λ x. x .1 u))
+write-refusals form doc t o answer o′ n p r w e = (each (Bool-discrete (among writeNumbers n) true) (λ x. x .0), λ u. each (ℕ-discrete r 0) (λ x. x .1 u))
   where
-    from : (x : Out (List ℕ)) → Gives writeNumbers Any x → answer ≡ answerOf doc t x → Told (failed n p r)
-    from x h a = subst Told (sym a ∙ e) (answer-told doc t x h)
+    from : (x : Out (List ℕ)) → Gives writeNumbers Any x → answer ≡ answerOf form doc t x → Told (failed n p r)
+    from x h a = subst Told (sym a ∙ e) (answer-told form doc t x h)
 
     each : {C : Type 0} → Dec C → (Told (failed n p r) → C) → C
     each d f =
         in-each-case {W = Within (length doc) t} {T = IsTable (length doc) t} d
         (λ l. f (from (no 9 0) (gives-no refl) (w .large l .answer-is)))
         (λ l u. f (from (no 10 0) (gives-no refl) (w .unfit l u .answer-is)))
-        (λ l i. f (from _ (gives-all refl (written-any doc (i .head) (i .inner) (length o))) (w .fit l i .answer-is)))
+        (λ l i. f (from _ (gives-all refl (written-any form doc (i .head) (i .inner) (length o))) (w .fit l i .answer-is)))
 
 -- ---- stored lines
 
@@ -149,31 +150,31 @@ shallow-any left n (node h inner later) =
     (λ _. shallow-any left (n + 1 + size inner) later))
 
 -- Whatever is wrong with a step is 14.
-step-any : (q : List ℕ) (at : ℕ) → Gives askedNumbers Any (stepAt q at)
+step-any : (form : Form) (q : List ℕ) (at : ℕ) → Gives askedNumbers Any (stepAt form q at)
 unfolding stepAt among
-step-any q at = go (byteAt q at >>= (λ k. stepBy q k at))
+step-any form q at = go (byteAt q at >>= (λ k. stepBy form q k at))
   where
     go : {A : Type 0} (o : Out A) → Gives askedNumbers Any (blamed at o)
     go (got a) = gives-got tt
     go (no n p) = gives-no refl
 
-steps-any : (q : List ℕ) (left at : ℕ) → Gives askedNumbers Any (stepsAt q left at)
+steps-any : (form : Form) (q : List ℕ) (left at : ℕ) → Gives askedNumbers Any (stepsAt form q left at)
 unfolding stepsAt among
-steps-any q zero at = gives-elim (ltb at (length q)) (λ _. gives-no refl) (λ _. gives-got tt)
-steps-any q (suc left) at =
+steps-any form q zero at = gives-elim (ltb at (length q)) (λ _. gives-no refl) (λ _. gives-got tt)
+steps-any form q (suc left) at =
     gives-elim (ltb at (length q))
-    (λ _. gives-bind (stepAt q at) _ (step-any q at)
-    (λ s _. gives-bind (stepsAt q left (s .next)) _ (steps-any q left (s .next)) (λ rest _. gives-got tt)))
+    (λ _. gives-bind (stepAt form q at) _ (step-any form q at)
+    (λ s _. gives-bind (stepsAt form q left (s .next)) _ (steps-any form q left (s .next)) (λ rest _. gives-got tt)))
     (λ _. gives-got tt)
 
-asked-any : (doc q : List ℕ) (h : Head) (inner : Forest) → Gives askedNumbers Any (asked doc q h inner)
+asked-any : (form : Form) (doc q : List ℕ) (h : Head) (inner : Forest) → Gives askedNumbers Any (asked form doc q h inner)
 unfolding asked spelt
-asked-any doc q h inner =
+asked-any form doc q h inner =
     gives-then (shallow depthLimit 0 (node h inner none)) _ (shallow-any depthLimit 0 (node h inner none))
-    (λ _. gives-bind (spelt q) _ (steps-any q stepLimit 0) (λ ss _. gives-got tt))
+    (λ _. gives-bind (spelt form q) _ (steps-any form q stepLimit 0) (λ ss _. gives-got tt))
 
-pub query-numbers : IsQueryNumbers
-query-numbers doc q h inner n p e = gives-number e (asked-any doc q h inner)
+pub query-numbers : (form : Form) → IsQueryNumbers form
+query-numbers form doc q h inner n p e = gives-number e (asked-any form doc q h inner)
 
 -- A refusal has one of the numbers, and a count in 24 alone.
 abbrev Refuses : List ℕ → Answered → Type 0
@@ -189,8 +190,8 @@ within-refuses room (got ms) h = go (leb (length ms) room)
     go false = (refl, λ n. absurd (n refl))
 within-refuses room (no n p) h = (among-all askedNumbers withinNumbers n refl (gives-number refl h), λ _. refl)
 
-pub within-numbers : IsWithinNumbers
-within-numbers doc q h inner room n p c e = subst (Refuses withinNumbers) e (within-refuses room (asked doc q h inner) (asked-any doc q h inner))
+pub within-numbers : (form : Form) → IsWithinNumbers form
+within-numbers form doc q h inner room n p c e = subst (Refuses withinNumbers) e (within-refuses room (asked form doc q h inner) (asked-any form doc q h inner))
 
 -- An answer that fails is that of a refusal.
 failed-refused : (a : Answered) {n p c : ℕ} → countOf a ≡ failed n p c → a ≡ refused n p c
@@ -203,24 +204,24 @@ refuses-more (matched ms) h = tt
 refuses-more (refused n p c) h = (among-all withinNumbers queryNumbers n refl (h .0), h .1)
 
 -- In each of the promise's cases; both claims can be decided.
-pub query-refusals : IsQueryRefusals
+pub query-refusals : (form : Form) → IsQueryRefusals form
 unfolding among
-query-refusals doc t q l answer l′ n p c w e = (each (Bool-discrete (among queryNumbers n) true) (λ r. r .0), λ u. each (ℕ-discrete c 0) (λ r. r .1 u))
+query-refusals form doc t q l answer l′ n p c w e = (each (Bool-discrete (among queryNumbers n) true) (λ r. r .0), λ u. each (ℕ-discrete c 0) (λ r. r .1 u))
   where
     from : (a : Answered) → Refuses queryNumbers a → answer ≡ countOf a → Refuses queryNumbers (refused n p c)
     from a h i = subst (Refuses queryNumbers) (failed-refused a (sym i ∙ e)) h
 
-    fits : (h : Head) (inner : Forest) → Refuses queryNumbers (within (length l) (asked doc q h inner))
+    fits : (h : Head) (inner : Forest) → Refuses queryNumbers (within (length l) (asked form doc q h inner))
     fits h inner =
-        let a = asked doc q h inner in
-        refuses-more (within (length l) a) (within-refuses (length l) a (asked-any doc q h inner))
+        let a = asked form doc q h inner in
+        refuses-more (within (length l) a) (within-refuses (length l) a (asked-any form doc q h inner))
 
     each : {C : Type 0} → Dec C → (Refuses queryNumbers (refused n p c) → C) → C
     each d f =
         in-each-case {W = Within (length doc) t} {T = IsTable (length doc) t} d
         (λ x. f (from (refused 9 0 0) (refl, λ _. refl) (w .large x .answer-is)))
         (λ x y. f (from (refused 10 0 0) (refl, λ _. refl) (w .unfit x y .answer-is)))
-        (λ x i. f (from (within (length l) (asked doc q (i .head) (i .inner))) (fits (i .head) (i .inner)) (w .fit x i .answer-is)))
+        (λ x i. f (from (within (length l) (asked form doc q (i .head) (i .inner))) (fits (i .head) (i .inner)) (w .fit x i .answer-is)))
 
 -- ---- texts
 

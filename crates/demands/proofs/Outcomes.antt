@@ -3,6 +3,7 @@
 use Prim.Native.Nat.{ℕ}
 use mathlib.Core.Path.{_≡_, ap, sym, _∙_}
 use mathlib.Core.List.{List}
+use Rattle.form.specs.Form.{Form}
 use Rattle.form.specs.Tables.{IsTable, Within}
 use Rattle.form.specs.Moved.{Edition}
 use Rattle.form.proofs.Outcomes as outcomes
@@ -13,11 +14,11 @@ use Rattle.demands.specs.Outcomes.{IsOneWrite, IsOneQuery}
 use Rattle.demands.proofs.Stored.{one-write-lines}
 use Rattle.demands.proofs.Moved.{one-move}
 
-pub one-write : IsOneWrite
-one-write = outcomes.one-write
+pub one-write : (form : Form) → IsOneWrite form
+one-write form = outcomes.one-write form
 
-pub one-query : IsOneQuery
-one-query = outcomes.one-query
+pub one-query : (form : Form) → IsOneQuery form
+one-query form = outcomes.one-query form
 
 -- ---- the calls whose promises go by cases
 
@@ -30,10 +31,10 @@ one-table-called d t a₁ a₂ g h =
     (λ w i. g .fit w i ∙ sym (h .fit w i))
 
 -- Two outcomes of a write are one: the answer, the output and the table.
-pub one-write-called : (doc t o a₁ a₂ o₁ o₂ t₁ t₂ : List ℕ) → WriteCalled doc t t₁ o o₁ a₁ → WriteCalled doc t t₂ o o₂ a₂
+pub one-write-called : (form : Form) (doc t o a₁ a₂ o₁ o₂ t₁ t₂ : List ℕ) → WriteCalled form doc t t₁ o o₁ a₁ → WriteCalled form doc t t₂ o o₂ a₂
     → (a₁ ≡ a₂) × (o₁ ≡ o₂) × (t₁ ≡ t₂)
-one-write-called doc t o a₁ a₂ o₁ o₂ t₁ t₂ g h =
-    let e = one-write doc t o (g .result) (h .result) o₁ o₂ (g .is) (h .is) in
+one-write-called form doc t o a₁ a₂ o₁ o₂ t₁ t₂ g h =
+    let e = one-write form doc t o (g .result) (h .result) o₁ o₂ (g .is) (h .is) in
     (g .words-are ∙ ap besideWords (e .0) ∙ sym (h .words-are), e .1, g .kept ∙ sym (h .kept))
 
 -- Two outcomes of writing lines are one: the answer and the output.
@@ -49,7 +50,7 @@ one-move-called e d s o a₁ a₂ o₁ o₂ g h =
     (g .words-are ∙ ap countWords (q .0) ∙ sym (h .words-are), q .1)
 
 -- Two outcomes of a query are one: the answer and the list.
-pub one-query-called : (doc t q l a₁ a₂ l₁ l₂ : List ℕ) → QueryCalled doc t q l l₁ a₁ → QueryCalled doc t q l l₂ a₂ → (a₁ ≡ a₂) × (l₁ ≡ l₂)
-one-query-called doc t q l a₁ a₂ l₁ l₂ g h =
-    let e = one-query doc t q l (g .result) (h .result) l₁ l₂ (g .is) (h .is) in
+pub one-query-called : (form : Form) (doc t q l a₁ a₂ l₁ l₂ : List ℕ) → QueryCalled form doc t q l l₁ a₁ → QueryCalled form doc t q l l₂ a₂ → (a₁ ≡ a₂) × (l₁ ≡ l₂)
+one-query-called form doc t q l a₁ a₂ l₁ l₂ g h =
+    let e = one-query form doc t q l (g .result) (h .result) l₁ l₂ (g .is) (h .is) in
     (g .words-are ∙ ap besideWords (e .0) ∙ sym (h .words-are), e .1)

@@ -7,6 +7,7 @@ use mathlib.Core.List.{List, [], _∷_, _++_}
 use native.Mathlib.Omega.{arith}
 use lib.ListN.{length, take, length-append}
 use lib.Seq.{take-append-seam}
+use Rattle.form.specs.Form.{Form}
 use Rattle.form.specs.Spans.{part}
 use Rattle.form.specs.Table.{Forest, none, node, size, word}
 use Rattle.form.specs.Paths.{Hop}
@@ -57,7 +58,7 @@ module _ (all : List (List Hop)) where
       let z : n + suc (length ps + j) ≡ n + 1 + m + j = omega arith in
       subst (λ (k : ℕ). PathAt all k r) z (f (suc (length ps + j)) r (path-behind ps qs j r a))
 
-module _ (w : List ℕ) (all : List (List Hop)) where
+module _ (form : Form) (w : List ℕ) (all : List (List Hop)) where
   -- Record n's ninth word is a smaller number, and q is the path at that number.
   abbrev Climbs : ℕ → List Hop → Type 0
   Climbs n q = (word w n 8 < n) × PathAt all (word w n 8) q
@@ -94,8 +95,8 @@ pub root-parent : IsRootParent
 root-parent d w t = under-first w 0 0 (t .head) (t .inner) none (table-under d w t)
 
 -- The ninth word of a record is the number of the tag whose path is the record's without its last level.
-pub climbs : IsClimbs
-climbs doc w t n p h a = rw (table-paths doc w t) (go n (rw (table-paths doc w t) at a))
+pub climbs : (form : Form) → IsClimbs form
+climbs form doc w t n p h a = rw (table-paths form doc w t) (go n (rw (table-paths form doc w t) at a))
   where
     all : List (List Hop)
     all = [] ∷ recordPaths doc 10 0 [] (t .inner)
@@ -103,9 +104,9 @@ climbs doc w t n p h a = rw (table-paths doc w t) (go n (rw (table-paths doc w t
     from : From all 1 (recordPaths doc 10 0 [] (t .inner))
     from j r b = let z : suc j ≡ 1 + j = omega arith in subst (λ (k : ℕ). PathAt all k r) z b
 
-    go : (n : ℕ) → PathAt all n (p ++ (h ∷ [])) → Climbs w all n p
+    go : (n : ℕ) → PathAt all n (p ++ (h ∷ [])) → Climbs form w all n p
     go zero b = absurd (omega (arith, ap length b, length-append p (h ∷ [])))
     go (suc j) b =
         let z : 1 + j ≡ suc j = omega arith in
         let under = under-inner w 0 0 (t .head) (t .inner) none (table-under (length doc) w t) in
-        subst (λ (v : ℕ). Climbs w all v p) z (climb w all doc (t .inner) 0 1 10 0 [] under (omega arith) refl from j p h b)
+        subst (λ (v : ℕ). Climbs form w all v p) z (climb form w all doc (t .inner) 0 1 10 0 [] under (omega arith) refl from j p h b)

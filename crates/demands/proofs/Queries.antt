@@ -7,6 +7,7 @@ use mathlib.Core.List.{List, [], _∷_}
 use mathlib.Core.Bool.{Bool, true, false}
 use native.Mathlib.Omega.{arith}
 use lib.ListN.{length}
+use Rattle.form.specs.Form.{Form}
 use Rattle.form.specs.Answer.{Out, got, recordLimit}
 use Rattle.form.specs.Table.{none, node, valueOf}
 use Rattle.form.specs.Reading.{One, documentAt}
@@ -22,10 +23,10 @@ use Rattle.demands.proofs.Reading.{sound}
 
 -- ---- what a read wrote
 
-pub tabled : IsTabled
-tabled doc bytes room x le e =
-    let r = of-got e (root-is doc room) in
-    let s = sound doc bytes room x e in
+pub tabled : (form : Form) → IsTabled form
+tabled form doc bytes room x le e =
+    let r = of-got e (root-is form doc room) in
+    let s = sound form doc bytes room x e in
     let n = s .records in
     let f = s .fits in (
       record { head = x .head; inner = x .inner; compound = r .compound; fair = r .fair; these = refl },
@@ -33,22 +34,22 @@ tabled doc bytes room x le e =
     )
 
 -- It stands for the document that was read.
-pub tabled-value : (doc : List ℕ) (bytes : Bytes doc) (room : ℕ) (x : One) (le : room ≤ recordLimit) (e : documentAt doc room ≡ got x)
-    → tableValue doc (wordsOf x) (tabled doc bytes room x le e .0) ≡ valueOf doc (x .head) (x .inner)
+pub tabled-value : (form : Form) (doc : List ℕ) (bytes : Bytes doc) (room : ℕ) (x : One) (le : room ≤ recordLimit) (e : documentAt form doc room ≡ got x)
+    → tableValue form doc (wordsOf x) (tabled form doc bytes room x le e .0) ≡ valueOf form doc (x .head) (x .inner)
 unfolding tabled
-tabled-value doc bytes room x le e = refl
+tabled-value form doc bytes room x le e = refl
 
 -- Asking a document that was read gives no refusal but 14, which the steps rule out.
-asks : (doc : List ℕ) (room : ℕ) (x : One) → documentAt doc room ≡ got x → (q : List ℕ) (ss : List Step) → spelt q ≡ got ss
-    → asked doc q (x .head) (x .inner) ≡ got (matches (valueOf doc (x .head) (x .inner)) ss)
+asks : (form : Form) (doc : List ℕ) (room : ℕ) (x : One) → documentAt form doc room ≡ got x → (q : List ℕ) (ss : List Step) → spelt form q ≡ got ss
+    → asked form doc q (x .head) (x .inner) ≡ got (matches (valueOf form doc (x .head) (x .inner)) ss)
 unfolding asked
-asks doc room x e q ss sp = rw (of-got e (root-is doc room) .deep, sp)
+asks form doc room x e q ss sp = rw (of-got e (root-is form doc room) .deep, sp)
 
-pub answered : IsAnswered
+pub answered : (form : Form) → IsAnswered form
 unfolding tabled
-answered doc bytes room x le e q ss sp l answer l′ h =
-    let t = tabled doc bytes room x le e in
-    subst (λ (o : Out (List ℕ)). Finds (within (length l) o) l answer l′) (asks doc room x e q ss sp) (h .fit (t .1) (t .0))
+answered form doc bytes room x le e q ss sp l answer l′ h =
+    let t = tabled form doc bytes room x le e in
+    subst (λ (o : Out (List ℕ)). Finds (within (length l) o) l answer l′) (asks form doc room x e q ss sp) (h .fit (t .1) (t .0))
 
 -- ---- the matches
 

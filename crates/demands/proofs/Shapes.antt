@@ -9,6 +9,7 @@ use native.Mathlib.Omega.{arith}
 use lib.Dec.{eqb}
 use borrow.Author.Tests.{eq-eqb, ne-eqb}
 use lib.ListN.{length}
+use Rattle.form.specs.Form.{Form}
 use Rattle.form.specs.Answer.{pick}
 use Rattle.form.specs.Spans.{part}
 use Rattle.form.specs.Tree.{Tag, Tags, Entries, byteArray, string, list, compound, intArray, longArray, kindOf}
@@ -32,28 +33,28 @@ same-first none g e = ap firstKind (sym e)
 same-first (node h inner later) g (i, inside, rest, e, k, l, z, c, t, a, b) = k ∙ ap firstKind (sym e)
 
 -- the value of a string, of an array, of a list and of a compound
-module _ (doc : List ℕ) (h : Head) (ts : Tags) (es : Entries) where
-  as-string : h .kind ≡ 8 → valueBy doc h ts es ≡ string (part doc (h .start) (h .size))
+module _ (form : Form) (doc : List ℕ) (h : Head) (ts : Tags) (es : Entries) where
+  as-string : h .kind ≡ 8 → valueBy form doc h ts es ≡ string (part doc (h .start) (h .size))
   unfolding valueBy
   as-string e = rw e refl
 
-  as-list : h .kind ≡ 9 → valueBy doc h ts es ≡ list ts
+  as-list : h .kind ≡ 9 → valueBy form doc h ts es ≡ list ts
   unfolding valueBy
   as-list e = rw e refl
 
-  as-compound : h .kind ≡ 10 → valueBy doc h ts es ≡ compound es
+  as-compound : h .kind ≡ 10 → valueBy form doc h ts es ≡ compound es
   unfolding valueBy
   as-compound e = rw e refl
 
-  as-bytes : h .kind ≡ 7 → valueBy doc h ts es ≡ byteArray (intsAt doc 1 (h .count) (h .start))
+  as-bytes : h .kind ≡ 7 → valueBy form doc h ts es ≡ byteArray (intsAt form doc 1 (h .count) (h .start))
   unfolding valueBy
   as-bytes e = rw e refl
 
-  as-ints : h .kind ≡ 11 → valueBy doc h ts es ≡ intArray (intsAt doc 4 (h .count) (h .start))
+  as-ints : h .kind ≡ 11 → valueBy form doc h ts es ≡ intArray (intsAt form doc 4 (h .count) (h .start))
   unfolding valueBy
   as-ints e = rw e refl
 
-  as-longs : h .kind ≡ 12 → valueBy doc h ts es ≡ longArray (intsAt doc 8 (h .count) (h .start))
+  as-longs : h .kind ≡ 12 → valueBy form doc h ts es ≡ longArray (intsAt form doc 8 (h .count) (h .start))
   unfolding valueBy
   as-longs e = rw e refl
 
@@ -61,12 +62,12 @@ module _ (doc : List ℕ) (h : Head) (ts : Tags) (es : Entries) where
 array-range : (k : ℕ) → isArray k ≡ true → (6 < k) × (k ≡ 8 → ⊥)
 array-range k e = array-kind (λ k. (6 < k) × (k ≡ 8 → ⊥)) k e (omega arith, λ z. omega arith) (omega arith, λ z. omega arith) (omega arith, λ z. omega arith)
 
-module _ (doc₁ doc₂ : List ℕ) where
+module _ (form : Form) (doc₁ doc₂ : List ℕ) where
   abbrev tag₁ : Head → Forest → Tag
-  tag₁ h inner = valueBy doc₁ h (tagsOf doc₁ inner) (entriesOf doc₁ inner)
+  tag₁ h inner = valueBy form doc₁ h (tagsOf form doc₁ inner) (entriesOf form doc₁ inner)
 
   abbrev tag₂ : Head → Forest → Tag
-  tag₂ h inner = valueBy doc₂ h (tagsOf doc₂ inner) (entriesOf doc₂ inner)
+  tag₂ h inner = valueBy form doc₂ h (tagsOf form doc₂ inner) (entriesOf form doc₂ inner)
 
   -- ---- what holds no records
 
@@ -75,21 +76,21 @@ module _ (doc₁ doc₂ : List ℕ) where
     array-count : isArray (h .kind) ≡ true → h .count ≡ i .count
     array-count a =
         array-kind (λ q. h .kind ≡ q → h .count ≡ i .count) (h .kind) a
-        (λ z. let same : byteArray (intsAt doc₁ 1 (h .count) (h .start)) ≡ byteArray (intsAt doc₂ 1 (i .count) (i .start)) =
-        sym (as-bytes doc₁ h _ _ z) ∙ e ∙ as-bytes doc₂ i _ _ (sym k ∙ z) in counts 1 (cc))
-        (λ z. let same : intArray (intsAt doc₁ 4 (h .count) (h .start)) ≡ intArray (intsAt doc₂ 4 (i .count) (i .start)) =
-        sym (as-ints doc₁ h _ _ z) ∙ e ∙ as-ints doc₂ i _ _ (sym k ∙ z) in counts 4 (cc))
-        (λ z. let same : longArray (intsAt doc₁ 8 (h .count) (h .start)) ≡ longArray (intsAt doc₂ 8 (i .count) (i .start)) =
-        sym (as-longs doc₁ h _ _ z) ∙ e ∙ as-longs doc₂ i _ _ (sym k ∙ z) in counts 8 (cc))
+        (λ z. let same : byteArray (intsAt form doc₁ 1 (h .count) (h .start)) ≡ byteArray (intsAt form doc₂ 1 (i .count) (i .start)) =
+        sym (as-bytes form doc₁ h _ _ z) ∙ e ∙ as-bytes form doc₂ i _ _ (sym k ∙ z) in counts 1 (cc))
+        (λ z. let same : intArray (intsAt form doc₁ 4 (h .count) (h .start)) ≡ intArray (intsAt form doc₂ 4 (i .count) (i .start)) =
+        sym (as-ints form doc₁ h _ _ z) ∙ e ∙ as-ints form doc₂ i _ _ (sym k ∙ z) in counts 4 (cc))
+        (λ z. let same : longArray (intsAt form doc₁ 8 (h .count) (h .start)) ≡ longArray (intsAt form doc₂ 8 (i .count) (i .start)) =
+        sym (as-longs form doc₁ h _ _ z) ∙ e ∙ as-longs form doc₂ i _ _ (sym k ∙ z) in counts 8 (cc))
         refl
       where
-        counts : (w : ℕ) → intsAt doc₁ w (h .count) (h .start) ≡ intsAt doc₂ w (i .count) (i .start) → h .count ≡ i .count
-        counts w q = sym (ints-count doc₁ w (h .count) (h .start)) ∙ ap length q ∙ ints-count doc₂ w (i .count) (i .start)
+        counts : (w : ℕ) → intsAt form doc₁ w (h .count) (h .start) ≡ intsAt form doc₂ w (i .count) (i .start) → h .count ≡ i .count
+        counts w q = sym (ints-count form doc₁ w (h .count) (h .start)) ∙ ap length q ∙ ints-count form doc₂ w (i .count) (i .start)
 
     -- strings of one value have one length
     string-size : h .kind ≡ 8 → h .start + h .size ≤ length doc₁ → i .start + i .size ≤ length doc₂ → h .size ≡ i .size
     string-size z l m =
-        let same : string (part doc₁ (h .start) (h .size)) ≡ string (part doc₂ (i .start) (i .size)) = sym (as-string doc₁ h _ _ z) ∙ e ∙ as-string doc₂ i _ _ (sym k ∙ z) in
+        let same : string (part doc₁ (h .start) (h .size)) ≡ string (part doc₂ (i .start) (i .size)) = sym (as-string form doc₁ h _ _ z) ∙ e ∙ as-string form doc₂ i _ _ (sym k ∙ z) in
         let q : part doc₁ (h .start) (h .size) ≡ part doc₂ (i .start) (i .size) = cc in
         sym (part-length doc₁ (h .start) (h .size) l) ∙ ap length q ∙ part-length doc₂ (i .start) (i .size) m
 
@@ -111,8 +112,8 @@ module _ (doc₁ doc₂ : List ℕ) where
 
   -- they stand for the same tags: as elements of a list (l), or as entries of a compound
   abbrev pub Stand : Bool → Forest → Forest → Type 0
-  Stand true f g = tagsOf doc₁ f ≡ tagsOf doc₂ g
-  Stand false f g = entriesOf doc₁ f ≡ entriesOf doc₂ g
+  Stand true f g = tagsOf form doc₁ f ≡ tagsOf form doc₂ g
+  Stand false f g = entriesOf form doc₁ f ≡ entriesOf form doc₂ g
 
   record Parts (h i : Head) (inner inside later rest : Forest) (l : Bool) : Type 0 where
     tag : tag₁ h inner ≡ tag₂ i inside
@@ -168,12 +169,12 @@ module _ (doc₁ doc₂ : List ℕ) where
 
       go : (h .kind ≡ 9) ⊎ (h .kind ≡ 10) → SameInside h i inner inside
       go (inl z) =
-          let same : list (tagsOf doc₁ inner) ≡ list (tagsOf doc₂ inside) =
-          sym (as-list doc₁ h (tagsOf doc₁ inner) (entriesOf doc₁ inner) z) ∙ e ∙ as-list doc₂ i (tagsOf doc₂ inside) (entriesOf doc₂ inside) (sym k ∙ z) in
+          let same : list (tagsOf form doc₁ inner) ≡ list (tagsOf form doc₂ inside) =
+          sym (as-list form doc₁ h (tagsOf form doc₁ inner) (entriesOf form doc₁ inner) z) ∙ e ∙ as-list form doc₂ i (tagsOf form doc₂ inside) (entriesOf form doc₂ inside) (sym k ∙ z) in
           given (tags (cc) z)
       go (inr z) =
-          let same : compound (entriesOf doc₁ inner) ≡ compound (entriesOf doc₂ inside) =
-          sym (as-compound doc₁ h (tagsOf doc₁ inner) (entriesOf doc₁ inner) z) ∙ e ∙ as-compound doc₂ i (tagsOf doc₂ inside) (entriesOf doc₂ inside) (sym k ∙ z) in
+          let same : compound (entriesOf form doc₁ inner) ≡ compound (entriesOf form doc₂ inside) =
+          sym (as-compound form doc₁ h (tagsOf form doc₁ inner) (entriesOf form doc₁ inner) z) ∙ e ∙ as-compound form doc₂ i (tagsOf form doc₂ inside) (entriesOf form doc₂ inside) (sym k ∙ z) in
           given (names (cc) z)
 
   one-kind : (h i : Head) (inner inside : Forest) → LeafIs (length doc₁) h inner ⊎ ContainerIs h inner → LeafIs (length doc₂) i inside ⊎ ContainerIs i inside
@@ -181,7 +182,8 @@ module _ (doc₁ doc₂ : List ℕ) where
   one-kind h i inner inside s t e =
       let a = fair-kind (length doc₁) h inner s in
       let b = fair-kind (length doc₂) i inside t in
-      sym (kind-is doc₁ h (tagsOf doc₁ inner) (entriesOf doc₁ inner) (a .0) (a .1)) ∙ ap kindOf e ∙ kind-is doc₂ i (tagsOf doc₂ inside) (entriesOf doc₂ inside) (b .0) (b .1)
+      sym (kind-is form doc₁ h (tagsOf form doc₁ inner) (entriesOf form doc₁ inner) (a .0) (a .1)) ∙ ap kindOf e
+      ∙ kind-is form doc₂ i (tagsOf form doc₂ inside) (entriesOf form doc₂ inside) (b .0) (b .1)
 
   pub same-but : (l : Bool) (f g : Forest) → Fair (length doc₁) l f → Fair (length doc₂) l g → Stand l f g → SameBut f g
   unfolding SameBut Fair

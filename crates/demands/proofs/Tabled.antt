@@ -9,9 +9,10 @@ use native.Mathlib.Omega.{arith}
 use lib.ListN.{length}
 use lib.Dec.{ltb, leb, eqb}
 use borrow.Author.Tests.{leb-true, eqb-true, eqb-false, eq-eqb, lt-ltb}
+use Rattle.form.specs.Form.{Form}
 use Rattle.form.specs.Answer.{Out, got, no, guard, _>>_, _>>=_, pick, depthLimit, documentLimit}
 use Rattle.form.specs.Spans.{part}
-use Rattle.form.specs.Decoding.{verdict}
+use Rattle.form.specs.Decoding.{verdictIn}
 use Rattle.form.specs.Table.{Head, Forest, none, node, size, width, _⊕_, widthOf, holds}
 use Rattle.form.specs.Tables.{leafFits, firstKind, LeafIs, ContainerIs, NameIs, Fair}
 use Rattle.form.specs.Query.{shallow}
@@ -32,7 +33,7 @@ anything : {A : Type 0} (o : Out A) → Answers Whatever (λ _. Unit {0}) o
 anything (got a) = got-answers tt
 anything (no n p) = no-answers p tt
 
-module _ (doc : List ℕ) where
+module _ (form : Form) (doc : List ℕ) where
   -- ---- fields
 
   -- A span that lies in the document, of so many bytes and elements.
@@ -49,21 +50,21 @@ module _ (doc : List ℕ) where
   abbrev StringIs : Span → Type 0
   StringIs s = (s .count ≡ 0) × (s .start + s .size ≤ length doc)
 
-  string-span : (at : ℕ) → Answers Whatever StringIs (stringAt doc at)
+  string-span : (at : ℕ) → Answers Whatever StringIs (stringAt form doc at)
   unfolding stringAt
   string-span at =
-      bind-answers (numberAt doc 2 at) _ (anything (numberAt doc 2 at))
+      bind-answers (numberAt form doc 2 at) _ (anything (numberAt form doc 2 at))
       (λ n u. bind-answers (bytesAt doc n 0 (at + 2)) _ (bytes-span n 0 (at + 2))
-      (λ s w. readable-answers (verdict (part doc (at + 2) n)) (at + 2) _ (λ k e. tt) (λ e. got-answers (w .counts, w .to))))
+      (λ s w. readable-answers (verdictIn (form .strings) (part doc (at + 2) n)) (at + 2) _ (λ k e. tt) (λ e. got-answers (w .counts, w .to))))
 
   -- An array's elements.
   abbrev ArrayIs : ℕ → Span → Type 0
   ArrayIs w s = (s .size ≡ s .count * w) × (s .start + s .size ≤ length doc)
 
-  array-span : (w at : ℕ) → Answers Whatever (ArrayIs w) (arrayAt doc w at)
+  array-span : (w at : ℕ) → Answers Whatever (ArrayIs w) (arrayAt form doc w at)
   unfolding arrayAt
   array-span w at =
-      bind-answers (countAt doc at) _ (anything (countAt doc at))
+      bind-answers (countAt form doc at) _ (anything (countAt form doc at))
       (λ n u. weaker-array n (bytes-span (n * w) n (at + 4)))
     where
       weaker-array : (n : ℕ) → Answers Whatever (SpanIs (n * w) n) (bytesAt doc (n * w) n (at + 4)) → Answers Whatever (ArrayIs w) (bytesAt doc (n * w) n (at + 4))
@@ -78,17 +79,17 @@ module _ (doc : List ℕ) where
     fixed : (k : ℕ) → leafFits k (widthOf k) 0 ≡ true → Answers Whatever (LeafSpan k) (bytesAt doc (widthOf k) 0 at)
     fixed k e = weaker (bytesAt doc (widthOf k) 0 at) (bytes-span (widthOf k) 0 at) (λ s x. (rw (x .long, x .counts) e, x .to))
 
-    text : Answers Whatever (LeafSpan 8) (stringAt doc at)
+    text : Answers Whatever (LeafSpan 8) (stringAt form doc at)
     unfolding leafFits
-    text = weaker (stringAt doc at) (string-span at) (λ s x. (eq-eqb (s .count) 0 (x .0), x .1))
+    text = weaker (stringAt form doc at) (string-span at) (λ s x. (eq-eqb (s .count) 0 (x .0), x .1))
 
-    array : (k : ℕ) → ((n : ℕ) → leafFits k (n * widthOf k) n ≡ true) → Answers Whatever (LeafSpan k) (arrayAt doc (widthOf k) at)
-    array k e = weaker (arrayAt doc (widthOf k) at) (array-span (widthOf k) at) (λ s x. (rw (x .0) (e (s .count)), x .1))
+    array : (k : ℕ) → ((n : ℕ) → leafFits k (n * widthOf k) n ≡ true) → Answers Whatever (LeafSpan k) (arrayAt form doc (widthOf k) at)
+    array k e = weaker (arrayAt form doc (widthOf k) at) (array-span (widthOf k) at) (λ s x. (rw (x .0) (e (s .count)), x .1))
 
-    leaf-span : (kind : ℕ) → 0 < kind → kind ≤ 12 → holds kind ≡ false → Answers Whatever (LeafSpan kind) (leafAt doc kind at)
+    leaf-span : (kind : ℕ) → 0 < kind → kind ≤ 12 → holds kind ≡ false → Answers Whatever (LeafSpan kind) (leafAt form doc kind at)
     unfolding leafAt leafFits widthOf
     leaf-span kind p q =
-        by-kind (λ k. holds k ≡ false → Answers Whatever (LeafSpan k) (leafAt doc k at))
+        by-kind (λ k. holds k ≡ false → Answers Whatever (LeafSpan k) (leafAt form doc k at))
         (λ e. fixed 1 refl) (λ e. fixed 2 refl) (λ e. fixed 3 refl) (λ e. fixed 4 refl) (λ e. fixed 5 refl) (λ e. fixed 6 refl)
         (λ e. array 7 (λ n. eq-eqb (n * 1) (n * 1) refl)) (λ e. text) (λ e. differ e) (λ e. differ e)
         (λ e. array 11 (λ n. eq-eqb (n * 4) (n * 4) refl)) (λ e. array 12 (λ n. eq-eqb (n * 8) (n * 8) refl))
@@ -101,25 +102,25 @@ module _ (doc : List ℕ) where
   EntryIs end = Unit {0}
   EntryIs (named k s) = (0 < k) × (k ≤ 12) × (s .start + s .size ≤ length doc)
 
-  entry-is : (at : ℕ) → Answers Whatever EntryIs (entryAt doc at)
+  entry-is : (at : ℕ) → Answers Whatever EntryIs (entryAt form doc at)
   unfolding entryAt
   entry-is at = bind-answers (byteAt doc at) _ (anything (byteAt doc at)) (λ k u. go k (eqb k 0) refl)
     where
-      go : (k : ℕ) (t : Bool) → eqb k 0 ≡ t → Answers Whatever EntryIs (elim t [ true ↦ got end | false ↦ stringAt doc (at + 1) >>= (λ s. guard (leb k 12) 3 at >> got (named k s)) ])
+      go : (k : ℕ) (t : Bool) → eqb k 0 ≡ t → Answers Whatever EntryIs (elim t [ true ↦ got end | false ↦ stringAt form doc (at + 1) >>= (λ s. guard (leb k 12) 3 at >> got (named k s)) ])
       go k true e = got-answers tt
       go k false e =
-          bind-answers (stringAt doc (at + 1)) _ (string-span (at + 1))
+          bind-answers (stringAt form doc (at + 1)) _ (string-span (at + 1))
           (λ s w. guard-answers (leb k 12) _ _ _ (λ f. tt) (λ f. got-answers (let z = eqb-false k 0 e in (omega (arith, z), leb-true k 12 f, w .1))))
 
   -- A list of no elements has the kind 0, and any other a kind that is known.
   abbrev HeadIs : ListHead → Type 0
   HeadIs h = (h .count ≡ 0 → h .kind ≡ 0) × (0 < h .count → (0 < h .kind) × (h .kind ≤ 12))
 
-  head-is : (at : ℕ) → Answers Whatever HeadIs (listHeadAt doc at)
+  head-is : (at : ℕ) → Answers Whatever HeadIs (listHeadAt form doc at)
   unfolding listHeadAt
   head-is at =
       bind-answers (byteAt doc at) _ (anything (byteAt doc at))
-      (λ k u. bind-answers (numberAt doc 4 (at + 1)) _ (anything (numberAt doc 4 (at + 1)))
+      (λ k u. bind-answers (numberAt form doc 4 (at + 1)) _ (anything (numberAt form doc 4 (at + 1)))
       (λ n v. guard-answers (leb k 12 && (not (eqb k 0) || eqb n 0)) _ _ _ (λ e. tt)
       (λ e. guard-answers (ltb n (2 ^ 31)) _ _ _ (λ f. tt) (λ f. got-answers (none-is n k (eqb n 0) refl, some-is n k (eqb n 0) refl (leb k 12) refl (eqb k 0) refl e)))))
     where
@@ -172,7 +173,7 @@ module _ (doc : List ℕ) where
 
   module _ (room d : ℕ) where
     abbrev pub Reads : Type 0
-    Reads = (kind name len at n : ℕ) → 0 < kind → kind ≤ 12 → Answers Whatever (TagIs d kind name len) (readAt doc room d kind name len at n)
+    Reads = (kind name len at n : ℕ) → 0 < kind → kind ≤ 12 → Answers Whatever (TagIs d kind name len) (readAt form doc room d kind name len at n)
 
     module _ (P : Reads) where
       more-run : (l : Bool) (k c kind name len : ℕ) (x : One) (r : Run) → NameIs (length doc) l (x .head) → (l ≡ true → kind ≡ k)
@@ -189,46 +190,46 @@ module _ (doc : List ℕ) where
       unfolding width
       none-run l k at = record { fair = fair-none (length doc) l; deep = λ n. shallow-none d n; wide = λ e. refl; first = λ e p. absurd (omega arith) }
 
-      elements-are : (c k at n : ℕ) → (0 < c → (0 < k) × (k ≤ 12)) → Answers Whatever (RunIs d true k c) (elements doc (readAt doc room d) c k at n)
+      elements-are : (c k at n : ℕ) → (0 < c → (0 < k) × (k ≤ 12)) → Answers Whatever (RunIs d true k c) (elements form doc (readAt form doc room d) c k at n)
       unfolding elements
       elements-are zero k at n h = got-answers (none-run true k at)
       elements-are (suc c) k at n h =
           let q = h (omega arith) in
-          bind-answers (readAt doc room d k 0 0 at n) _ (P k 0 0 at n (q .0) (q .1))
-          (λ x t. bind-answers (elements doc (readAt doc room d) c k (x .next) (n + 1 + size (x .inner))) _
+          bind-answers (readAt form doc room d k 0 0 at n) _ (P k 0 0 at n (q .0) (q .1))
+          (λ x t. bind-answers (elements form doc (readAt form doc room d) c k (x .next) (n + 1 + size (x .inner))) _
           (elements-are c k (x .next) (n + 1 + size (x .inner)) (λ y. q))
           (λ r w. got-answers (more-run true k c k 0 0 x r (record { within = omega (arith, t .name-is, t .len-is); nameless = λ e. (t .name-is, t .len-is) }) (λ e. refl) t w)))
 
-      entries-are : (fuel at n : ℕ) (earlier : Forest) → Answers Whatever (RunIs d false 0 0) (entries doc (readAt doc room d) fuel earlier at n)
+      entries-are : (fuel at n : ℕ) (earlier : Forest) → Answers Whatever (RunIs d false 0 0) (entries form doc (readAt form doc room d) fuel earlier at n)
       unfolding entries
       entries-are zero at n earlier = no-answers at tt
-      entries-are (suc fuel) at n earlier = bind-answers (entryAt doc at) _ (entry-is at) (go (entries-are fuel))
+      entries-are (suc fuel) at n earlier = bind-answers (entryAt form doc at) _ (entry-is at) (go (entries-are fuel))
         where
           rest : Entry → Out Run
           rest e = elim e [
             | end ↦ got (record { forest = none; next = at + 1 })
-            | named kind s ↦ guard (not (hasName doc (part doc (s .start) (s .size)) earlier)) 6 at >> (readAt doc room d kind (s .start) (s .size) (s .next) n
-                >>= (λ x. entries doc (readAt doc room d) fuel (earlier ⊕ node (x .head) (x .inner) none) (x .next) (n + 1 + size (x .inner)) >>= (λ r. got (before x r))))
+            | named kind s ↦ guard (not (hasName doc (part doc (s .start) (s .size)) earlier)) 6 at >> (readAt form doc room d kind (s .start) (s .size) (s .next) n
+                >>= (λ x. entries form doc (readAt form doc room d) fuel (earlier ⊕ node (x .head) (x .inner) none) (x .next) (n + 1 + size (x .inner)) >>= (λ r. got (before x r))))
           ]
 
           plain : {c : ℕ} {r : Run} → RunIs d false 0 c r → RunIs d false 0 0 r
           plain w = record { fair = w .fair; deep = w .deep; wide = λ e. differ (sym e); first = λ e p. differ (sym e) }
 
-          go : ((at n : ℕ) (earlier : Forest) → Answers Whatever (RunIs d false 0 0) (entries doc (readAt doc room d) fuel earlier at n))
+          go : ((at n : ℕ) (earlier : Forest) → Answers Whatever (RunIs d false 0 0) (entries form doc (readAt form doc room d) fuel earlier at n))
               → (e : Entry) → EntryIs e → Answers Whatever (RunIs d false 0 0) (rest e)
           go ih end i = got-answers (none-run false 0 (at + 1))
           go ih (named kind s) i =
               guard-answers (not (hasName doc (part doc (s .start) (s .size)) earlier)) _ _ _ (λ e. tt)
-              (λ e. bind-answers (readAt doc room d kind (s .start) (s .size) (s .next) n) _ (P kind (s .start) (s .size) (s .next) n (i .0) (i .1))
-              (λ x t. bind-answers (entries doc (readAt doc room d) fuel (earlier ⊕ node (x .head) (x .inner) none) (x .next) (n + 1 + size (x .inner))) _
+              (λ e. bind-answers (readAt form doc room d kind (s .start) (s .size) (s .next) n) _ (P kind (s .start) (s .size) (s .next) n (i .0) (i .1))
+              (λ x t. bind-answers (entries form doc (readAt form doc room d) fuel (earlier ⊕ node (x .head) (x .inner) none) (x .next) (n + 1 + size (x .inner))) _
               (ih (x .next) (n + 1 + size (x .inner)) (earlier ⊕ node (x .head) (x .inner) none))
               (λ r w. got-answers (plain (more-run false 0 0 kind (s .start) (s .size) x r (tag-name x t (i .2)) (λ f. differ (sym f)) t w)))))
 
-      list-is : (at n : ℕ) → Answers Whatever (HeldIs (suc d) 9) (insideAt doc room (suc d) 9 at n)
+      list-is : (at n : ℕ) → Answers Whatever (HeldIs (suc d) 9) (insideAt form doc room (suc d) 9 at n)
       unfolding insideAt containerAt listAt width firstKind
       list-is at n =
-          bind-answers (listHeadAt doc at) _ (head-is at)
-          (λ h i. bind-answers (elements doc (readAt doc room d) (h .count) (h .kind) (at + 5) n) _ (elements-are (h .count) (h .kind) (at + 5) n (i .1))
+          bind-answers (listHeadAt form doc at) _ (head-is at)
+          (λ h i. bind-answers (elements form doc (readAt form doc room d) (h .count) (h .kind) (at + 5) n) _ (elements-are (h .count) (h .kind) (at + 5) n (i .1))
           (λ r w. got-answers (held h i r w)))
         where
           low : suc d - 1 ≡ d
@@ -247,10 +248,10 @@ module _ (doc : List ℕ) where
             listed = listed (h .count) (h .kind) (r .forest) (i .0) (w .wide refl) (w .first refl);
           }
 
-      compound-is : (at n : ℕ) → Answers Whatever (HeldIs (suc d) 10) (insideAt doc room (suc d) 10 at n)
+      compound-is : (at n : ℕ) → Answers Whatever (HeldIs (suc d) 10) (insideAt form doc room (suc d) 10 at n)
       unfolding insideAt containerAt compoundAt
       compound-is at n =
-          bind-answers (entries doc (readAt doc room d) (suc (length doc)) none at n) _ (entries-are (suc (length doc)) at n none)
+          bind-answers (entries form doc (readAt form doc room d) (suc (length doc)) none at n) _ (entries-are (suc (length doc)) at n none)
           (λ r w. got-answers (record { fair = w .fair; deep = λ m. rw low (w .deep m); some = omega arith; count = refl; listed = refl }))
         where
           low : suc d - 1 ≡ d
@@ -259,11 +260,11 @@ module _ (doc : List ℕ) where
   -- ---- one record, and the root
 
   module _ (room : ℕ) where
-    leaf-tag : (d kind name len at n : ℕ) → 0 < kind → kind ≤ 12 → holds kind ≡ false → Answers Whatever (TagIs d kind name len) (readAt doc room d kind name len at n)
+    leaf-tag : (d kind name len at n : ℕ) → 0 < kind → kind ≤ 12 → holds kind ≡ false → Answers Whatever (TagIs d kind name len) (readAt form doc room d kind name len at n)
     unfolding payloadBy leafOne
     leaf-tag d kind name len at n p q h =
         guard-answers (ltb n room) _ _ _ (λ e. tt)
-        (λ e. rw h (bind-answers (leafAt doc kind at) _ (leaf-span at kind p q h)
+        (λ e. rw h (bind-answers (leafAt form doc kind at) _ (leaf-span at kind p q h)
         (λ s w. got-answers (record {
           kind-is = refl;
           name-is = refl;
@@ -276,12 +277,12 @@ module _ (doc : List ℕ) where
         test : (b : Bool) → b ≡ false → (not b || ltb 0 d) ≡ true
         test b e = rw e
 
-    held-tag : (d kind name len at n : ℕ) → holds kind ≡ true → Answers Whatever (HeldIs d kind) (insideAt doc room d kind at (n + 1))
-        → Answers Whatever (TagIs d kind name len) (readAt doc room d kind name len at n)
+    held-tag : (d kind name len at n : ℕ) → holds kind ≡ true → Answers Whatever (HeldIs d kind) (insideAt form doc room d kind at (n + 1))
+        → Answers Whatever (TagIs d kind name len) (readAt form doc room d kind name len at n)
     unfolding payloadBy
     held-tag d kind name len at n h i =
         guard-answers (ltb n room) _ _ _ (λ e. tt)
-        (λ e. rw h (bind-answers (insideAt doc room d kind at (n + 1)) _ i
+        (λ e. rw h (bind-answers (insideAt form doc room d kind at (n + 1)) _ i
         (λ y w. got-answers (record {
           kind-is = refl;
           name-is = refl;
@@ -295,16 +296,16 @@ module _ (doc : List ℕ) where
         test true d l = lt-ltb 0 d l
         test false d l = refl
 
-    any-tag : (d : ℕ) → ((at n : ℕ) → Answers Whatever (HeldIs d 9) (insideAt doc room d 9 at n)) → ((at n : ℕ) → Answers Whatever (HeldIs d 10) (insideAt doc room d 10 at n)) → Reads room d
+    any-tag : (d : ℕ) → ((at n : ℕ) → Answers Whatever (HeldIs d 9) (insideAt form doc room d 9 at n)) → ((at n : ℕ) → Answers Whatever (HeldIs d 10) (insideAt form doc room d 10 at n)) → Reads room d
     any-tag d lists compounds kind name len at n p q =
-        by-kind (λ k. Answers Whatever (TagIs d k name len) (readAt doc room d k name len at n))
+        by-kind (λ k. Answers Whatever (TagIs d k name len) (readAt form doc room d k name len at n))
         (leaf 1 (omega arith) refl) (leaf 2 (omega arith) refl) (leaf 3 (omega arith) refl) (leaf 4 (omega arith) refl)
         (leaf 5 (omega arith) refl) (leaf 6 (omega arith) refl) (leaf 7 (omega arith) refl) (leaf 8 (omega arith) refl)
         (held-tag d 9 name len at n refl (lists at (n + 1))) (held-tag d 10 name len at n refl (compounds at (n + 1)))
         (leaf 11 (omega arith) refl) (leaf 12 (omega arith) refl)
         kind p q
       where
-        leaf : (k : ℕ) → (0 < k) × (k ≤ 12) → holds k ≡ false → Answers Whatever (TagIs d k name len) (readAt doc room d k name len at n)
+        leaf : (k : ℕ) → (0 < k) × (k ≤ 12) → holds k ≡ false → Answers Whatever (TagIs d k name len) (readAt form doc room d k name len at n)
         leaf k r h = leaf-tag d k name len at n (r .0) (r .1) h
 
     pub tag-is : (d : ℕ) → Reads room d
@@ -318,14 +319,14 @@ module _ (doc : List ℕ) where
       pub fair : Fair (length doc) false (node (x .head) (x .inner) none)
       pub deep : shallow depthLimit 0 (node (x .head) (x .inner) none) ≡ got tt
 
-    pub root-is : Answers Whatever RootIs (documentAt doc room)
+    pub root-is : Answers Whatever RootIs (documentAt form doc room)
     unfolding documentAt
     root-is =
         guard-answers (leb (length doc) documentLimit) _ _ _ (λ e. tt)
         (λ e. bind-answers (byteAt doc 0) _ (anything (byteAt doc 0))
         (λ k u. guard-answers (eqb k 10) _ _ _ (λ f. tt)
-        (λ f. bind-answers (stringAt doc 1) _ (string-span 1)
-        (λ s w. weaker (readAt doc room depthLimit 10 (s .start) (s .size) (s .next) 0) (tag-is depthLimit 10 (s .start) (s .size) (s .next) 0 (omega arith) (omega arith))
+        (λ f. bind-answers (stringAt form doc 1) _ (string-span 1)
+        (λ s w. weaker (readAt form doc room depthLimit 10 (s .start) (s .size) (s .next) 0) (tag-is depthLimit 10 (s .start) (s .size) (s .next) 0 (omega arith) (omega arith))
         (λ x t. record {
           compound = t .kind-is;
           fair = fair-node (length doc) false (x .head) (x .inner) none (tag-name x t (w .1)) (t .sort) (t .inner) (fair-none (length doc) false);

@@ -15,9 +15,10 @@ use Rattle.form.specs.Decoding.{Verdict, good, bad, utf8Verdict}
 use Rattle.form.specs.Numbers.{digits}
 use Rattle.form.specs.Spans.{over}
 use Rattle.form.specs.Tree.{Entries}
-use Rattle.form.specs.Layout.{entryBytes, layout}
+use Rattle.form.specs.Layout.{entryBytes, layout, layoutIn}
 use Rattle.form.proofs.Answer.{got-no}
-use Rattle.form.proofs.Strings.{utf8-judged}
+use Rattle.form.specs.Form.{java, utf8}
+use Rattle.form.proofs.Strings.{string-judged}
 use Rattle.form.proofs.Places.{part-over}
 use Rattle.form.proofs.Table.{over-length}
 use Rattle.snbt_form.specs.Lexing.{among}
@@ -54,7 +55,7 @@ text-judged t = go (leb (length t) textLimit) (utf8Verdict t) refl refl
     go true good h k =
         let short = leb-true (length t) textLimit h in
         let is : judgedText t ≡ got tt = rw (h, k) refl in
-        let formed = utf8-judged t .good-is .0 k in
+        let formed = string-judged utf8 t .good-is .0 k in
         record {
           fine = (λ e. (short, formed), λ p. is);
           large = (λ e. absurd (got-no (sym is ∙ e)), λ l. absurd (omega (arith, short)));
@@ -63,7 +64,7 @@ text-judged t = go (leb (length t) textLimit) (utf8Verdict t) refl refl
     go true (bad i) h k =
         let short = leb-true (length t) textLimit h in
         let is : judgedText t ≡ no badText 0 = rw (h, k) refl in
-        let not-formed : WellFormedUtf8 t → ⊥ = λ w. good-bad (sym (utf8-judged t .good-is .1 w) ∙ k) in
+        let not-formed : WellFormedUtf8 t → ⊥ = λ w. good-bad (sym (string-judged utf8 t .good-is .1 w) ∙ k) in
         record {
           fine = (λ e. absurd (got-no (sym e ∙ is)), λ p. absurd (not-formed (p .1)));
           large = (λ e. absurd (omega (arith, numbers-apart (sym e ∙ is))), λ l. absurd (omega (arith, short)));
@@ -78,7 +79,7 @@ lawful-text t room b e =
 
 -- A root without a name takes three bytes.
 root-length : (es : Entries) → length (layout (record { name = []; root = es })) ≡ 3 + length (entryBytes es)
-unfolding layout digits
+unfolding layoutIn digits
 root-length es = omega arith
 
 -- It takes the bytes counted.
@@ -101,7 +102,7 @@ text-output t o b answer o′ e p =
 pub text-read-back : IsTextReadBack
 text-read-back t room b e rest small records few =
     let d = documentOf b in
-    complete d (layout d) rest records (canonical d) (lawful-text t room b e) few small
+    complete java d (layout d) rest records (canonical java d) (lawful-text t room b e) few small
 
 -- Each turn moves on in the text, so that no bound runs out: 0 is none of the numbers of a parse.
 pub text-never-zero : IsTextNeverZero

@@ -9,9 +9,10 @@ use borrow.Author.Tests.{leb-true, le-leb, lt-leb}
 use lib.Dec.{leb, eqb}
 use lib.ListN.{length, take, length-append}
 use lib.Seq.{length-take-le}
+use Rattle.form.specs.Form.{Form}
 use Rattle.form.specs.Answer.{got, depthLimit, recordLimit}
-use Rattle.form.specs.Tree.{Lawful}
-use Rattle.form.specs.Layout.{layout}
+use Rattle.form.specs.Tree.{LawfulIn}
+use Rattle.form.specs.Layout.{layoutIn}
 use Rattle.form.specs.Table.{none, node, size, valueOf}
 use Rattle.form.specs.Tables.{IsTable, Within}
 use Rattle.form.specs.Reading.{One, documentAt}
@@ -32,72 +33,74 @@ table-few : (doc w : List ℕ) → Within (length doc) w → (t : IsTable (lengt
 table-few doc w s t = omega (arith, s .words, table-length (length doc) w t)
 
 -- What is written is the layout of the table's document, which keeps the rules.
-pub written-lawful : IsWrittenLawful
+pub written-lawful : (form : Form) → IsWrittenLawful form
 unfolding written
-written-lawful doc w bytes s t room bs e =
-    let a = then-got (judged doc depthLimit false 0 none 0 (node (t .head) (t .inner) none)) _ e in
-    let b = guard-got (leb (length (layout (tableValue doc w t))) room) _ _ _ (a .1) in
-    let q : layout (tableValue doc w t) ≡ bs = cc (b .1) in
+written-lawful form doc w bytes s t room bs e =
+    let a = then-got (judged form doc depthLimit false 0 none 0 (node (t .head) (t .inner) none)) _ e in
+    let b = guard-got (leb (length (layoutIn form (tableValue form doc w t))) room) _ _ _ (a .1) in
+    let q : layoutIn form (tableValue form doc w t) ≡ bs = cc (b .1) in
     record {
       laid = sym q;
-      lawful = root-lawful doc (t .head) (t .inner) (t .compound) (t .fair) bytes (s .bytes) (omega (arith, table-few doc w s t, size-one (t .head) (t .inner))) (a .0);
-      fits = omega (arith, leb-true (length (layout (tableValue doc w t))) room (b .0), ap length q);
+      lawful = root-lawful form doc (t .head) (t .inner) (t .compound) (t .fair) bytes (s .bytes) (omega (arith, table-few doc w s t, size-one (t .head) (t .inner))) (a .0);
+      fits = omega (arith, leb-true (length (layoutIn form (tableValue form doc w t))) room (b .0), ap length q);
     }
 
 -- Every table whose document keeps the rules is written, where there is room.
-pub lawful-written : IsLawfulWritten
+pub lawful-written : (form : Form) → IsLawfulWritten form
 unfolding written
-lawful-written doc w bytes s t room lawful fits =
-    rw (lawful-root doc (t .head) (t .inner) (t .compound) (t .fair) lawful, le-leb (length (layout (tableValue doc w t))) room fits) refl
+lawful-written form doc w bytes s t room lawful fits =
+    rw (lawful-root form doc (t .head) (t .inner) (t .compound) (t .fair) lawful, le-leb (length (layoutIn form (tableValue form doc w t))) room fits) refl
 
 -- It is refused with 13 where there is none.
-pub lawful-full : IsLawfulFull
+pub lawful-full : (form : Form) → IsLawfulFull form
 unfolding written
-lawful-full doc w bytes s t room lawful short =
-    rw (lawful-root doc (t .head) (t .inner) (t .compound) (t .fair) lawful, lt-leb (length (layout (tableValue doc w t))) room short) refl
+lawful-full form doc w bytes s t room lawful short =
+    rw (lawful-root form doc (t .head) (t .inner) (t .compound) (t .fair) lawful, lt-leb (length (layoutIn form (tableValue form doc w t))) room short) refl
 
 -- What is written is read back.
-pub read-back : IsReadBack
-read-back doc w bytes s t room bs e rest small =
-    let x = written-lawful doc w bytes s t room bs e in
-    let d = tableValue doc w t in
-    let c = counted doc (eqb (t .head .kind) 9) (t .inner) (fair-inner (length doc) false (t .head) (t .inner) none (t .fair)) in
-    rw (x .laid) (complete d (layout d) rest recordLimit (canonical d) (x .lawful) (omega (arith, table-few doc w s t, c .entries)) (rw (x .laid) at small))
+pub read-back : (form : Form) → IsReadBack form
+read-back form doc w bytes s t room bs e rest small =
+    let x = written-lawful form doc w bytes s t room bs e in
+    let d = tableValue form doc w t in
+    let c = counted form doc (eqb (t .head .kind) 9) (t .inner) (fair-inner (length doc) false (t .head) (t .inner) none (t .fair)) in
+    rw (x .laid) (complete form d (layoutIn form d) rest recordLimit (canonical form d) (x .lawful) (omega (arith, table-few doc w s t, c .entries)) (rw (x .laid) at small))
 
 -- ---- write after read
 
 -- What was read is written again, with room for it.
-again : (doc : List ℕ) (room : ℕ) (x : One) → documentAt doc room ≡ got x → Lawful (valueOf doc (x .head) (x .inner)) → (to : ℕ) → length (layout (valueOf doc (x .head) (x .inner))) ≤ to
-    → written doc (x .head) (x .inner) to ≡ got (layout (valueOf doc (x .head) (x .inner)))
+again : (form : Form) (doc : List ℕ) (room : ℕ) (x : One) → documentAt form doc room ≡ got x → LawfulIn form (valueOf form doc (x .head) (x .inner))
+    → (to : ℕ) → length (layoutIn form (valueOf form doc (x .head) (x .inner))) ≤ to
+    → written form doc (x .head) (x .inner) to ≡ got (layoutIn form (valueOf form doc (x .head) (x .inner)))
 unfolding written
-again doc room x e lawful to fits =
-    let f = of-got e (root-is doc room) in
-    rw (lawful-root doc (x .head) (x .inner) (f .compound) (f .fair) lawful, le-leb (length (layout (valueOf doc (x .head) (x .inner)))) to fits) refl
+again form doc room x e lawful to fits =
+    let f = of-got e (root-is form doc room) in
+    rw (lawful-root form doc (x .head) (x .inner) (f .compound) (f .fair) lawful, le-leb (length (layoutIn form (valueOf form doc (x .head) (x .inner)))) to fits) refl
 
 -- The table that reading leaves is written as the bytes consumed, but at the ids of empty lists.
-pub rewritten : IsRewritten
-rewritten doc bytes room few x e =
-    let s = sound doc bytes room x e in
-    let f = of-got e (root-is doc room) in
-    let d = valueOf doc (x .head) (x .inner) in
-    let n = near d (take (x .next) doc) (s .laid) in
-    let long : length (layout d) ≡ x .next = sym (n .long) ∙ length-take-le (x .next) doc (s .within) in
+pub rewritten : (form : Form) → IsRewritten form
+rewritten form doc bytes room few x e =
+    let s = sound form doc bytes room x e in
+    let f = of-got e (root-is form doc room) in
+    let d = valueOf form doc (x .head) (x .inner) in
+    let n = near form d (take (x .next) doc) (s .laid) in
+    let long : length (layoutIn form d) ≡ x .next = sym (n .long) ∙ length-take-le (x .next) doc (s .within) in
     record {
       table = record { head = x .head; inner = x .inner; compound = f .compound; fair = f .fair; these = refl };
       head-is = refl;
       inner-is = refl;
       small = record { bytes = s .small; words = omega (arith, flat-length 0 0 (node (x .head) (x .inner) none), size-one (x .head) (x .inner), s .fits, s .records) };
-      written-is = λ to l. again doc room x e (s .lawful) to (omega (arith, long));
+      written-is = λ to l. again form doc room x e (s .lawful) to (omega (arith, long));
       near = n;
     }
 
 -- ---- the domain of equality
 
 -- Each document of the domain is read from its layout, and written as that layout again.
-pub domain : IsDomain
-domain d i =
-    let bs = layout d in
-    let c : Complete bs recordLimit d bs =
-    subst (λ l. Complete l recordLimit d bs) (append-nil bs) (complete d bs [] recordLimit (canonical d) (i .lawful) (i .records) (omega (arith, length-append {A = ℕ} bs [], i .bytes))) in
-    let w = again bs recordLimit (c .x) (c .accepted) (subst Lawful (sym (c .tree)) (i .lawful)) (length bs) (omega (arith, ap (λ e. length (layout e)) (c .tree))) in
-    (c .x, c .accepted, c .tree, w ∙ ap (λ e. got (layout e)) (c .tree))
+pub domain : (form : Form) → IsDomain form
+domain form d i =
+    let bs = layoutIn form d in
+    let c : Complete form bs recordLimit d bs =
+    subst (λ l. Complete form l recordLimit d bs) (append-nil bs)
+    (complete form d bs [] recordLimit (canonical form d) (i .lawful) (i .records) (omega (arith, length-append {A = ℕ} bs [], i .bytes))) in
+    let w = again form bs recordLimit (c .x) (c .accepted) (subst (LawfulIn form) (sym (c .tree)) (i .lawful)) (length bs) (omega (arith, ap (λ e. length (layoutIn form e)) (c .tree))) in
+    (c .x, c .accepted, c .tree, w ∙ ap (λ e. got (layoutIn form e)) (c .tree))

@@ -7,9 +7,10 @@ use Prim.Native.String as text
 use mathlib.Core.Path.{_≡_}
 use mathlib.Core.List.{List, [], _∷_, map}
 use lib.ListN.{length}
+use Rattle.form.specs.Form.{Form, java}
 use Rattle.form.specs.Answer.{Out, got, no, Count, counted, failed, badString}
 use Rattle.form.specs.Spans.{part}
-use Rattle.form.specs.Strings.{WellFormed, FirstBad}
+use Rattle.form.specs.Strings.{WellFormedIn, FirstBadIn}
 use Rattle.form.specs.Decoding.{Verdict, good, bad, verdict}
 use Rattle.form.specs.Table.{Head, none, node, headOf}
 use Rattle.form.specs.Tables.{IsTable, Within}
@@ -21,30 +22,30 @@ use Rattle.demands.specs.Reading.{Bytes}
 use Rattle.demands.specs.Marked.{unhex}
 
 -- A string stands whole in the document, from its length at `at` on, and its first sequence that can't be read begins at p.
-pub record BrokenString (doc : List ℕ) (p : ℕ) : Type 0 where
+pub record BrokenString (form : Form) (doc : List ℕ) (p : ℕ) : Type 0 where
   pub at : ℕ
   pub size : ℕ
   pub offset : ℕ
-  pub sized : numberAt doc 2 at ≡ got size
+  pub sized : numberAt form doc 2 at ≡ got size
   pub whole : at + 2 + size ≤ length doc
-  pub first : FirstBad (part doc (at + 2) size) offset
+  pub first : FirstBadIn (form .strings) (part doc (at + 2) size) offset
   pub place : p ≡ at + 2 + offset
 
 -- `read-character`: a read that is refused with 4 points there.
-abbrev pub IsReadCharacter : Type 0
-IsReadCharacter = (doc t t′ : List ℕ) (p : ℕ) → Bytes doc → ReadCalled doc t t′ (refusal badString p) → BrokenString doc p
+abbrev pub IsReadCharacter : Form → Type 0
+IsReadCharacter form = (doc t t′ : List ℕ) (p : ℕ) → Bytes doc → ReadCalled form doc t t′ (refusal badString p) → BrokenString form doc p
 
 -- A record's first sequence that can't be read begins at p: in its name; or, where that is well formed, in its string payload.
-pub data BrokenRecord (doc : List ℕ) (h : Head) (p : ℕ) : Type 0 where
-  in-name : (k : ℕ) → FirstBad (part doc (h .name) (h .name-length)) k → p ≡ h .name + k → BrokenRecord doc h p
-  in-string : (k : ℕ) → WellFormed (part doc (h .name) (h .name-length)) → h .kind ≡ 8 → FirstBad (part doc (h .start) (h .size)) k
-      → p ≡ h .start + k → BrokenRecord doc h p
+pub data BrokenRecord (form : Form) (doc : List ℕ) (h : Head) (p : ℕ) : Type 0 where
+  in-name : (k : ℕ) → FirstBadIn (form .strings) (part doc (h .name) (h .name-length)) k → p ≡ h .name + k → BrokenRecord form doc h p
+  in-string : (k : ℕ) → WellFormedIn (form .strings) (part doc (h .name) (h .name-length)) → h .kind ≡ 8 → FirstBadIn (form .strings) (part doc (h .start) (h .size)) k
+      → p ≡ h .start + k → BrokenRecord form doc h p
 
 -- `write-character`: a write of a table that is refused with 4 points there, in the record beside the place, which is one of the table's.
-abbrev pub IsWriteCharacter : Type 0
-IsWriteCharacter =
+abbrev pub IsWriteCharacter : Form → Type 0
+IsWriteCharacter form =
     (doc t t′ o o′ : List ℕ) (p n : ℕ) → Within (length doc) t → IsTable (length doc) t
-    → WriteCalled doc t t′ o o′ (badString ∷ p ∷ n ∷ 0 ∷ 0 ∷ 0 ∷ 0 ∷ 0 ∷ []) → (9 * n + 9 ≤ length t) × BrokenRecord doc (headOf t n) p
+    → WriteCalled form doc t t′ o o′ (badString ∷ p ∷ n ∷ 0 ∷ 0 ∷ 0 ∷ 0 ∷ 0 ∷ []) → (9 * n + 9 ≤ length t) × BrokenRecord form doc (headOf t n) p
 
 -- ---- by example
 
@@ -86,7 +87,7 @@ reads =
 
 -- `read-examples`: the definition answers each as it says.
 abbrev pub AreReadExamples : Type 0
-AreReadExamples = map (λ e. countsOf (documentAt (unhex (e .0)) 8)) reads ≡ map (λ e. e .1) reads
+AreReadExamples = map (λ e. countsOf (documentAt java (unhex (e .0)) 8)) reads ≡ map (λ e. e .1) reads
 
 -- A document and the words of a root's record and of a string's in it, written with room for 64 bytes, and what that answers: name and
 -- string can't be read; the string can't; both can.
@@ -99,7 +100,7 @@ writes =
 
 -- What writing those two records answers.
 abbrev pub writtenTwo : List ℕ → List ℕ → Count
-writtenTwo doc t = answerOf doc t (written doc (headOf t 0) (node (headOf t 1) none none) 64)
+writtenTwo doc t = answerOf java doc t (written java doc (headOf t 0) (node (headOf t 1) none none) 64)
 
 -- `write-examples`: the definition answers each as it says.
 abbrev pub AreWriteExamples : Type 0

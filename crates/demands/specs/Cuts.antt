@@ -4,6 +4,7 @@ use Prim.Native.Nat.{ℕ}
 use Prim.Native.String as text
 use mathlib.Core.Path.{_≡_}
 use mathlib.Core.List.{List, [], _∷_, map}
+use Rattle.form.specs.Form.{java}
 use Rattle.form.specs.Cut.{Line, Rescue, saved, refused, rescued}
 use Rattle.demands.specs.Marked.{unhex}
 
@@ -12,7 +13,7 @@ pub data Try : Type 0 where
   try : text.String → ℕ → ℕ → ℕ → Try
 
 abbrev pub answerTo : Try → Rescue
-answerTo (try doc room lines bytes) = rescued (unhex doc) room lines bytes
+answerTo (try doc room lines bytes) = rescued java (unhex doc) room lines bytes
 
 abbrev pub line : ℕ → ℕ → ℕ → Line
 line container promised kept = record { container = container; promised = promised; kept = kept }

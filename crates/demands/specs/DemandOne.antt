@@ -8,10 +8,11 @@ use mathlib.Core.Logic.{_⊎_}
 use mathlib.Core.List.{List, [], _∷_}
 use mathlib.Core.Bool.{true, false}
 use lib.ListN.{length, drop, getD, replicate}
-use Rattle.form.specs.Answer.{badString, overLimit, badText, moreMatches}
+use Rattle.form.specs.Form.{Form, Rule}
+use Rattle.form.specs.Answer.{badString, overLimit, moreMatches}
 use Rattle.form.specs.Moved.{Edition}
 use Rattle.snbt_form.specs.Lexing.{among}
-use Rattle.calls.specs.Calls.{Mutf8Called, Utf8Called, ReadCalled, TableCalled, WriteCalled, RescueCalled, WriteLinesCalled, ReadLinesCalled, MoveCalled, QueryCalled, TokenCalled}
+use Rattle.calls.specs.Calls.{StringCalled, ReadCalled, TableCalled, WriteCalled, RescueCalled, WriteLinesCalled, ReadLinesCalled, MoveCalled, QueryCalled, TokenCalled}
 use Rattle.calls.specs.Calls.{ContentCalled, ParseCalled}
 use Rattle.demands.specs.Reading.{Bytes}
 use Rattle.demands.specs.Numbers.{readNumbers, writeNumbers, rescueNumbers, writeLinesNumbers, readLinesNumbers, moveNumbers, queryNumbers, tokenNumbers, contentNumbers, parseNumbers}
@@ -50,19 +51,18 @@ Alone P m a = (m ≡ []) × P a
 -- other changes nothing. On acceptance the words and bytes that the answer counts change, and no others. A rescue is lent three memories:
 -- its output and its list of changes are as any call's, and its table ends as a read of the same document leaves it.
 pub record DemandOne : Type 0 where
-  pub read : (doc t : List ℕ) → Bytes doc → Answers (ReadCalled doc t) readNumbers [] t (replicate (length t) 0) (λ a. 9 * getD a 3 0)
+  pub read : (form : Form) (doc t : List ℕ) → Bytes doc → Answers (ReadCalled form doc t) readNumbers [] t (replicate (length t) 0) (λ a. 9 * getD a 3 0)
   pub is-table : (d : ℕ) (t : List ℕ) → Answers (Alone (TableCalled d t)) (overLimit ∷ []) [] [] [] (λ a. 0)
-  pub write : (doc t t′ o : List ℕ) → Answers (WriteCalled doc t t′ o) writeNumbers (badString ∷ []) o o (λ a. getD a 2 0)
-  pub write-table : (doc t t′ o o′ a : List ℕ) → WriteCalled doc t t′ o o′ a → t′ ≡ t
-  pub rescue : (form : ℕ) (doc t t′ o c c′ : List ℕ) → Bytes doc → Answers (λ o′ a. RescueCalled form doc t t′ o o′ c c′ a) rescueNumbers (moreMatches ∷ []) o o (λ a. getD a 2 0)
-  pub rescue-changes : (form : ℕ) (doc t t′ o o′ c : List ℕ) → Bytes doc → Answers (RescueCalled form doc t t′ o o′ c) rescueNumbers (moreMatches ∷ []) c c (λ a. 3 * getD a 3 0)
-  pub rescue-table : (form : ℕ) (doc t t′ o o′ c c′ a : List ℕ) → RescueCalled form doc t t′ o o′ c c′ a → (t″ b : List ℕ) → ReadCalled doc t t″ b → t′ ≡ t″
+  pub write : (form : Form) (doc t t′ o : List ℕ) → Answers (WriteCalled form doc t t′ o) writeNumbers (badString ∷ []) o o (λ a. getD a 2 0)
+  pub write-table : (form : Form) (doc t t′ o o′ a : List ℕ) → WriteCalled form doc t t′ o o′ a → t′ ≡ t
+  pub rescue : (form : Form) (doc t t′ o c c′ : List ℕ) → Bytes doc → Answers (λ o′ a. RescueCalled form doc t t′ o o′ c c′ a) rescueNumbers (moreMatches ∷ []) o o (λ a. getD a 2 0)
+  pub rescue-changes : (form : Form) (doc t t′ o o′ c : List ℕ) → Bytes doc → Answers (RescueCalled form doc t t′ o o′ c) rescueNumbers (moreMatches ∷ []) c c (λ a. 3 * getD a 3 0)
+  pub rescue-table : (form : Form) (doc t t′ o o′ c c′ a : List ℕ) → RescueCalled form doc t t′ o o′ c c′ a → (t″ b : List ℕ) → ReadCalled form doc t t″ b → t′ ≡ t″
   pub write-lines : (d : ℕ) (t o : List ℕ) → Answers (WriteLinesCalled d t o) writeLinesNumbers [] o o (λ a. getD a 2 0)
   pub read-lines : (s t : List ℕ) → Answers (ReadLinesCalled s t) readLinesNumbers [] t (replicate (length t) 0) (λ a. 9 * getD a 2 0)
   pub move-lines : (e : Edition) (d : ℕ) (s o : List ℕ) → Answers (MoveCalled e d s o) moveNumbers [] o o (λ a. getD a 2 0)
-  pub query : (doc t q l : List ℕ) → Answers (QueryCalled doc t q l) queryNumbers (moreMatches ∷ []) l l (λ a. getD a 2 0)
+  pub query : (form : Form) (doc t q l : List ℕ) → Answers (QueryCalled form doc t q l) queryNumbers (moreMatches ∷ []) l l (λ a. getD a 2 0)
   pub token : (t : List ℕ) (start stops : ℕ) → Answers (Alone (TokenCalled t start stops)) tokenNumbers [] [] [] (λ a. 0)
   pub content : (t : List ℕ) (start e quoted : ℕ) (o : List ℕ) → Answers (ContentCalled t start e quoted o) contentNumbers [] o o (λ a. getD a 2 0)
   pub parse : (t o : List ℕ) → Answers (ParseCalled t o) parseNumbers [] o (replicate (length o) 0) (λ a. getD a 3 0)
-  pub check-mutf8 : (s : List ℕ) → Answers (Alone (Mutf8Called s)) (badString ∷ []) [] [] [] (λ a. 0)
-  pub check-utf8 : (s : List ℕ) → Answers (Alone (Utf8Called s)) (badText ∷ []) [] [] [] (λ a. 0)
+  pub check-string : (r : Rule) (n : ℕ) (s : List ℕ) → Answers (Alone (StringCalled r n s)) (n ∷ []) [] [] [] (λ a. 0)

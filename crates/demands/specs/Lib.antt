@@ -16,5 +16,6 @@ pub mod Rounding
 pub mod Marked
 pub mod Examples
 pub mod Cuts
+pub mod Pocket
 pub mod Stored
 pub mod Moved

@@ -6,6 +6,7 @@ use mathlib.Core.Path.{_≡_}
 use mathlib.Core.Logic.{_⊎_}
 use mathlib.Core.List.{List, [], _∷_}
 use lib.ListN.{length}
+use Rattle.form.specs.Form.{Form}
 use Rattle.form.specs.Tree.{Tag, Tags, Entries, list, compound, nil, more, ended, entry}
 use Rattle.form.specs.Table.{Head, Forest, size, tagsOf, entriesOf, valueBy}
 use Rattle.form.specs.Tables.{IsTable}
@@ -32,14 +33,14 @@ Leads (item i ∷ hs) t g = (ts : Tags) × (u : Tag) × (t ≡ list ts) × Nth t
 Leads (named n ∷ hs) t g = (es : Entries) × (u : Tag) × (t ≡ compound es) × EntryOf es n u × Leads hs u g
 
 -- Record n of the words w stands for a tag.
-pub record StandsFor (doc w : List ℕ) (n : ℕ) (g : Tag) : Type 0 where
+pub record StandsFor (form : Form) (doc w : List ℕ) (n : ℕ) (g : Tag) : Type 0 where
   pub head : Head
   pub inner : Forest
   pub words-are : Stands w n head (n + 1 + size inner)
-  pub value : valueBy doc head (tagsOf doc inner) (entriesOf doc inner) ≡ g
+  pub value : valueBy form doc head (tagsOf form doc inner) (entriesOf form doc inner) ≡ g
 
 -- `numbered`: the path at place n of a table's document leads from the root to the tag that record n stands for.
-abbrev pub IsNumbered : Type 0
-IsNumbered =
-    (doc w : List ℕ) (t : IsTable (length doc) w) (n : ℕ) (p : List Hop) → PathAt (paths (tableValue doc w t)) n p
-    → (g : Tag) × Leads p (compound (tableValue doc w t .root)) g × StandsFor doc w n g
+abbrev pub IsNumbered : Form → Type 0
+IsNumbered form =
+    (doc w : List ℕ) (t : IsTable (length doc) w) (n : ℕ) (p : List Hop) → PathAt (paths (tableValue form doc w t)) n p
+    → (g : Tag) × Leads p (compound (tableValue form doc w t .root)) g × StandsFor form doc w n g

@@ -6,6 +6,7 @@ use mathlib.Core.Path.{_≡_}
 use mathlib.Core.List.{List, [], _∷_}
 use mathlib.Core.Bool.{Bool, true}
 use lib.ListN.{length}
+use Rattle.form.specs.Form.{Form}
 use Rattle.form.specs.Answer.{Out, no, Count, failed}
 use Rattle.form.specs.Table.{Head, Forest}
 use Rattle.form.specs.Reading.{documentAt}
@@ -26,8 +27,8 @@ abbrev pub readNumbers : List ℕ
 readNumbers = 1 ∷ 2 ∷ 3 ∷ 4 ∷ 5 ∷ 6 ∷ 7 ∷ 8 ∷ 9 ∷ []
 
 -- `read-numbers`: a read refuses with one of these.
-abbrev pub IsReadNumbers : Type 0
-IsReadNumbers = (doc : List ℕ) → Bytes doc → (room n p : ℕ) → documentAt doc room ≡ no n p → among readNumbers n ≡ true
+abbrev pub IsReadNumbers : Form → Type 0
+IsReadNumbers form = (doc : List ℕ) → Bytes doc → (room n p : ℕ) → documentAt form doc room ≡ no n p → among readNumbers n ≡ true
 
 -- ---- writing
 
@@ -40,14 +41,14 @@ abbrev pub writtenNumbers : List ℕ
 writtenNumbers = 4 ∷ 6 ∷ 7 ∷ 11 ∷ 12 ∷ 13 ∷ []
 
 -- `write-numbers`: records are refused with one of those, whatever records they are.
-abbrev pub IsWriteNumbers : Type 0
-IsWriteNumbers =
-    (doc : List ℕ) (h : Head) (inner : Forest) (room n p : ℕ) → written doc h inner room ≡ no n p → among writtenNumbers n ≡ true
+abbrev pub IsWriteNumbers : Form → Type 0
+IsWriteNumbers form =
+    (doc : List ℕ) (h : Head) (inner : Forest) (room n p : ℕ) → written form doc h inner room ≡ no n p → among writtenNumbers n ≡ true
 
 -- `write-refusals`: whoever keeps the promise of a write refuses with one of a write's numbers, the record beside it being 0 but in 4.
-abbrev pub IsWriteRefusals : Type 0
-IsWriteRefusals =
-    (doc t o : List ℕ) (answer : Count) (o′ : List ℕ) (n p r : ℕ) → WriteIs doc t o answer o′ → answer ≡ failed n p r
+abbrev pub IsWriteRefusals : Form → Type 0
+IsWriteRefusals form =
+    (doc t o : List ℕ) (answer : Count) (o′ : List ℕ) (n p r : ℕ) → WriteIs form doc t o answer o′ → answer ≡ failed n p r
     → (among writeNumbers n ≡ true) × ((n ≡ 4 → ⊥) → r ≡ 0)
 
 -- ---- rescues
@@ -57,9 +58,9 @@ abbrev pub rescueNumbers : List ℕ
 rescueNumbers = 2 ∷ 3 ∷ 4 ∷ 5 ∷ 6 ∷ 7 ∷ 8 ∷ 9 ∷ 13 ∷ 24 ∷ 31 ∷ 32 ∷ []
 
 -- `rescue-numbers`: a rescue refuses with one of these, the count being 0 but in 24.
-abbrev pub IsRescueNumbers : Type 0
-IsRescueNumbers =
-    (doc : List ℕ) → Bytes doc → (room lines out n p c : ℕ) → rescued doc room lines out ≡ cut.refused n p c
+abbrev pub IsRescueNumbers : Form → Type 0
+IsRescueNumbers form =
+    (doc : List ℕ) → Bytes doc → (room lines out n p c : ℕ) → rescued form doc room lines out ≡ cut.refused n p c
     → (among rescueNumbers n ≡ true) × ((n ≡ 24 → ⊥) → c ≡ 0)
 
 -- ---- stored lines
@@ -107,20 +108,20 @@ abbrev pub withinNumbers : List ℕ
 withinNumbers = 7 ∷ 14 ∷ 24 ∷ []
 
 -- `query-numbers`: asking records is refused with 7 or 14, whatever records they are.
-abbrev pub IsQueryNumbers : Type 0
-IsQueryNumbers =
-    (doc q : List ℕ) (h : Head) (inner : Forest) (n p : ℕ) → asked doc q h inner ≡ no n p → among askedNumbers n ≡ true
+abbrev pub IsQueryNumbers : Form → Type 0
+IsQueryNumbers form =
+    (doc q : List ℕ) (h : Head) (inner : Forest) (n p : ℕ) → asked form doc q h inner ≡ no n p → among askedNumbers n ≡ true
 
 -- `within-numbers`: within a room also with 24; a refusal's count is 0 but in 24.
-abbrev pub IsWithinNumbers : Type 0
-IsWithinNumbers =
-    (doc q : List ℕ) (h : Head) (inner : Forest) (room n p c : ℕ) → within room (asked doc q h inner) ≡ refused n p c
+abbrev pub IsWithinNumbers : Form → Type 0
+IsWithinNumbers form =
+    (doc q : List ℕ) (h : Head) (inner : Forest) (room n p c : ℕ) → within room (asked form doc q h inner) ≡ refused n p c
     → (among withinNumbers n ≡ true) × ((n ≡ 24 → ⊥) → c ≡ 0)
 
 -- `query-refusals`: whoever keeps the promise of a query refuses with one of a query's numbers, the count being 0 but in 24.
-abbrev pub IsQueryRefusals : Type 0
-IsQueryRefusals =
-    (doc t q l : List ℕ) (answer : Count) (l′ : List ℕ) (n p c : ℕ) → QueryIs doc t q l answer l′ → answer ≡ failed n p c
+abbrev pub IsQueryRefusals : Form → Type 0
+IsQueryRefusals form =
+    (doc t q l : List ℕ) (answer : Count) (l′ : List ℕ) (n p c : ℕ) → QueryIs form doc t q l answer l′ → answer ≡ failed n p c
     → (among queryNumbers n ≡ true) × ((n ≡ 24 → ⊥) → c ≡ 0)
 
 -- ---- texts

@@ -6,6 +6,7 @@ use Prim.Native.Nat.{ℕ, _<_}
 use mathlib.Core.Path.{_≡_}
 use mathlib.Core.List.{List, [], _∷_, _++_}
 use lib.ListN.{length}
+use Rattle.form.specs.Form.{Form}
 use Rattle.form.specs.Table.{word}
 use Rattle.form.specs.Tables.{IsTable}
 use Rattle.form.specs.Paths.{Hop, paths}
@@ -17,7 +18,7 @@ abbrev pub IsRootParent : Type 0
 IsRootParent = (d : ℕ) (w : List ℕ) → IsTable d w → word w 0 8 ≡ 0
 
 -- `climbs`: where n's path has a last level h, its ninth word is a smaller number, and the path at that number is n's without h.
-abbrev pub IsClimbs : Type 0
-IsClimbs =
-    (doc w : List ℕ) (t : IsTable (length doc) w) (n : ℕ) (p : List Hop) (h : Hop) → PathAt (paths (tableValue doc w t)) n (p ++ (h ∷ []))
-    → (word w n 8 < n) × PathAt (paths (tableValue doc w t)) (word w n 8) p
+abbrev pub IsClimbs : Form → Type 0
+IsClimbs form =
+    (doc w : List ℕ) (t : IsTable (length doc) w) (n : ℕ) (p : List Hop) (h : Hop) → PathAt (paths (tableValue form doc w t)) n (p ++ (h ∷ []))
+    → (word w n 8 < n) × PathAt (paths (tableValue form doc w t)) (word w n 8) p

@@ -7,6 +7,7 @@ use mathlib.Core.Logic.{_⊎_, _↔_}
 use mathlib.Core.List.{List, [], _∷_}
 use mathlib.Core.Bool.{true}
 use lib.ListN.{length}
+use Rattle.form.specs.Form.{Form}
 use Rattle.form.specs.Answer.{got, recordLimit, Count}
 use Rattle.form.specs.Tree.{Document}
 use Rattle.form.specs.Table.{none, node, flat, valueOf}
@@ -21,19 +22,19 @@ abbrev pub wordsOf : One → List ℕ
 wordsOf x = flat 0 0 (node (x .head) (x .inner) none)
 
 -- `tabled`: what a read writes forms a table, within the limits of rule 7's check.
-abbrev pub IsTabled : Type 0
-IsTabled =
-    (doc : List ℕ) → Bytes doc → (room : ℕ) (x : One) → room ≤ recordLimit → documentAt doc room ≡ got x
+abbrev pub IsTabled : Form → Type 0
+IsTabled form =
+    (doc : List ℕ) → Bytes doc → (room : ℕ) (x : One) → room ≤ recordLimit → documentAt form doc room ≡ got x
     → IsTable (length doc) (wordsOf x) × Within (length doc) (wordsOf x)
 
 -- `answered`: whoever keeps a query's promise answers, of a document that a read accepts, with exactly its records, and of a query that
 -- spells some steps, with the matches of the document's tree: their number, and the list filled with them from its beginning on; or
 -- refusal 24 with their number, where the list is too short for them. No other refusal is left.
-abbrev pub IsAnswered : Type 0
-IsAnswered =
-    (doc : List ℕ) → Bytes doc → (room : ℕ) (x : One) → room ≤ recordLimit → documentAt doc room ≡ got x
-    → (q : List ℕ) (ss : List Step) → spelt q ≡ got ss → (l : List ℕ) (answer : Count) (l′ : List ℕ) → QueryIs doc (wordsOf x) q l answer l′
-    → Finds (within (length l) (got (matches (valueOf doc (x .head) (x .inner)) ss))) l answer l′
+abbrev pub IsAnswered : Form → Type 0
+IsAnswered form =
+    (doc : List ℕ) → Bytes doc → (room : ℕ) (x : One) → room ≤ recordLimit → documentAt form doc room ≡ got x
+    → (q : List ℕ) (ss : List Step) → spelt form q ≡ got ss → (l : List ℕ) (answer : Count) (l′ : List ℕ) → QueryIs form doc (wordsOf x) q l answer l′
+    → Finds (within (length l) (got (matches (valueOf form doc (x .head) (x .inner)) ss))) l answer l′
 
 -- Each number is below the next.
 abbrev pub Ascends : List ℕ → Type 0

@@ -6,6 +6,7 @@ use mathlib.Core.Path.{_≡_}
 use mathlib.Core.Logic.{_↔_}
 use mathlib.Core.List.{List, _++_}
 use lib.ListN.{length, take}
+use Rattle.form.specs.Form.{java}
 use Rattle.form.specs.Answer.{Out, got, no, overLimit, badText, documentLimit, textLimit}
 use Rattle.form.specs.Strings.{WellFormedUtf8}
 use Rattle.form.specs.Tree.{Lawful, entriesCount}
@@ -48,7 +49,7 @@ abbrev pub IsTextReadBack : Type 0
 IsTextReadBack =
     (t : List ℕ) (room : ℕ) (b : Block) → parsed t room ≡ got b → (rest : List ℕ) → length (layout (documentOf b) ++ rest) ≤ documentLimit
     → (records : ℕ) → 1 + entriesCount (b .entries) ≤ records
-    → Complete (layout (documentOf b) ++ rest) records (documentOf b) (layout (documentOf b))
+    → Complete java (layout (documentOf b) ++ rest) records (documentOf b) (layout (documentOf b))
 
 -- `text-never-zero`: a refusal has a number of document 01: the 0 that stands in a definition for a bound that runs out is never answered.
 abbrev pub IsTextNeverZero : Type 0

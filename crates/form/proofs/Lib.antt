@@ -5,6 +5,7 @@ pub mod Drops
 pub mod Numbers
 pub mod Digits
 pub mod Places
+pub mod Orders
 pub mod Coding
 pub mod Units
 pub mod Scalars

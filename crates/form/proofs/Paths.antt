@@ -10,6 +10,7 @@ use lib.IntN.{ℤ}
 use lib.ListN.{length, length-append}
 use lib.Dec.{eqb}
 use borrow.Author.Tests.{ne-eqb}
+use Rattle.form.specs.Form.{Form}
 use Rattle.form.specs.Answer.{pick}
 use Rattle.form.specs.Spans.{part}
 use Rattle.form.specs.Tree.{Tags, Entries, byte, short, int, long, float, double, byteArray, string, intArray, longArray}
@@ -37,14 +38,15 @@ module _ (doc : List ℕ) where
         paths-length k (suc i) p later,
       )
 
-  -- ---- the paths of the values that records stand for
+-- ---- the paths of the values that records stand for
 
+module _ (form : Form) (doc : List ℕ) where
   module _ (h : Head) (ts : Tags) (es : Entries) (p : List Hop) where
-    list-paths : h .kind ≡ 9 → tagPaths p (valueBy doc h ts es) ≡ p ∷ itemPaths p 0 ts
+    list-paths : h .kind ≡ 9 → tagPaths p (valueBy form doc h ts es) ≡ p ∷ itemPaths p 0 ts
     unfolding valueBy tagPaths
     list-paths e = rw e
 
-    compound-paths : h .kind ≡ 10 → tagPaths p (valueBy doc h ts es) ≡ p ∷ entryPaths p es
+    compound-paths : h .kind ≡ 10 → tagPaths p (valueBy form doc h ts es) ≡ p ∷ entryPaths p es
     unfolding valueBy tagPaths
     compound-paths e = rw e
 
@@ -65,7 +67,7 @@ module _ (doc : List ℕ) where
     alone false false false false false false false false true v₁ v₂ v₃ v₄ v₅ v₆ v₇ v₈ v₉ v₁₀ = refl
     alone false false false false false false false false false v₁ v₂ v₃ v₄ v₅ v₆ v₇ v₈ v₉ v₁₀ = refl
 
-    leaf-paths : eqb (h .kind) 9 ≡ false → eqb (h .kind) 10 ≡ false → tagPaths p (valueBy doc h ts es) ≡ p ∷ []
+    leaf-paths : eqb (h .kind) 9 ≡ false → eqb (h .kind) 10 ≡ false → tagPaths p (valueBy form doc h ts es) ≡ p ∷ []
     unfolding valueBy
     leaf-paths e f = rw (e, f) (alone (is 1) (is 2) (is 3) (is 4) (is 5) (is 6) (is 7) (is 8) (is 11) _ _ _ _ _ _ _ _ _ _)
       where
@@ -80,21 +82,21 @@ module _ (doc : List ℕ) where
 
   -- The paths of a record's value are its own and those of the records in it.
   value-paths : (d : ℕ) (h : Head) (inner : Forest) → LeafIs d h inner ⊎ ContainerIs h inner
-      → ((p : List Hop) → (itemPaths p 0 (tagsOf doc inner) ≡ recordPaths doc 9 0 p inner) × (entryPaths p (entriesOf doc inner) ≡ recordPaths doc 10 0 p inner))
-      → (p : List Hop) → tagPaths p (valueBy doc h (tagsOf doc inner) (entriesOf doc inner)) ≡ p ∷ recordPaths doc (h .kind) 0 p inner
+      → ((p : List Hop) → (itemPaths p 0 (tagsOf form doc inner) ≡ recordPaths doc 9 0 p inner) × (entryPaths p (entriesOf form doc inner) ≡ recordPaths doc 10 0 p inner))
+      → (p : List Hop) → tagPaths p (valueBy form doc h (tagsOf form doc inner) (entriesOf form doc inner)) ≡ p ∷ recordPaths doc (h .kind) 0 p inner
   unfolding recordPaths
   value-paths d h inner (inl l) ih p =
       rw (l .bare)
       (leaf-paths h _ _ p (ne-eqb (h .kind) 9 (leaf-kind d h inner l 9 (inl refl))) (ne-eqb (h .kind) 10 (leaf-kind d h inner l 10 (inr refl))))
   value-paths d h inner (inr c) ih p = go (held-kind (h .kind) (c .kind))
     where
-      go : (h .kind ≡ 9) ⊎ (h .kind ≡ 10) → tagPaths p (valueBy doc h (tagsOf doc inner) (entriesOf doc inner)) ≡ p ∷ recordPaths doc (h .kind) 0 p inner
+      go : (h .kind ≡ 9) ⊎ (h .kind ≡ 10) → tagPaths p (valueBy form doc h (tagsOf form doc inner) (entriesOf form doc inner)) ≡ p ∷ recordPaths doc (h .kind) 0 p inner
       go (inl e) = list-paths h _ _ p e ∙ rw (e, ih p .0)
       go (inr e) = compound-paths h _ _ p e ∙ rw (e, ih p .1)
 
   -- The paths of the values that records stand for, as elements and as entries, are the records' own.
   pub side-paths : (d : ℕ) (l : Bool) (f : Forest) → Fair d l f → (i : ℕ) (p : List Hop)
-      → (itemPaths p i (tagsOf doc f) ≡ recordPaths doc 9 i p f) × (entryPaths p (entriesOf doc f) ≡ recordPaths doc 10 i p f)
+      → (itemPaths p i (tagsOf form doc f) ≡ recordPaths doc 9 i p f) × (entryPaths p (entriesOf form doc f) ≡ recordPaths doc 10 i p f)
   unfolding tagPaths itemPaths entryPaths tagsOf entriesOf recordPaths hopOf
   side-paths d l none g i p = (refl, refl)
   side-paths d l (node h inner later) g i p =
@@ -107,7 +109,7 @@ module _ (doc : List ℕ) where
       (rw (a, x), rw (b, y))
 
   -- The paths of a document's tags are those of its records: the tag at place k of the file is record k.
-  pub tree-paths : (d : ℕ) (h : Head) (inner : Forest) → Fair d false inner → paths (valueOf doc h inner) ≡ [] ∷ recordPaths doc 10 0 [] inner
+  pub tree-paths : (d : ℕ) (h : Head) (inner : Forest) → Fair d false inner → paths (valueOf form doc h inner) ≡ [] ∷ recordPaths doc 10 0 [] inner
   unfolding paths tagPaths
   tree-paths d h inner g = ap (λ ps. [] ∷ ps) (side-paths d false inner g 0 [] .1)
 

@@ -6,8 +6,6 @@ use mathlib.Core.Path.{_≡_, refl, sym, ap, _∙_}
 use native.Mathlib.Omega.{arith}
 use lib.ListN.{length, getD, set, take, drop, length-set, take-append-drop}
 use lib.Seq.{length-take-le, take-at, drop-at, drop-drop, take-add, take-append-seam, take-set-le, drop-set-lt, take-set-lt, drop-set-add, getD-take, getD-drop}
-use Rattle.form.specs.Numbers.{bigEndian, bytesOf, valuesIn}
-use Rattle.form.proofs.Digits.{digits-value, value-below}
 use Rattle.form.specs.Spans.{part, over}
 use Rattle.form.proofs.Spans.{part-length}
 
@@ -78,10 +76,3 @@ set-over l at w i x h fits =
     ap (take w) (drop-set-add at l i x) ∙ take-set-lt w (drop at l) i x h in
     sym (over-alike l m at w (simp length-set fits) (sym (take-set-le at l (at + i) x (omega arith))) (sym (drop-set-lt (at + w) l (at + i) x (omega arith))))
     ∙ ap (over l at) inside
-
--- The bytes of a span are those of the number in them, which they hold.
-pub value-bytes : (l : List ℕ) → ((k : ℕ) → getD l k 0 < 256) → (at w : ℕ) → at + w ≤ length l
-    → (bytesOf w (bigEndian (part l at w)) ≡ part l at w) × (bigEndian (part l at w) < valuesIn w)
-value-bytes l bytes at w h =
-    let long : length (part l at w) ≡ w = part-length l at w h in
-    (rw long at (digits-value (part l at w) (part-below l bytes at w)), rw long at (value-below (part l at w) (part-below l bytes at w)))

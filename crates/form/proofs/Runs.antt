@@ -7,6 +7,7 @@ use mathlib.Core.Path.{_≡_, refl, sym, ap, _∙_}
 use native.Mathlib.Omega.{arith}
 use native.Mathlib.Numerals.{sub-one}
 use lib.ListN.{length}
+use Rattle.form.specs.Form.{Form}
 use Rattle.form.specs.Answer.{Out, got, no, _>>=_}
 use Rattle.form.specs.Table.{Forest, none, node, size, width, _⊕_, wrote}
 use Rattle.form.specs.Reading.{One, Run, Reader, end, named, Span, before, hasName, entryAt, elements, entries}
@@ -24,66 +25,66 @@ after f (no m p) = no m p
 
 -- ---- one turn of each loop
 
-module _ (doc : List ℕ) (read : Reader) where
-  pub elements-none : (kind at n left : ℕ) → left ≤ 0 → elements doc read left kind at n ≡ got (record { forest = none; next = at })
+module _ (form : Form) (doc : List ℕ) (read : Reader) where
+  pub elements-none : (kind at n left : ℕ) → left ≤ 0 → elements form doc read left kind at n ≡ got (record { forest = none; next = at })
   unfolding elements
   elements-none kind at n zero h = refl
   elements-none kind at n (suc left) h = absurd (omega arith)
 
-  pub elements-no : (kind at n left : ℕ) {m p : ℕ} → 0 < left → read kind 0 0 at n ≡ no m p → elements doc read left kind at n ≡ no m p
+  pub elements-no : (kind at n left : ℕ) {m p : ℕ} → 0 < left → read kind 0 0 at n ≡ no m p → elements form doc read left kind at n ≡ no m p
   unfolding elements
   elements-no kind at n zero h e = absurd (omega arith)
   elements-no kind at n (suc left) h e = rw e refl
 
   pub elements-next : (kind at n left : ℕ) {x : One} → 0 < left → read kind 0 0 at n ≡ got x
       → {at′ n′ : ℕ} → at′ ≡ x .next → n′ ≡ n + 1 + size (x .inner)
-      → elements doc read left kind at n ≡ then x (elements doc read (left - 1) kind at′ n′)
+      → elements form doc read left kind at n ≡ then x (elements form doc read (left - 1) kind at′ n′)
   unfolding elements
   elements-next kind at n zero h e p q = absurd (omega arith)
   elements-next kind at n (suc left) {x} h e p q = rw (p, q, sub-one (suc left), e) refl
 
   module _ (fuel : ℕ) (earlier : Forest) (at n : ℕ) (h : 0 < fuel) where
-    pub entries-head-no : {m p : ℕ} → entryAt doc at ≡ no m p → entries doc read fuel earlier at n ≡ no m p
+    pub entries-head-no : {m p : ℕ} → entryAt form doc at ≡ no m p → entries form doc read fuel earlier at n ≡ no m p
     unfolding entries
     entries-head-no {m} {p} e = go fuel h
       where
-        go : (g : ℕ) → 0 < g → entries doc read g earlier at n ≡ no m p
+        go : (g : ℕ) → 0 < g → entries form doc read g earlier at n ≡ no m p
         go zero h = absurd (omega arith)
         go (suc g) h = rw e refl
 
-    pub entries-end : entryAt doc at ≡ got end → entries doc read fuel earlier at n ≡ got (record { forest = none; next = at + 1 })
+    pub entries-end : entryAt form doc at ≡ got end → entries form doc read fuel earlier at n ≡ got (record { forest = none; next = at + 1 })
     unfolding entries
     entries-end e = go fuel h
       where
-        go : (g : ℕ) → 0 < g → entries doc read g earlier at n ≡ got (record { forest = none; next = at + 1 })
+        go : (g : ℕ) → 0 < g → entries form doc read g earlier at n ≡ got (record { forest = none; next = at + 1 })
         go zero h = absurd (omega arith)
         go (suc g) h = rw e refl
 
-    module _ {kind : ℕ} {s : Span} (e : entryAt doc at ≡ got (named kind s)) where
-      pub entries-twice : hasName doc (part doc (s .start) (s .size)) earlier ≡ true → entries doc read fuel earlier at n ≡ no 6 at
+    module _ {kind : ℕ} {s : Span} (e : entryAt form doc at ≡ got (named kind s)) where
+      pub entries-twice : hasName doc (part doc (s .start) (s .size)) earlier ≡ true → entries form doc read fuel earlier at n ≡ no 6 at
       unfolding entries
       entries-twice f = go fuel h
         where
-          go : (g : ℕ) → 0 < g → entries doc read g earlier at n ≡ no 6 at
+          go : (g : ℕ) → 0 < g → entries form doc read g earlier at n ≡ no 6 at
           go zero h = absurd (omega arith)
           go (suc g) h = rw (e, f) refl
 
       module _ (new : hasName doc (part doc (s .start) (s .size)) earlier ≡ false) where
-        pub entries-no : {m p : ℕ} → read kind (s .start) (s .size) (s .next) n ≡ no m p → entries doc read fuel earlier at n ≡ no m p
+        pub entries-no : {m p : ℕ} → read kind (s .start) (s .size) (s .next) n ≡ no m p → entries form doc read fuel earlier at n ≡ no m p
         unfolding entries
         entries-no {m} {p} f = go fuel h
           where
-            go : (g : ℕ) → 0 < g → entries doc read g earlier at n ≡ no m p
+            go : (g : ℕ) → 0 < g → entries form doc read g earlier at n ≡ no m p
             go zero h = absurd (omega arith)
             go (suc g) h = rw (e, new, f) refl
 
         pub entries-next : {x : One} → read kind (s .start) (s .size) (s .next) n ≡ got x
             → {at′ n′ : ℕ} → at′ ≡ x .next → n′ ≡ n + 1 + size (x .inner)
-            → entries doc read fuel earlier at n ≡ then x (entries doc read (fuel - 1) (earlier ⊕ node (x .head) (x .inner) none) at′ n′)
+            → entries form doc read fuel earlier at n ≡ then x (entries form doc read (fuel - 1) (earlier ⊕ node (x .head) (x .inner) none) at′ n′)
         unfolding entries
         entries-next {x} f p q = rw (p, q) (go fuel h)
           where
-            go : (g : ℕ) → 0 < g → entries doc read g earlier at n ≡ then x (entries doc read (g - 1) (earlier ⊕ node (x .head) (x .inner) none) (x .next) (n + 1 + size (x .inner)))
+            go : (g : ℕ) → 0 < g → entries form doc read g earlier at n ≡ then x (entries form doc read (g - 1) (earlier ⊕ node (x .head) (x .inner) none) (x .next) (n + 1 + size (x .inner)))
             go zero h = absurd (omega arith)
             go (suc g) h = rw (sub-one (suc g), e, new, f) refl
 

@@ -8,9 +8,10 @@ use mathlib.Core.Bool.{true, false}
 use lib.ListN.{length}
 use lib.Dec.{ltb, leb, eqb}
 use Rattle.form.specs.Answer.{Out, got, no, pick, dataEnds, outputFull, moreMatches, depthLimit}
+use Rattle.form.specs.Form.{Form}
 use Rattle.form.specs.Spans.{over}
 use Rattle.form.specs.Tree.{Document, ended}
-use Rattle.form.specs.Layout.{layout}
+use Rattle.form.specs.Layout.{layoutIn}
 use Rattle.form.specs.Table.{Head, Forest, none, node, size, width, valueOf}
 use Rattle.form.specs.Tables.{firstKind}
 use Rattle.form.specs.Reading.{One, Reader, end, named, stringAt, listHeadAt, entryAt, payloadBy, insideAt, documentAt, roomOf, reading, tableAfter}
@@ -66,7 +67,7 @@ opened kind name len n promised k = record {
 abbrev pub Opener : Type 0
 Opener = ℕ → ℕ → ℕ → ℕ → ℕ → Kept
 
-module _ (doc : List ℕ) where
+module _ (form : Form) (doc : List ℕ) where
   module _ (read : Reader) (begun : Opener) where
     -- Of a list's elements: those that are whole, then what is kept of the first that is not, if a byte of it is there.
     unfoldable pub keptElements : ℕ → ℕ → ℕ → ℕ → Kept
@@ -81,7 +82,7 @@ module _ (doc : List ℕ) where
     unfoldable pub keptEntries : ℕ → ℕ → ℕ → Kept
     keptEntries zero at n = nothing
     keptEntries (suc fuel) at n =
-        elim (entryAt doc at) [
+        elim (entryAt form doc at) [
           | no m p ↦ nothing
           | got e ↦ elim e [
             | end ↦ nothing
@@ -99,13 +100,13 @@ module _ (doc : List ℕ) where
     begunAt zero kind name len at n = nothing
     begunAt (suc depth) kind name len at n =
         elim (eqb kind 9) [
-          | true ↦ elim (listHeadAt doc at) [
+          | true ↦ elim (listHeadAt form doc at) [
             | got h ↦ opened 9 name len n (h .count)
-                (keptElements (payloadBy doc room (insideAt doc room depth)) (begunAt depth) (h .count) (h .kind) (at + 5) (n + 1))
+                (keptElements (payloadBy form doc room (insideAt form doc room depth)) (begunAt depth) (h .count) (h .kind) (at + 5) (n + 1))
             | no m p ↦ nothing
           ]
           | false ↦ elim (eqb kind 10) [
-            | true ↦ opened 10 name len n 0 (keptEntries (payloadBy doc room (insideAt doc room depth)) (begunAt depth) (suc (length doc)) at (n + 1))
+            | true ↦ opened 10 name len n 0 (keptEntries (payloadBy form doc room (insideAt form doc room depth)) (begunAt depth) (suc (length doc)) at (n + 1))
             | false ↦ nothing
           ]
         ]
@@ -114,10 +115,10 @@ module _ (doc : List ℕ) where
     -- or name is not whole; otherwise the root's record with what is kept in it.
     unfoldable pub keptOf : Out Kept
     keptOf =
-        elim (documentAt doc room) [
+        elim (documentAt form doc room) [
           | got x ↦ no notCut 0
           | no m p ↦ elim (eqb m dataEnds) [
-            | true ↦ elim (stringAt doc 1) [
+            | true ↦ elim (stringAt form doc 1) [
               | got s ↦ got (begunAt depthLimit 10 (s .start) (s .size) (s .next) 0)
               | no m′ p′ ↦ no rootCut p
             ]
@@ -126,9 +127,9 @@ module _ (doc : List ℕ) where
         ]
 
 -- The document that a root's record and the records in it stand for.
-abbrev pub documentOf : List ℕ → Forest → Document
-documentOf doc none = record { name = []; root = ended }
-documentOf doc (node h inner later) = valueOf doc h inner
+abbrev pub documentOf : Form → List ℕ → Forest → Document
+documentOf form doc none = record { name = []; root = ended }
+documentOf form doc (node h inner later) = valueOf form doc h inner
 
 -- ---- the answer
 
@@ -139,16 +140,16 @@ pub data Rescue : Type 0 where
   refused : ℕ → ℕ → ℕ → Rescue
 
 -- The layout of what is kept, where the lines have room (24) and then the bytes (13).
-abbrev pub laidIn : List ℕ → ℕ → ℕ → Out Kept → Rescue
-laidIn doc lines-room out-room (got k) =
+abbrev pub laidIn : Form → List ℕ → ℕ → ℕ → Out Kept → Rescue
+laidIn form doc lines-room out-room (got k) =
     pick (leb (length (k .lines)) lines-room)
-    (pick (leb (length (layout (documentOf doc (k .forest)))) out-room) (saved (layout (documentOf doc (k .forest))) (k .lines)) (refused outputFull 0 0))
+    (pick (leb (length (layoutIn form (documentOf form doc (k .forest)))) out-room) (saved (layoutIn form (documentOf form doc (k .forest))) (k .lines)) (refused outputFull 0 0))
     (refused moreMatches 0 (length (k .lines)))
-laidIn doc lines-room out-room (no m p) = refused m p 0
+laidIn form doc lines-room out-room (no m p) = refused m p 0
 
--- What rescuing doc gives, with room for so many records, lines and bytes.
-unfoldable pub rescued : List ℕ → ℕ → ℕ → ℕ → Rescue
-rescued doc room lines-room out-room = laidIn doc lines-room out-room (keptOf doc room)
+-- What rescuing form doc gives, with room for so many records, lines and bytes.
+unfoldable pub rescued : Form → List ℕ → ℕ → ℕ → ℕ → Rescue
+rescued form doc room lines-room out-room = laidIn form doc lines-room out-room (keptOf form doc room)
 
 -- ---- the promise
 
@@ -158,8 +159,8 @@ lineWords [] = []
 lineWords (l ∷ ls) = l .container ∷ l .promised ∷ l .kept ∷ lineWords ls
 
 -- A rescue with a table of words t, output o and list of changes c.
-abbrev pub rescuing : List ℕ → List ℕ → List ℕ → List ℕ → Rescue
-rescuing doc t o c = rescued doc (roomOf (length t)) (length c / 3) (length o)
+abbrev pub rescuing : Form → List ℕ → List ℕ → List ℕ → List ℕ → Rescue
+rescuing form doc t o c = rescued form doc (roomOf (length t)) (length c / 3) (length o)
 
 -- What a rescue answers: the number of bytes written and the number of lines; or the refusal.
 pub data Sizes : Type 0 where
@@ -180,8 +181,8 @@ linesAfter (saved bs ls) c = over c 0 (lineWords ls)
 linesAfter (refused n p m) c = c
 
 -- The promise of a rescue: the answer, every byte of the output and every word of the changes; the table ends as the read leaves it.
-pub record RescueIs (doc t o c : List ℕ) (answer : Sizes) (t′ o′ c′ : List ℕ) : Type 0 where
-  pub answer-is : answer ≡ sizesOf (rescuing doc t o c)
-  pub table-is : t′ ≡ tableAfter (reading doc t) t
-  pub output-is : o′ ≡ bytesAfter (rescuing doc t o c) o
-  pub changes-is : c′ ≡ linesAfter (rescuing doc t o c) c
+pub record RescueIs (form : Form) (doc t o c : List ℕ) (answer : Sizes) (t′ o′ c′ : List ℕ) : Type 0 where
+  pub answer-is : answer ≡ sizesOf (rescuing form doc t o c)
+  pub table-is : t′ ≡ tableAfter (reading form doc t) t
+  pub output-is : o′ ≡ bytesAfter (rescuing form doc t o c) o
+  pub changes-is : c′ ≡ linesAfter (rescuing form doc t o c) c

@@ -9,6 +9,7 @@ use mathlib.Core.List.{List, [], _∷_}
 use lib.ListN.{length, drop}
 use lib.Dec.{ltb, leb, eqb}
 use Rattle.form.specs.Answer.{pick}
+use Rattle.form.specs.Form.{Rule, modified, utf8}
 use Rattle.form.specs.Strings.{WellFormedBy, FirstBadBy}
 
 -- What some bytes begin with: a value and how many bytes it takes, or nothing that can be read.
@@ -127,20 +128,29 @@ walk one (suc f) (a ∷ l) i = onward (walk one f) (a ∷ l) i (one (a ∷ l))
 unfoldable pub verdictBy : (List ℕ → Sequence) → List ℕ → Verdict
 verdictBy one l = walk one (length l) l 0
 
+-- What some bytes begin with by a rule (02, [2]).
+abbrev pub oneOf : Rule → List ℕ → Sequence
+oneOf modified = scalarOf
+oneOf utf8 = utf8Of
+
+-- The verdict by a rule.
+abbrev pub verdictIn : Rule → List ℕ → Verdict
+verdictIn r l = verdictBy (oneOf r) l
+
 -- The verdict on modified UTF-8, and on UTF-8.
 abbrev pub verdict : List ℕ → Verdict
-verdict l = verdictBy scalarOf l
+verdict l = verdictIn modified l
 
 abbrev pub utf8Verdict : List ℕ → Verdict
-utf8Verdict l = verdictBy utf8Of l
+utf8Verdict l = verdictIn utf8 l
 
 abbrev pub isGood : Verdict → Bool
 isGood good = true
 isGood (bad k) = false
 
 -- Refusal 4's test.
-abbrev pub wellFormed : List ℕ → Bool
-wellFormed l = isGood (verdict l)
+abbrev pub wellFormedIn : Rule → List ℕ → Bool
+wellFormedIn r l = isGood (verdictIn r l)
 
 -- What the verdict on some bytes promises: it is the computed one; it is good exactly where the bytes are the encoding of scalar values;
 -- and where it is bad, at k, there the first sequence that can't be read begins.

@@ -1,4 +1,5 @@
 pub mod Answer
+pub mod Form
 pub mod Spans
 pub mod Numbers
 pub mod Strings

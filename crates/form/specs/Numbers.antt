@@ -1,10 +1,12 @@
--- Rule 1: numbers are big-endian two's complement, and floats are carried as their bits. Everything is stated over the width.
+-- Rule 1: numbers are two's complement, big-endian or, in the pocket edition's form (02, [2]), little-endian, and floats are carried as their
+-- bits. Everything is stated over the width.
 -- Assumes nothing.
 use Prim.Native.Nat.{ℕ, zero, suc, _+_, _-_, _*_, _/_, _%_, _^_, _<_}
-use mathlib.Core.List.{List, [], _∷_, _++_, foldl}
+use mathlib.Core.List.{List, [], _∷_, _++_, foldl, reverse}
 use lib.Dec.{ltb}
 use lib.IntN.{ℤ, pos, negsuc}
 use Rattle.form.specs.Answer.{pick}
+use Rattle.form.specs.Form.{Order, big, little}
 
 -- The number that digits of base 256 are, the highest first.
 unfoldable pub value : List ℕ → ℕ
@@ -15,18 +17,25 @@ unfoldable pub digits : ℕ → ℕ → List ℕ
 digits zero v = []
 digits (suc w) v = digits w (v / 256) ++ (v % 256 ∷ [])
 
--- Byte order: the digits that bytes are, and back. Rule 1's order has the highest first, as they stand. Another order is another
--- line here and in raw's `place_of`: what is proved of digits does not change.
-abbrev pub ordered : List ℕ → List ℕ
-ordered bs = bs
+-- Byte order: the digits that bytes are, and back. The highest first as they stand, the lowest first turned round.
+abbrev pub ordered : Order → List ℕ → List ℕ
+ordered big bs = bs
+ordered little bs = reverse bs
 
 -- The number in some bytes.
-abbrev pub bigEndian : List ℕ → ℕ
-bigEndian bs = value (ordered bs)
+abbrev pub numberIn : Order → List ℕ → ℕ
+numberIn o bs = value (ordered o bs)
 
 -- The w bytes of a number.
+abbrev pub bytesIn : Order → ℕ → ℕ → List ℕ
+bytesIn o w v = ordered o (digits w v)
+
+-- Rule 1's own order.
+abbrev pub bigEndian : List ℕ → ℕ
+bigEndian bs = numberIn big bs
+
 abbrev pub bytesOf : ℕ → ℕ → List ℕ
-bytesOf w v = ordered (digits w v)
+bytesOf w v = bytesIn big w v
 
 -- How many values w bytes have; from the half of them on they are negative.
 abbrev pub valuesIn : ℕ → ℕ

@@ -1,4 +1,5 @@
--- Rule 9: what a query's bytes spell, and what asking it of a table gives. Order: 9, 10, 7, 14, 24.
+-- Rule 9: what a query's bytes spell, names in the string rule of the document's form (02, [2]), and what asking it of a table gives. Order:
+-- 9, 10, 7, 14, 24.
 -- Assumes nothing.
 use Prim.Native.Nat.{ℕ, zero, suc, _+_, _-_}
 use mathlib.Core.Path.{_≡_}
@@ -7,6 +8,7 @@ use mathlib.Core.Bool.{true, false, not, _||_}
 use lib.ListN.{length}
 use lib.Dec.{ltb, leb, eqb}
 use Rattle.form.specs.Answer.{Out, got, no, _>>=_, _>>_, guard, pick, Count, counted, failed, tooDeep, overLimit, noTable, badQuery, moreMatches, depthLimit, stepLimit}
+use Rattle.form.specs.Form.{Form, asks}
 use Rattle.form.specs.Spans.{part, over}
 use Rattle.form.specs.Table.{Head, Forest, none, node, size, holds, valueOf}
 use Rattle.form.specs.Tables.{IsTable, Within}
@@ -23,17 +25,17 @@ abbrev pub blamed : {A : Type 0} → ℕ → Out A → Out A
 blamed at (got a) = got a
 blamed at (no n p) = no badQuery at
 
-module _ (q : List ℕ) where
+module _ (form : Form) (q : List ℕ) where
   -- The step whose first byte is k: 01 and a string, 02 and an i32 that is not below 0, 03, 04.
   unfoldable pub stepBy : ℕ → ℕ → Out Spelt
   stepBy k at =
       elim (eqb k 1) [
         | true ↦ do
-          s ← stringAt q (at + 1)
+          s ← stringAt (asks form) q (at + 1)
           got (record { step = name (part q (s .start) (s .size)); next = s .next })
         | false ↦ elim (eqb k 2) [
           | true ↦ do
-            i ← countAt q (at + 1)
+            i ← countAt (asks form) q (at + 1)
             got (record { step = index i; next = at + 5 })
           | false ↦ elim (eqb k 3) [
             | true ↦ got (record { step = any; next = at + 1 })
@@ -71,11 +73,11 @@ shallow left n (node h inner later) = do
   shallow left (n + 1 + size inner) later
 
 -- What asking gives, but for the room: 7, then 14, then the numbers of the tags that match.
-unfoldable pub asked : List ℕ → List ℕ → Head → Forest → Out (List ℕ)
-asked doc q h inner = do
+unfoldable pub asked : Form → List ℕ → List ℕ → Head → Forest → Out (List ℕ)
+asked form doc q h inner = do
   shallow depthLimit 0 (node h inner none)
-  ss ← spelt q
-  got (matches (valueOf doc h inner) ss)
+  ss ← spelt form q
+  got (matches (valueOf form doc h inner) ss)
 
 -- The answer to a query: the matches; or a refusal's number and place, with the true count where it is 24.
 pub data Answered : Type 0 where
@@ -103,7 +105,7 @@ pub record Finds (a : Answered) (l : List ℕ) (answer : Count) (l′ : List ℕ
   pub list-is : l′ ≡ listAfter a l
 
 -- The promise of a query: a limit first (9), then whether the words form a table (10), then what asking it gives.
-pub record QueryIs (doc t q l : List ℕ) (answer : Count) (l′ : List ℕ) : Type 0 where
+pub record QueryIs (form : Form) (doc t q l : List ℕ) (answer : Count) (l′ : List ℕ) : Type 0 where
   pub large : (Within (length doc) t → ⊥) → Finds (refused overLimit 0 0) l answer l′
   pub unfit : Within (length doc) t → (IsTable (length doc) t → ⊥) → Finds (refused noTable 0 0) l answer l′
-  pub fit : Within (length doc) t → (i : IsTable (length doc) t) → Finds (within (length l) (asked doc q (i .head) (i .inner))) l answer l′
+  pub fit : Within (length doc) t → (i : IsTable (length doc) t) → Finds (within (length l) (asked form doc q (i .head) (i .inner))) l answer l′

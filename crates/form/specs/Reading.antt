@@ -1,5 +1,5 @@
--- Rules 3 to 5: what reading a document gives, its records or the refusal. `doc` is the document's bytes, `room` how many records there
--- is room for. Every definition is a chain of fields in 01's order: the first that fails is the refusal.
+-- Rules 3 to 5: what reading a document gives, its records or the refusal. `form` is the form that it is in (02, [2]), `doc` its bytes, `room`
+-- how many records there is room for. Every definition is a chain of fields in 01's order: the first that fails is the refusal.
 -- Assumes nothing.
 use Prim.Native.Nat.{ℕ, zero, suc, _+_, _*_, _^_, min, _/_}
 use mathlib.Core.List.{List}
@@ -10,8 +10,9 @@ use lib.Dec.{ltb, leb, eqb}
 use Rattle.form.specs.Answer.{Out, got, no, _>>=_, _>>_, guard, dataEnds, rootId, tagId, badString, negativeCount, nameTwice, tooDeep, tableFull, overLimit, documentLimit, recordLimit}
 use Rattle.form.specs.Answer.{depthLimit}
 use Rattle.form.specs.Spans.{part, same}
-use Rattle.form.specs.Numbers.{bigEndian}
-use Rattle.form.specs.Decoding.{Verdict, good, bad, verdict}
+use Rattle.form.specs.Form.{Form}
+use Rattle.form.specs.Numbers.{numberIn}
+use Rattle.form.specs.Decoding.{Verdict, good, bad, verdictIn}
 use Rattle.form.specs.Table.{Head, Forest, none, node, size, width, _⊕_, wrote, widthOf, holds}
 
 -- A span of bytes, with the place past it; of an array also the count of its elements.
@@ -88,18 +89,19 @@ module _ (doc : List ℕ) where
     guard (leb (at + n) (length doc)) dataEnds at
     got (record { start = at; size = n; count = count; next = at + n })
 
+module _ (form : Form) (doc : List ℕ) where
   -- The number in the n bytes at `at` (rule 1).
   unfoldable pub numberAt : ℕ → ℕ → Out ℕ
   numberAt n at = do
     guard (leb (at + n) (length doc)) dataEnds at
-    got (bigEndian (part doc at n))
+    got (numberIn (form .order) (part doc at n))
 
   -- A string (rule 2): its length, its content (1), which can be read to its end (4).
   unfoldable pub stringAt : ℕ → Out Span
   stringAt at = do
     n ← numberAt 2 at
-    s ← bytesAt n 0 (at + 2)
-    readable (verdict (part doc (at + 2) n)) (at + 2)
+    s ← bytesAt doc n 0 (at + 2)
+    readable (verdictIn (form .strings) (part doc (at + 2) n)) (at + 2)
     got s
 
   -- An i32 count: whole (1), then not below 0 (5).
@@ -113,20 +115,20 @@ module _ (doc : List ℕ) where
   unfoldable pub arrayAt : ℕ → ℕ → Out Span
   arrayAt w at = do
     n ← countAt at
-    bytesAt (n * w) n (at + 4)
+    bytesAt doc (n * w) n (at + 4)
 
   -- What holds no records: kinds 1 to 6, a string, an array (rule 4).
   unfoldable pub leafAt : ℕ → ℕ → Out Span
   leafAt kind at =
       elim (ltb kind 7) [
-        | true ↦ bytesAt (widthOf kind) 0 at
+        | true ↦ bytesAt doc (widthOf kind) 0 at
         | false ↦ elim (eqb kind 8) [ true ↦ stringAt at | false ↦ arrayAt (widthOf kind) at ]
       ]
 
   -- A list's head: id and count whole (1), the id (3), the count (5). Of an empty list the id is forgotten.
   unfoldable pub listHeadAt : ℕ → Out ListHead
   listHeadAt at = do
-    k ← byteAt at
+    k ← byteAt doc at
     n ← numberAt 4 (at + 1)
     guard (leb k 12 && (not (eqb k 0) || eqb n 0)) tagId at
     guard (ltb n (2 ^ 31)) negativeCount (at + 1)
@@ -135,7 +137,7 @@ module _ (doc : List ℕ) where
   -- An entry's head (rule 3): the id byte, 0 being the end; the name; then the id.
   unfoldable pub entryAt : ℕ → Out Entry
   entryAt at = do
-    k ← byteAt at
+    k ← byteAt doc at
     elim (eqb k 0) [
       | true ↦ got end
       | false ↦ do
@@ -209,7 +211,7 @@ module _ (doc : List ℕ) where
     unfoldable pub documentAt : Out One
     documentAt = do
       guard (leb (length doc) documentLimit) overLimit 0
-      k ← byteAt 0
+      k ← byteAt doc 0
       guard (eqb k 10) rootId 0
       s ← stringAt 1
       payloadBy (insideAt depthLimit) 10 (s .start) (s .size) (s .next) 0
@@ -233,10 +235,10 @@ tableAfter (got x) t = wrote t 0 0 (node (x .head) (x .inner) none)
 tableAfter (no n p) t = replicate (length t) 0
 
 -- A read of doc into a table of words t.
-abbrev pub reading : List ℕ → List ℕ → Out One
-reading doc t = documentAt doc (roomOf (length t))
+abbrev pub reading : Form → List ℕ → List ℕ → Out One
+reading form doc t = documentAt form doc (roomOf (length t))
 
 -- The promise of a read: the answer, and every word of the table.
-pub record ReadIs (doc t : List ℕ) (answer : Out Counts) (t′ : List ℕ) : Type 0 where
-  pub answer-is : answer ≡ countsOf (reading doc t)
-  pub table-is : t′ ≡ tableAfter (reading doc t) t
+pub record ReadIs (form : Form) (doc t : List ℕ) (answer : Out Counts) (t′ : List ℕ) : Type 0 where
+  pub answer-is : answer ≡ countsOf (reading form doc t)
+  pub table-is : t′ ≡ tableAfter (reading form doc t) t

@@ -7,6 +7,7 @@ use mathlib.Core.List.{List, [], _∷_, _++_}
 use lib.ListN.{length}
 use lib.Dec.{ltb, eqb}
 use Rattle.form.specs.Answer.{pick}
+use Rattle.form.specs.Form.{Rule, modified, utf8}
 
 -- A lead byte and one byte of six bits.
 abbrev pub twoBytes : ℕ → List ℕ
@@ -73,16 +74,28 @@ pub record FirstBadBy (enc : ℕ → List ℕ) (l : List ℕ) (k : ℕ) : Type 0
   pub more : rest ≡ [] → ⊥
   pub stuck : (c : ℕ) (t : List ℕ) → IsScalar c → rest ≡ enc c ++ t → ⊥
 
--- Rule 2 and refusal 4: modified UTF-8.
+-- The encoding of a scalar value by a rule (02, [2]).
+abbrev pub encOf : Rule → ℕ → List ℕ
+encOf modified = scalarBytes
+encOf utf8 = utf8Bytes
+
+-- Refusal 4, by the rule of the document's form.
+abbrev pub WellFormedIn : Rule → List ℕ → Type 0
+WellFormedIn r l = WellFormedBy (encOf r) l
+
+abbrev pub FirstBadIn : Rule → List ℕ → ℕ → Type 0
+FirstBadIn r l k = FirstBadBy (encOf r) l k
+
+-- Rule 2's own: modified UTF-8.
 abbrev pub WellFormed : List ℕ → Type 0
-WellFormed l = WellFormedBy scalarBytes l
+WellFormed l = WellFormedIn modified l
 
 abbrev pub FirstBad : List ℕ → ℕ → Type 0
-FirstBad l k = FirstBadBy scalarBytes l k
+FirstBad l k = FirstBadIn modified l k
 
 -- Refusal 15: ordinary UTF-8.
 abbrev pub WellFormedUtf8 : List ℕ → Type 0
-WellFormedUtf8 l = WellFormedBy utf8Bytes l
+WellFormedUtf8 l = WellFormedIn utf8 l
 
 abbrev pub FirstBadUtf8 : List ℕ → ℕ → Type 0
-FirstBadUtf8 l k = FirstBadBy utf8Bytes l k
+FirstBadUtf8 l k = FirstBadIn utf8 l k

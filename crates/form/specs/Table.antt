@@ -8,7 +8,8 @@ use lib.IntN.{ℤ}
 use lib.ListN.{getD}
 use lib.Dec.{eqb}
 use Rattle.form.specs.Answer.{pick}
-use Rattle.form.specs.Numbers.{bigEndian, signedOf}
+use Rattle.form.specs.Form.{Form}
+use Rattle.form.specs.Numbers.{numberIn, signedOf}
 use Rattle.form.specs.Spans.{part, over}
 use Rattle.form.specs.Tree.{Tag, Tags, Entries, byte, short, int, long, float, double, byteArray, string, list, compound, intArray, longArray, nil, more, ended, entry, Document}
 
@@ -87,23 +88,23 @@ holds kind = eqb kind 9 || eqb kind 10
 abbrev pub isArray : ℕ → Bool
 isArray kind = eqb kind 7 || (eqb kind 11 || eqb kind 12)
 
--- ---- the values that records stand for
+-- ---- the values that records of a document in a form stand for
 
-module _ (doc : List ℕ) where
+module _ (form : Form) (doc : List ℕ) where
   -- n integers of w bytes each, from a place on.
   unfoldable pub intsAt : ℕ → ℕ → ℕ → List ℤ
   intsAt w zero at = []
-  intsAt w (suc n) at = signedOf w (bigEndian (part doc at w)) ∷ intsAt w n (at + w)
+  intsAt w (suc n) at = signedOf w (numberIn (form .order) (part doc at w)) ∷ intsAt w n (at + w)
 
   -- A record's value; of a list or a compound that of what it holds.
   unfoldable pub valueBy : Head → Tags → Entries → Tag
   valueBy h ts es =
-      pick (eqb (h .kind) 1) (byte (signedOf 1 (bigEndian (part doc (h .start) 1))))
-      (pick (eqb (h .kind) 2) (short (signedOf 2 (bigEndian (part doc (h .start) 2))))
-      (pick (eqb (h .kind) 3) (int (signedOf 4 (bigEndian (part doc (h .start) 4))))
-      (pick (eqb (h .kind) 4) (long (signedOf 8 (bigEndian (part doc (h .start) 8))))
-      (pick (eqb (h .kind) 5) (float (bigEndian (part doc (h .start) 4)))
-      (pick (eqb (h .kind) 6) (double (bigEndian (part doc (h .start) 8)))
+      pick (eqb (h .kind) 1) (byte (signedOf 1 (numberIn (form .order) (part doc (h .start) 1))))
+      (pick (eqb (h .kind) 2) (short (signedOf 2 (numberIn (form .order) (part doc (h .start) 2))))
+      (pick (eqb (h .kind) 3) (int (signedOf 4 (numberIn (form .order) (part doc (h .start) 4))))
+      (pick (eqb (h .kind) 4) (long (signedOf 8 (numberIn (form .order) (part doc (h .start) 8))))
+      (pick (eqb (h .kind) 5) (float (numberIn (form .order) (part doc (h .start) 4)))
+      (pick (eqb (h .kind) 6) (double (numberIn (form .order) (part doc (h .start) 8)))
       (pick (eqb (h .kind) 7) (byteArray (intsAt 1 (h .count) (h .start)))
       (pick (eqb (h .kind) 8) (string (part doc (h .start) (h .size)))
       (pick (eqb (h .kind) 9) (list ts)

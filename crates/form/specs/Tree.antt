@@ -7,9 +7,10 @@ use mathlib.Core.Bool.{Bool, false, _||_}
 use lib.IntN.{ℤ}
 use lib.ListN.{length}
 use Rattle.form.specs.Answer.{depthLimit, stringLimit}
+use Rattle.form.specs.Form.{Form, java}
 use Rattle.form.specs.Numbers.{FitsIn, valuesIn}
 use Rattle.form.specs.Spans.{same}
-use Rattle.form.specs.Strings.{WellFormed}
+use Rattle.form.specs.Strings.{WellFormedIn}
 
 -- A tag. Integers are integers, floats their bits, strings the bytes of their content. Lists hold tags, compounds named tags.
 mutual
@@ -103,9 +104,9 @@ unfoldable mutual
   entriesDepth ended = 0
   entriesDepth (entry n t es) = max (depth t) (entriesDepth es)
 
--- A string's bytes are well formed (rule 2) and their number fits a u16.
-abbrev pub Text : List ℕ → Type 0
-Text s = WellFormed s × (length s ≤ stringLimit)
+-- A string's bytes are well formed in a form, and their number fits a u16.
+abbrev pub TextIn : Form → List ℕ → Type 0
+TextIn form s = WellFormedIn (form .strings) s × (length s ≤ stringLimit)
 
 -- The elements of an array fit w bytes, and their number an i32.
 unfoldable pub AllFit : ℕ → List ℤ → Type 0
@@ -129,37 +130,41 @@ abbrev pub Alike : Tags → Type 0
 Alike nil = Unit {0}
 Alike (more t ts) = OneKind (kindOf t) ts
 
--- A tag that a document can hold: numbers fit, strings are well formed, lists hold one kind, names in a compound are unique.
+-- A tag that a document of a form can hold: numbers fit, strings are well formed, lists hold one kind, names in a compound are unique.
 unfoldable mutual
-  pub Valid : Tag → Type 0
-  Valid (byte v) = FitsIn 1 v
-  Valid (short v) = FitsIn 2 v
-  Valid (int v) = FitsIn 4 v
-  Valid (long v) = FitsIn 8 v
-  Valid (float b) = b < valuesIn 4
-  Valid (double b) = b < valuesIn 8
-  Valid (byteArray vs) = Array 1 vs
-  Valid (string s) = Text s
-  Valid (list ts) = Alike ts × (many ts < 2 ^ 31) × ValidTags ts
-  Valid (compound es) = ValidEntries es
-  Valid (intArray vs) = Array 4 vs
-  Valid (longArray vs) = Array 8 vs
+  pub ValidIn : Form → Tag → Type 0
+  ValidIn form (byte v) = FitsIn 1 v
+  ValidIn form (short v) = FitsIn 2 v
+  ValidIn form (int v) = FitsIn 4 v
+  ValidIn form (long v) = FitsIn 8 v
+  ValidIn form (float b) = b < valuesIn 4
+  ValidIn form (double b) = b < valuesIn 8
+  ValidIn form (byteArray vs) = Array 1 vs
+  ValidIn form (string s) = TextIn form s
+  ValidIn form (list ts) = Alike ts × (many ts < 2 ^ 31) × ValidTagsIn form ts
+  ValidIn form (compound es) = ValidEntriesIn form es
+  ValidIn form (intArray vs) = Array 4 vs
+  ValidIn form (longArray vs) = Array 8 vs
 
-  pub ValidTags : Tags → Type 0
-  ValidTags nil = Unit {0}
-  ValidTags (more t ts) = Valid t × ValidTags ts
+  pub ValidTagsIn : Form → Tags → Type 0
+  ValidTagsIn form nil = Unit {0}
+  ValidTagsIn form (more t ts) = ValidIn form t × ValidTagsIn form ts
 
-  pub ValidEntries : Entries → Type 0
-  ValidEntries ended = Unit {0}
-  ValidEntries (entry n t es) = Text n × (hasEntry n es ≡ false) × Valid t × ValidEntries es
+  pub ValidEntriesIn : Form → Entries → Type 0
+  ValidEntriesIn form ended = Unit {0}
+  ValidEntriesIn form (entry n t es) = TextIn form n × (hasEntry n es ≡ false) × ValidIn form t × ValidEntriesIn form es
 
 -- A document: the root's name and the entries of the root, a compound.
 pub record Document : Type 0 where
   pub name : List ℕ
   pub root : Entries
 
--- A document that keeps the rules and the limits that do not depend on its bytes or on the room.
-pub record Lawful (d : Document) : Type 0 where
-  pub name : Text (d .name)
-  pub valid : ValidEntries (d .root)
+-- A document that keeps the rules of a form and the limits that do not depend on its bytes or on the room.
+pub record LawfulIn (form : Form) (d : Document) : Type 0 where
+  pub name : TextIn form (d .name)
+  pub valid : ValidEntriesIn form (d .root)
   pub depth-le : 1 + entriesDepth (d .root) ≤ depthLimit
+
+-- Document 01's own.
+abbrev pub Lawful : Document → Type 0
+Lawful d = LawfulIn java d

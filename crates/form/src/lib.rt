@@ -1,5 +1,6 @@
 // The paper in definitions: specs/ has what a reader must believe, proofs/ the laws about it. The code is
-// the constants that every layer shares: the limits of document 01, its refusals and its kinds by name.
+// what every layer shares: the limits of document 01, its refusals and its kinds by name, and the form that a document is written in.
+pub mod forms;
 pub mod kinds;
 
 // The most bytes that a document has.

@@ -46,7 +46,7 @@ fn print_answer(answer: Answer, table: &[u32]) {
 // The first n bytes as a document.
 fn print_document(doc: &[u8], n: usize, table: &mut [u32]) {
     if n <= doc.len() {
-        let answer = nbt_reader::read(&doc[..n], table);
+        let answer = nbt_reader::read(&doc[..n], table, form::forms::JAVA);
         print_answer(answer, table);
     }
 }

@@ -8,14 +8,15 @@ use mathlib.Core.List.{List, _∷_}
 use native.Mathlib.Omega.{arith}
 use borrow.Author.Tests.{lt-ltb, le-ltb, ne-eqb}
 use lib.ListN.{length, drop, getD}
-use Rattle.form.specs.Decoding.{is, good, six, twoOf, threeOf, Judged}
+use Rattle.form.specs.Form.{Rule}
+use Rattle.form.specs.Strings.{encOf}
+use Rattle.form.specs.Spans.{part}
+use Rattle.form.specs.Decoding.{is, good, six, twoOf, threeOf, oneOf, Judged}
 use Rattle.form.proofs.Picks.{lt-or}
 use Rattle.form.proofs.Drops.{drop1, drop2, drop3}
 use Rattle.chars.proofs.Sequences.{follows, unit-plain, unit-two, unit-three}
-use Rattle.mutf8.specs.declared.Coding.{Coding}
-use Rattle.mutf8.specs.Answers.{encOf, oneOf}
 use Rattle.plain.specs.Runs.{shortPlain, IsPlain, Plain}
-use Rattle.plain.proofs.Plains.{short-is}
+use Rattle.plain.proofs.Plains.{short-is, part-is}
 use Rattle.mutf8.specs.Runs.{Walked, none, more, commonOf, Passed, Fits, Fitting, Edge}
 use Rattle.mutf8.proofs.Codings.{alike}
 use Rattle.mutf8.proofs.Walks.{walked-join, walked-pass, all-walked}
@@ -30,7 +31,7 @@ plain-is : (s : List ℕ) (i : ℕ) → i < length s → IsPlain 0 0 (getD s i 0
 plain-is s i h b = rw (drop1 s i h) (one-common _ _ (b .some) (b .low))
 
 -- one plain byte more
-pub walked-plain : (k : Coding) (s : List ℕ) (i j : ℕ) → j < length s → IsPlain 0 0 (getD s j 0) → Walked (oneOf k) s i j → Walked (oneOf k) s i (j + 1)
+pub walked-plain : (k : Rule) (s : List ℕ) (i j : ℕ) → j < length s → IsPlain 0 0 (getD s j 0) → Walked (oneOf k) s i j → Walked (oneOf k) s i (j + 1)
 walked-plain k s i j h b w = walked-join w (more {i = j} {c = getD s j 0} {n = 1} (alike k _ _ _ (plain-is s j h b)) none)
 
 plain-run : (s : List ℕ) (n i : ℕ) → i + n ≤ length s → Plain 0 0 s i (i + n) → Walked commonOf s i (i + n)
@@ -57,12 +58,12 @@ pub passed-none : (s : List ℕ) (i : ℕ) → i ≤ length s → Passed s i i
 passed-none s i h = record { on = omega arith; within = h; walked = none }
 
 -- the last bytes, where they are few and plain
-pub short-passed : (s : List ℕ) (i : ℕ) → i ≤ length s → shortPlain 0 s i (length s) ≡ true → Passed s i (length s)
-short-passed s i h e = plain-passed s i (length s) h (omega arith) (short-is 0 s i (length s) h e .1)
+pub short-passed : (s : List ℕ) (i : ℕ) → i ≤ length s → shortPlain 0 (part s i (length s - i)) ≡ true → Passed s i (length s)
+short-passed s i h e = plain-passed s i (length s) h (omega arith) (part-is 0 s i (length s) h (omega arith) e .1)
 
--- a list that is short and all plain is good in any coding
-pub short-good : (k : Coding) (s : List ℕ) → shortPlain 0 s 0 (length s) ≡ true → Judged (encOf k) (oneOf k) s good
-short-good k s e = all-walked k (omega arith) (walked-pass k none (short-passed s 0 (omega arith) e))
+-- a list that is short and all plain is good by any rule
+pub short-good : (k : Rule) (s : List ℕ) → shortPlain 0 s ≡ true → Judged (encOf k) (oneOf k) s good
+short-good k s e = all-walked k (omega arith) (walked-pass k none (plain-passed s 0 (length s) (omega arith) (omega arith) (short-is 0 s e .1)))
 
 pub passed-join : (s : List ℕ) (i j k : ℕ) → Passed s i j → Passed s j k → Passed s i k
 passed-join s i j k p q = record { on = omega (arith, p .on, q .on); within = q .within; walked = walked-join (p .walked) (q .walked) }

@@ -1,4 +1,4 @@
--- What the proofs know of each coding: that it is one, and that it reads what both read alike. All else holds of any coding.
+-- What the proofs know of each string rule: that it is a coding, and that it reads what both read alike. All else holds of any rule.
 -- Assumes nothing.
 use Prim.Native.Nat.{ℕ, _<_}
 use mathlib.Core.Path.{_≡_, refl, sym, ap, _∙_}
@@ -6,16 +6,14 @@ use mathlib.Core.List.{List, [], _∷_, _++_}
 use native.Mathlib.Omega.{arith}
 use borrow.Author.Tests.{lt-ltb, le-ltb, le-leb}
 use lib.ListN.{length}
-use Rattle.form.specs.Strings.{IsScalar}
-use Rattle.form.specs.Decoding.{Sequence, is, stuck, unitOf, paired, unpaired, scalarOf, utf8Of}
+use Rattle.form.specs.Form.{Rule, modified, utf8}
+use Rattle.form.specs.Strings.{IsScalar, encOf}
+use Rattle.form.specs.Decoding.{Sequence, is, stuck, unitOf, paired, unpaired, scalarOf, utf8Of, oneOf}
 use Rattle.form.proofs.Picks.{pick-eq, pick-lt, pick-le}
-use Rattle.form.proofs.Coding as form
+use Rattle.form.proofs.Coding.{SoundBy, Coding}
 use Rattle.form.proofs.Scalars.{mutf8, scalar-of}
-use Rattle.form.proofs.Utf8.{utf8}
+use Rattle.form.proofs.Utf8 as U
 use Rattle.chars.proofs.Sequences.{unit-none, unit-zero, unit-high}
-use Rattle.mutf8.specs.declared.Coding.{Coding}
-use Rattle.mutf8.specs.declared.Coding.the-variants.{Modified, Utf8}
-use Rattle.mutf8.specs.Answers.{encOf, oneOf}
 use Rattle.mutf8.specs.Runs.{commonOf}
 
 -- ---- what both codings read alike
@@ -43,31 +41,36 @@ common-utf8 (a ∷ l) c n e =
     pick-eq P a 0 (λ h. absurd (stuck-is (sym (ap unpaired (unit-zero a l h)) ∙ e))) (λ _.
     pick-le P 240 a (λ h. absurd (stuck-is (sym (ap unpaired (unit-high a l h)) ∙ e))) (λ _. e))
 
-pub alike : (k : Coding) (l : List ℕ) (c n : ℕ) → commonOf l ≡ is c n → oneOf k l ≡ is c n
-alike Modified = common-scalar
-alike Utf8 = common-utf8
+-- so do the readers of both rules
+pub alike : (r : Rule) (l : List ℕ) (c n : ℕ) → commonOf l ≡ is c n → oneOf r l ≡ is c n
+alike modified = common-scalar
+alike utf8 = common-utf8
 
 -- ---- each is a coding
 
-pub some : (k : Coding) (c : ℕ) → 0 < length (encOf k c)
-some Modified = mutf8 .some
-some Utf8 = utf8 .some
+-- a value takes a byte at least
+pub some : (r : Rule) (c : ℕ) → 0 < length (encOf r c)
+some modified = mutf8 .some
+some utf8 = U.utf8 .some
 
-pub sound : (k : Coding) (l : List ℕ) → form.SoundBy (encOf k) l (oneOf k l)
-sound Modified = mutf8 .sound
-sound Utf8 = utf8 .sound
+-- what was read is a scalar value, whose bytes stand there
+pub sound : (r : Rule) (l : List ℕ) → SoundBy (encOf r) l (oneOf r l)
+sound modified = mutf8 .sound
+sound utf8 = U.utf8 .sound
 
-pub back : (k : Coding) (c : ℕ) → IsScalar c → (l : List ℕ) → oneOf k (encOf k c ++ l) ≡ is c (length (encOf k c))
-back Modified = mutf8 .back
-back Utf8 = utf8 .back
+-- what was written is read back, whatever follows
+pub back : (r : Rule) (c : ℕ) → IsScalar c → (l : List ℕ) → oneOf r (encOf r c ++ l) ≡ is c (length (encOf r c))
+back modified = mutf8 .back
+back utf8 = U.utf8 .back
 
-abbrev pub codingOf : Coding → form.Coding
-codingOf k = record { enc = encOf k; one = oneOf k; some = some k; sound = sound k; back = back k }
+-- so a rule is a coding
+abbrev pub codingOf : Rule → Coding
+codingOf r = record { enc = encOf r; one = oneOf r; some = some r; sound = sound r; back = back r }
 
 -- a value that was read tells how many bytes it takes
-width-go : (k : Coding) (l : List ℕ) (w : Sequence) (c n : ℕ) → form.SoundBy (encOf k) l w → w ≡ is c n → n ≡ length (encOf k c)
-width-go k l stuck c n s e = absurd (stuck-is e)
-width-go k l (is d m) c n s e = let p : d ≡ c = cc in let q : m ≡ n = cc in rw (← p, ← q) (s .1)
+width-go : (r : Rule) (l : List ℕ) (w : Sequence) (c n : ℕ) → SoundBy (encOf r) l w → w ≡ is c n → n ≡ length (encOf r c)
+width-go r l stuck c n s e = absurd (stuck-is e)
+width-go r l (is d m) c n s e = let p : d ≡ c = cc in let q : m ≡ n = cc in rw (← p, ← q) (s .1)
 
-pub width : (k : Coding) (l : List ℕ) (c n : ℕ) → oneOf k l ≡ is c n → n ≡ length (encOf k c)
-width k l c n e = width-go k l (oneOf k l) c n (sound k l) e
+pub width : (r : Rule) (l : List ℕ) (c n : ℕ) → oneOf r l ≡ is c n → n ≡ length (encOf r c)
+width r l c n e = width-go r l (oneOf r l) c n (sound r l) e

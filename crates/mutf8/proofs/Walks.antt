@@ -1,21 +1,20 @@
--- Laws of values read one after the other, in any coding: it reads what was passed, and a walk from 0 on decides the verdict.
+-- Laws of values read one after the other, by any string rule: it reads what was passed, and a walk from 0 on decides the verdict.
 -- Assumes nothing.
 use Prim.Native.Nat.{ℕ, _+_, _-_, _≤_, _<_}
 use mathlib.Core.Path.{_≡_, sym, ap, _∙_}
 use mathlib.Core.List.{List}
 use native.Mathlib.Omega.{arith}
 use lib.ListN.{length, drop, length-drop}
-use Rattle.form.specs.Strings.{scalarBytes}
-use Rattle.form.specs.Decoding.{Sequence, is, stuck, Verdict, good, bad, verdictBy, scalarOf, isGood, wellFormed, Judged}
+use Rattle.form.specs.Form.{Rule}
+use Rattle.form.specs.Strings.{encOf}
+use Rattle.form.specs.Decoding.{Sequence, is, stuck, good, bad, oneOf, isGood, wellFormedIn, Judged}
 use Rattle.form.proofs.Walks as W
 use Rattle.chars.specs.declared.Front.{Front}
 use Rattle.chars.specs.declared.Front.the-variants.{Is}
 use Rattle.chars.specs.Answers.{sequenceOf}
 use Rattle.chars.proofs.Fronts.{told}
-use Rattle.mutf8.specs.declared.Coding.{Coding}
 use Rattle.mutf8.specs.declared.Checked.{Checked}
-use Rattle.mutf8.specs.declared.Checked.the-variants.{Good, Bad}
-use Rattle.mutf8.specs.Answers.{encOf, oneOf, verdictOf, checkedOut, dueOut}
+use Rattle.mutf8.specs.Answers.{verdictOf}
 use Rattle.mutf8.specs.Runs.{Walked, none, more, commonOf, Passed, Stepped}
 use Rattle.mutf8.proofs.Codings.{alike, codingOf}
 
@@ -24,7 +23,7 @@ pub walked-join : {one : List ℕ → Sequence} {s : List ℕ} {i j k : ℕ} →
 walked-join none w = w
 walked-join (more e v) w = more e (walked-join v w)
 
-module _ (k : Coding) where
+module _ (k : Rule) where
   -- ---- walks go on
 
   walked-by : {s : List ℕ} {i j : ℕ} → Walked commonOf s i j → Walked (oneOf k) s i j
@@ -63,15 +62,6 @@ module _ (k : Coding) where
 
 -- ---- a verdict as the test of refusal 4
 
-pub judged-by : (s : List ℕ) (r v : Checked) → r ≡ v → Judged scalarBytes scalarOf s (verdictOf r) → isGood (verdictOf v) ≡ wellFormed s
-judged-by s r v e j = ap isGood (sym (ap verdictOf e) ∙ j .is)
-
--- ---- a verdict as document 01's answer
-
-checked-due : (n : ℕ) (r : Checked) {v : Verdict} → verdictOf r ≡ v → checkedOut n r ≡ dueOut n v
-checked-due n Good e = ap (dueOut n) e
-checked-due n (Bad k) e = ap (dueOut n) e
-
-pub checked-is : {enc : ℕ → List ℕ} {one : List ℕ → Sequence} {s : List ℕ} (n : ℕ) (r : Checked)
-    → Judged enc one s (verdictOf r) → Judged enc one s (verdictOf r) × (checkedOut n r ≡ dueOut n (verdictBy one s))
-checked-is n r j = (j, checked-due n r (j .is))
+-- where an answer is known by its case, so is what the test says
+pub judged-by : (k : Rule) (s : List ℕ) (r v : Checked) → r ≡ v → Judged (encOf k) (oneOf k) s (verdictOf r) → isGood (verdictOf v) ≡ wellFormedIn k s
+judged-by k s r v e j = ap isGood (sym (ap verdictOf e) ∙ j .is)

@@ -172,7 +172,7 @@ pub fn pass(s: &[u8], at: usize) -> usize
         }
         i = j;
     }
-    if plain::is_plain(0, s, i, s.len()) {
+    if plain::is_plain(0, &s[i..]) {
         return s.len();
     }
     plain::plain_blocks(0, 0, s, i, s.len())

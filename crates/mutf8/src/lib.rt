@@ -4,21 +4,17 @@
 pub mod blocks;
 
 use chars::Front;
+use form::forms::POCKET;
+use form::forms::is_pocket;
 ghost use mathlib.Core.Path.{_≡_};
 ghost use Prim.Native.Nat.{_≤_, _<_};
 ghost use lib.ListN.{length, drop};
-ghost use Rattle.form.specs.Answer.{badString, badText};
-ghost use Rattle.form.specs.Strings.{scalarBytes, utf8Bytes};
-ghost use Rattle.form.specs.Decoding.{scalarOf, utf8Of, verdict, utf8Verdict, wellFormed, Judged};
+ghost use Rattle.form.specs.Form.{formNo};
+ghost use Rattle.form.specs.Strings.{encOf, utf8Bytes};
+ghost use Rattle.form.specs.Decoding.{oneOf, utf8Of, wellFormedIn, Judged};
 ghost use Rattle.chars.specs.Answers.{sequenceOf};
-ghost use Rattle.mutf8.specs.Answers.{encOf, oneOf, verdictOf, checkedOut, dueOut};
+ghost use Rattle.mutf8.specs.Answers.{verdictOf};
 ghost use Rattle.mutf8.specs.Runs.{Stepped};
-
-// How scalar values are written: as rule 2 says, or in UTF-8.
-enum Coding {
-    Modified,
-    Utf8,
-}
 
 // Well formed, or the offset at which the first sequence that can't be read begins.
 pub enum Checked {
@@ -47,24 +43,24 @@ fn ahead(end: usize, at: usize, reach: usize) -> usize
     if end - at < reach { end } else { at + reach }
 }
 
-// What stands at a place in a coding: the only function that knows one from the other. In modified UTF-8 the value that was read tells
+// What stands at a place in a form: the only function that knows one from the other. In modified UTF-8 the value that was read tells
 // how many bytes it takes.
-fn front_at(s: &[u8], at: usize, coding: Coding) -> Front
-    ensures { λ r. ⌜ sequenceOf r ≡ oneOf coding (drop at (now (s .entry))) ⌝ }
+fn front_at(s: &[u8], at: usize, form: u32) -> Front
+    ensures { λ r. ⌜ sequenceOf r ≡ oneOf (formNo form .strings) (drop at (now (s .entry))) ⌝ }
 {
-    match coding {
-        Coding::Modified => match chars::scalar_at(s, at) {
-            Front::Is(c, _) => Front::Is(c, chars::length_of(c)),
-            Front::Stuck => Front::Stuck,
-        },
-        Coding::Utf8 => chars::utf8_at(s, at),
+    if is_pocket(form) {
+        return chars::utf8_at(s, at);
+    }
+    match chars::scalar_at(s, at) {
+        Front::Is(c, _) => Front::Is(c, chars::length_of(c)),
+        Front::Stuck => Front::Stuck,
     }
 }
 
 // Goes on value by value, up to `stop` or one that can't be read.
-fn steps(s: &[u8], at: usize, stop: usize, coding: Coding) -> usize
+fn steps(s: &[u8], at: usize, stop: usize, form: u32) -> usize
     requires { ⌜ (at ≤ length (now s)) × (stop ≤ length (now s)) ⌝ }
-    ensures { λ r. ⌜ Stepped (oneOf coding) (now (s .entry)) at stop r ⌝ }
+    ensures { λ r. ⌜ Stepped (oneOf (formNo form .strings)) (now (s .entry)) at stop r ⌝ }
 {
     let mut i = at;
     while i < stop {
@@ -72,7 +68,7 @@ fn steps(s: &[u8], at: usize, stop: usize, coding: Coding) -> usize
             i = i + 1;
             continue;
         }
-        match front_at(s, i, coding) {
+        match front_at(s, i, form) {
             Front::Is(_, n) => {
                 i = i + n;
             }
@@ -84,9 +80,9 @@ fn steps(s: &[u8], at: usize, stop: usize, coding: Coding) -> usize
     i
 }
 
-// Whether the whole of s is of a coding, by blocks and by values in turn.
-fn judge(s: &[u8], coding: Coding) -> Checked
-    ensures { λ r. ⌜ Judged (encOf coding) (oneOf coding) (now (s .entry)) (verdictOf r) ⌝ }
+// Whether the whole of s keeps the string rule of a form, by blocks and by values in turn.
+fn judge(s: &[u8], form: u32) -> Checked
+    ensures { λ r. ⌜ Judged (encOf (formNo form .strings)) (oneOf (formNo form .strings)) (now (s .entry)) (verdictOf r) ⌝ }
 {
     let mut i = 0;
     let mut reach: usize = 0;
@@ -94,7 +90,7 @@ fn judge(s: &[u8], coding: Coding) -> Checked
         let j = blocks::pass(s, i);
         reach = reach_after(reach, i, j);
         let stop = ahead(s.len(), j, reach);
-        let r = steps(s, j, stop, coding);
+        let r = steps(s, j, stop, form);
         if r < stop {
             return Checked::Bad(r);
         }
@@ -103,32 +99,33 @@ fn judge(s: &[u8], coding: Coding) -> Checked
     Checked::Good
 }
 
-// Whether the whole of s is modified UTF-8; where not, refusal 4 at the offset.
-pub fn check(s: &[u8]) -> Checked
-    ensures { λ r. ⌜ (Judged scalarBytes scalarOf (now (s .entry)) (verdictOf r)) × (checkedOut badString r ≡ dueOut badString (verdict (now (s .entry)))) ⌝ }
+// Whether the whole of s keeps the string rule of a form (rule 2; 02, [2]); where not, refusal 4 at the offset. A short plain string, which
+// every rule takes, is passed before the form is looked at.
+pub fn check(s: &[u8], form: u32) -> Checked
+    ensures { λ r. ⌜ Judged (encOf (formNo form .strings)) (oneOf (formNo form .strings)) (now (s .entry)) (verdictOf r) ⌝ }
 {
-    if plain::is_plain(0, s, 0, s.len()) {
+    if plain::is_plain(0, s) {
         return Checked::Good;
     }
-    judge(s, Coding::Modified)
+    judge(s, form)
 }
 
 // Refusal 4's test.
-pub fn is_well_formed(s: &[u8]) -> bool
-    ensures { λ r. ⌜ r ≡ wellFormed (now (s .entry)) ⌝ }
+pub fn is_well_formed(s: &[u8], form: u32) -> bool
+    ensures { λ r. ⌜ r ≡ wellFormedIn (formNo form .strings) (now (s .entry)) ⌝ }
 {
-    match check(s) {
+    match check(s, form) {
         Checked::Good => true,
         Checked::Bad(_) => false,
     }
 }
 
-// Whether the whole of s is UTF-8; where not, refusal 15 at the offset.
+// Whether the whole of a text is UTF-8, as the strings of the pocket edition are; where not, refusal 15 at the offset.
 pub fn check_utf8(s: &[u8]) -> Checked
-    ensures { λ r. ⌜ (Judged utf8Bytes utf8Of (now (s .entry)) (verdictOf r)) × (checkedOut badText r ≡ dueOut badText (utf8Verdict (now (s .entry)))) ⌝ }
+    ensures { λ r. ⌜ Judged utf8Bytes utf8Of (now (s .entry)) (verdictOf r) ⌝ }
 {
-    if plain::is_plain(0, s, 0, s.len()) {
+    if plain::is_plain(0, s) {
         return Checked::Good;
     }
-    judge(s, Coding::Utf8)
+    judge(s, POCKET)
 }

@@ -1,20 +1,30 @@
 // The library to link: every entry point under its C name, each one line over a call that keeps the same promise. include/tikfazrul.h says
 // what each word of an answer is, crates/calls/specs defines it.
 ghost use Rattle.form.specs.Moved.{eight, nine};
-ghost use Rattle.calls.specs.Calls.{Mutf8Called, Utf8Called, ReadCalled, TableCalled, WriteCalled, RescueCalled, WriteLinesCalled, ReadLinesCalled, MoveCalled, QueryCalled, TokenCalled, ContentCalled, ParseCalled};
+ghost use Rattle.form.specs.Answer.{badString, badText};
+ghost use Rattle.form.specs.Form.{modified, utf8, java, formNo};
+ghost use Rattle.calls.specs.Calls.{StringCalled, ReadCalled, TableCalled, WriteCalled, RescueCalled, WriteLinesCalled, ReadLinesCalled, MoveCalled, QueryCalled, TokenCalled, ContentCalled, ParseCalled};
 
 // Whether bytes are modified UTF-8 (rule 2): 4 at the first sequence that can't be read.
 #[no_mangle]
 pub extern "C" fn tikfazrul_check_mutf8(bytes: &[u8], answer: &mut [u64; 8])
-    ensures { λ _. ⌜ Mutf8Called (now (bytes .entry)) (now (answer .exit)) ⌝ }
+    ensures { λ _. ⌜ StringCalled modified badString (now (bytes .entry)) (now (answer .exit)) ⌝ }
 {
-    call_strings::check_mutf8(bytes, answer);
+    call_strings::check_string(0, bytes, answer);
+}
+
+// Whether bytes keep the string rule of a form, 0 for Java's and 2 for the pocket edition's: 4 at the first sequence that can't be read ([2]).
+#[no_mangle]
+pub extern "C" fn tikfazrul_check_string(form: u32, bytes: &[u8], answer: &mut [u64; 8])
+    ensures { λ _. ⌜ StringCalled (formNo form .strings) badString (now (bytes .entry)) (now (answer .exit)) ⌝ }
+{
+    call_strings::check_string(form, bytes, answer);
 }
 
 // Whether bytes are UTF-8: 15 at the first sequence that can't be read.
 #[no_mangle]
 pub extern "C" fn tikfazrul_check_utf8(bytes: &[u8], answer: &mut [u64; 8])
-    ensures { λ _. ⌜ Utf8Called (now (bytes .entry)) (now (answer .exit)) ⌝ }
+    ensures { λ _. ⌜ StringCalled utf8 badText (now (bytes .entry)) (now (answer .exit)) ⌝ }
 {
     call_strings::check_utf8(bytes, answer);
 }
@@ -22,9 +32,17 @@ pub extern "C" fn tikfazrul_check_utf8(bytes: &[u8], answer: &mut [u64; 8])
 // Reads a document into a table of records (rules 3 to 6).
 #[no_mangle]
 pub extern "C" fn tikfazrul_read(doc: &[u8], table: &mut [u32], answer: &mut [u64; 8])
-    ensures { λ _. ⌜ ReadCalled (now (doc .entry)) (now (table .entry)) (now (table .exit)) (now (answer .exit)) ⌝ }
+    ensures { λ _. ⌜ ReadCalled java (now (doc .entry)) (now (table .entry)) (now (table .exit)) (now (answer .exit)) ⌝ }
 {
-    call_read::read(doc, table, answer);
+    call_read::read(0, doc, table, answer);
+}
+
+// Reads a document in a form, 0 for Java's and 2 for the pocket edition's ([2]).
+#[no_mangle]
+pub extern "C" fn tikfazrul_read_in(form: u32, doc: &[u8], table: &mut [u32], answer: &mut [u64; 8])
+    ensures { λ _. ⌜ ReadCalled (formNo form) (now (doc .entry)) (now (table .entry)) (now (table .exit)) (now (answer .exit)) ⌝ }
+{
+    call_read::read(form, doc, table, answer);
 }
 
 // Whether words form a table over a document of doc_len bytes (rule 7).
@@ -43,9 +61,23 @@ pub extern "C" fn tikfazrul_write(
     out: &mut [u8],
     answer: &mut [u64; 8],
 )
-    ensures { λ _. ⌜ WriteCalled (now (doc .entry)) (now (table .entry)) (now (table .exit)) (now (out .entry)) (now (out .exit)) (now (answer .exit)) ⌝ }
+    ensures { λ _. ⌜ WriteCalled java (now (doc .entry)) (now (table .entry)) (now (table .exit)) (now (out .entry)) (now (out .exit)) (now (answer .exit)) ⌝ }
 {
-    call_write::write(doc, table, out, answer);
+    call_write::write(0, doc, table, out, answer);
+}
+
+// Writes the document that a table stands for in the form that its bytes have, as tikfazrul_read_in takes it ([2]).
+#[no_mangle]
+pub extern "C" fn tikfazrul_write_in(
+    form: u32,
+    doc: &[u8],
+    table: &mut [u32],
+    out: &mut [u8],
+    answer: &mut [u64; 8],
+)
+    ensures { λ _. ⌜ WriteCalled (formNo form) (now (doc .entry)) (now (table .entry)) (now (table .exit)) (now (out .entry)) (now (out .exit)) (now (answer .exit)) ⌝ }
+{
+    call_write::write(form, doc, table, out, answer);
 }
 
 // Writes a whole document of one that is cut, with every tag that was completely read before the cut ([11]); a line of three words in the
@@ -59,7 +91,7 @@ pub extern "C" fn tikfazrul_rescue(
     changes: &mut [u32],
     answer: &mut [u64; 8],
 )
-    ensures { λ _. ⌜ RescueCalled form (now (doc .entry)) (now (table .entry)) (now (table .exit)) (now (out .entry)) (now (out .exit)) (now (changes .entry)) (now (changes .exit)) (now (answer .exit)) ⌝ }
+    ensures { λ _. ⌜ RescueCalled (formNo form) (now (doc .entry)) (now (table .entry)) (now (table .exit)) (now (out .entry)) (now (out .exit)) (now (changes .entry)) (now (changes .exit)) (now (answer .exit)) ⌝ }
 {
     call_rescue::rescue(form, doc, table, out, changes, answer);
 }
@@ -120,9 +152,24 @@ pub extern "C" fn tikfazrul_query(
     list: &mut [u32],
     answer: &mut [u64; 8],
 )
-    ensures { λ _. ⌜ QueryCalled (now (doc .entry)) (now (table .entry)) (now (query .entry)) (now (list .entry)) (now (list .exit)) (now (answer .exit)) ⌝ }
+    ensures { λ _. ⌜ QueryCalled java (now (doc .entry)) (now (table .entry)) (now (query .entry)) (now (list .entry)) (now (list .exit)) (now (answer .exit)) ⌝ }
 {
-    call_query::query(doc, table, query, list, answer);
+    call_query::query(0, doc, table, query, list, answer);
+}
+
+// Asks a table of a document in a form; names in the query are in that form's strings, its lengths and indices big-endian in every form ([2]).
+#[no_mangle]
+pub extern "C" fn tikfazrul_query_in(
+    form: u32,
+    doc: &[u8],
+    table: &[u32],
+    query: &[u8],
+    list: &mut [u32],
+    answer: &mut [u64; 8],
+)
+    ensures { λ _. ⌜ QueryCalled (formNo form) (now (doc .entry)) (now (table .entry)) (now (query .entry)) (now (list .entry)) (now (list .exit)) (now (answer .exit)) ⌝ }
+{
+    call_query::query(form, doc, table, query, list, answer);
 }
 
 // The next token of a text from a start on (rules 10 to 13).

@@ -5,6 +5,7 @@ use mathlib.Core.Path.{_≡_}
 use mathlib.Core.List.{List}
 use lib.ListN.{length, getD}
 use Rattle.form.specs.Answer.{Out, got, no, dataEnds}
+use Rattle.form.specs.Form.{Form}
 use Rattle.form.specs.Reading.{Span, Entry as EntryOf, end, named, ListHead as ListHeadOf, numberAt, listHeadAt}
 use Rattle.nbt_fields.specs.declared.Num.{Num}
 use Rattle.nbt_fields.specs.declared.Part.{Part}
@@ -26,12 +27,13 @@ abbrev pub listHeadOut : ListHead → Out ListHeadOf
 listHeadOut (ListHead.Is k n) = got (record { kind = k; count = n })
 listHeadOut (ListHead.No n p) = no n p
 
--- The head of a list at `at`, in every document that has the kind there and the count behind it.
+-- The head of a list at `at`, in every form and every document that has the kind there and the count behind it.
 abbrev pub HeadIs : ℕ → ℕ → ℕ → ListHead → Type 0
-HeadIs kind count at r = (doc : List ℕ) → at < length doc → kind ≡ getD doc at 0 → numberAt doc 4 (at + 1) ≡ got count → listHeadOut r ≡ listHeadAt doc at
+HeadIs kind count at r =
+    (form : Form) (doc : List ℕ) → at < length doc → kind ≡ getD doc at 0 → numberAt form doc 4 (at + 1) ≡ got count → listHeadOut r ≡ listHeadAt form doc at
 
 -- A compound's end, an entry's kind and the span of its name, or its refusal.
 abbrev pub entryOut : Entry → Out EntryOf
 entryOut Entry.End = got end
-entryOut (Entry.Named k s l x) = got (named k (record { start = s; size = l; count = 0; next = x }))
+entryOut (Entry.Named k s l) = got (named k (record { start = s; size = l; count = 0; next = s + l }))
 entryOut (Entry.No n p) = no n p

@@ -3,9 +3,11 @@
 ghost use mathlib.Core.Path.{_≡_};
 ghost use Prim.Native.Nat.{ℕ, _+_, _≤_, _<_, _^_};
 ghost use lib.ListN.{length, getD};
+ghost use Rattle.form.specs.Form.{formNo};
 ghost use Rattle.form.specs.Table.{widthOf};
 ghost use Rattle.form.specs.Reading.{numberAt, bytesAt, stringAt, arrayAt, leafAt, listHeadAt, entryAt};
 ghost use Rattle.nbt_fields.specs.Answers.{numOut, partOut, listHeadOut, entryOut, HeadIs};
+use form::forms::is_pocket;
 use form::kinds;
 use mutf8::Checked;
 
@@ -38,16 +40,8 @@ pub enum ListHead {
 // An entry's kind and name, with the place of its payload; or a compound's end; or a refusal.
 pub enum Entry {
     End,
-    Named {
-        kind: u8,
-        start: usize,
-        len: usize,
-        next: usize,
-    },
-    No {
-        number: u8,
-        place: usize,
-    },
+    Named { kind: u8, start: usize, len: usize },
+    No { number: u8, place: usize },
 }
 
 // A byte as a word.
@@ -57,15 +51,15 @@ pub fn wide(x: u8) -> usize
     x as usize
 }
 
-// The big-endian number in the n bytes at `at`.
-fn number(doc: &[u8], n: usize, at: usize) -> Num
+// The number in the n bytes at `at`.
+fn number(doc: &[u8], n: usize, at: usize, form: u32) -> Num
     requires { ⌜ (n ≤ 4) × (at ≤ length (now doc)) ⌝ }
-    ensures { λ r. ⌜ numOut r ≡ numberAt (now (doc .entry)) n at ⌝ }
+    ensures { λ r. ⌜ numOut r ≡ numberAt (formNo form) (now (doc .entry)) n at ⌝ }
 {
     if doc.len() - at < n {
         return Num::Short(at);
     }
-    Num::Is(raw::number_at(doc, at, n) as usize)
+    Num::Is(raw::number_in(doc, at, n, is_pocket(form)) as usize)
 }
 
 // The n bytes at `at`.
@@ -89,11 +83,11 @@ fn bytes_at(doc: &[u8], n: usize, count: usize, at: usize) -> Part
 
 // A string: its length, its content (1), which can be read to its end (4); where not, the place is that of the character (02, [3]). One sum
 // serves the test and the span: with a difference more, entry_at is too large to be compiled into its callers.
-pub fn string_at(doc: &[u8], at: usize) -> Part
+pub fn string_at(doc: &[u8], at: usize, form: u32) -> Part
     requires { ⌜ at ≤ length (now doc) ⌝ }
-    ensures { λ r. ⌜ partOut r ≡ stringAt (now (doc .entry)) at ⌝ }
+    ensures { λ r. ⌜ partOut r ≡ stringAt (formNo form) (now (doc .entry)) at ⌝ }
 {
-    match number(doc, 2, at) {
+    match number(doc, 2, at, form) {
         Num::Short(p) => Part::No {
             number: form::DATA_ENDS,
             place: p,
@@ -107,7 +101,7 @@ pub fn string_at(doc: &[u8], at: usize) -> Part
                     place: start,
                 };
             }
-            match mutf8::check(&doc[start..end]) {
+            match mutf8::check(&doc[start..end], form) {
                 Checked::Good => Part::Is {
                     start,
                     len: n,
@@ -124,11 +118,11 @@ pub fn string_at(doc: &[u8], at: usize) -> Part
 }
 
 // An array: its count (1, 5), then its elements as one field (1).
-fn array_at(doc: &[u8], w: usize, at: usize) -> Part
+fn array_at(doc: &[u8], w: usize, at: usize, form: u32) -> Part
     requires { ⌜ (w ≤ 8) × (at ≤ length (now doc)) ⌝ }
-    ensures { λ r. ⌜ partOut r ≡ arrayAt (now (doc .entry)) w at ⌝ }
+    ensures { λ r. ⌜ partOut r ≡ arrayAt (formNo form) (now (doc .entry)) w at ⌝ }
 {
-    match number(doc, 4, at) {
+    match number(doc, 4, at, form) {
         Num::Short(p) => Part::No {
             number: form::DATA_ENDS,
             place: p,
@@ -158,20 +152,20 @@ pub fn width_of(kind: u8) -> usize
 }
 
 // A payload of kinds 7, 8, 11 and 12: a string, or an array.
-pub fn leaf_at(doc: &[u8], kind: u8, at: usize) -> Part
+pub fn leaf_at(doc: &[u8], kind: u8, at: usize, form: u32) -> Part
     requires { ⌜ (6 < kind) × (kind ≤ 12) × (at ≤ length (now doc)) ⌝ }
-    ensures { λ r. ⌜ partOut r ≡ leafAt (now (doc .entry)) kind at ⌝ }
+    ensures { λ r. ⌜ partOut r ≡ leafAt (formNo form) (now (doc .entry)) kind at ⌝ }
 {
     match kind {
-        kinds::STRING => string_at(doc, at),
-        _ => array_at(doc, width_of(kind), at),
+        kinds::STRING => string_at(doc, at, form),
+        _ => array_at(doc, width_of(kind), at, form),
     }
 }
 
 // A list's kind and count: both are whole (1) before they are judged.
-pub fn list_head(doc: &[u8], at: usize) -> ListHead
+pub fn list_head(doc: &[u8], at: usize, form: u32) -> ListHead
     requires { ⌜ at ≤ length (now doc) ⌝ }
-    ensures { λ r. ⌜ listHeadOut r ≡ listHeadAt (now (doc .entry)) at ⌝ }
+    ensures { λ r. ⌜ listHeadOut r ≡ listHeadAt (formNo form) (now (doc .entry)) at ⌝ }
 {
     if doc.len() <= at {
         return ListHead::No {
@@ -180,7 +174,7 @@ pub fn list_head(doc: &[u8], at: usize) -> ListHead
         };
     }
     let kind = doc[at];
-    match number(doc, 4, at + 1) {
+    match number(doc, 4, at + 1, form) {
         Num::Short(p) => ListHead::No {
             number: form::DATA_ENDS,
             place: p,
@@ -223,17 +217,17 @@ fn judge_head(kind: u8, count: usize, at: usize) -> ListHead
 }
 
 // An entry of some kind: its name (1, 4), then its id (2).
-fn named(doc: &[u8], kind: u8, at: usize) -> Entry
+fn named(doc: &[u8], kind: u8, at: usize, form: u32) -> Entry
     requires { ⌜ (at < length (now doc)) × (kind ≡ getD (now doc) at 0) × (kind ≡ 0 → ⊥) ⌝ }
-    ensures { λ r. ⌜ entryOut r ≡ entryAt (now (doc .entry)) at ⌝ }
+    ensures { λ r. ⌜ entryOut r ≡ entryAt (formNo form) (now (doc .entry)) at ⌝ }
 {
-    match string_at(doc, at + 1) {
+    match string_at(doc, at + 1, form) {
         Part::No { number, place } => Entry::No { number, place },
         Part::Is {
             start,
             len,
             count: _,
-            next,
+            next: _,
         } => {
             if kinds::LONG_ARRAY < kind {
                 return Entry::No {
@@ -241,20 +235,15 @@ fn named(doc: &[u8], kind: u8, at: usize) -> Entry
                     place: at,
                 };
             }
-            Entry::Named {
-                kind,
-                start,
-                len,
-                next,
-            }
+            Entry::Named { kind, start, len }
         }
     }
 }
 
 // An entry's kind and name, or a compound's end.
-pub fn entry_at(doc: &[u8], at: usize) -> Entry
+pub fn entry_at(doc: &[u8], at: usize, form: u32) -> Entry
     requires { ⌜ at ≤ length (now doc) ⌝ }
-    ensures { λ r. ⌜ entryOut r ≡ entryAt (now (doc .entry)) at ⌝ }
+    ensures { λ r. ⌜ entryOut r ≡ entryAt (formNo form) (now (doc .entry)) at ⌝ }
 {
     if doc.len() <= at {
         return Entry::No {
@@ -266,5 +255,5 @@ pub fn entry_at(doc: &[u8], at: usize) -> Entry
     if kind == kinds::END {
         return Entry::End;
     }
-    named(doc, kind, at)
+    named(doc, kind, at, form)
 }

@@ -9,6 +9,7 @@ use native.Mathlib.Numerals.{towards-suc}
 use borrow.Author.Tests.{lt-ltb, le-ltb, eq-eqb, ne-eqb}
 use lib.ListN.{length, set}
 use lib.Dec.{ltb, eqb}
+use Rattle.form.specs.Form.{Form}
 use Rattle.form.specs.Answer.{Out, got, no, pick, depthLimit}
 use Rattle.form.specs.Spans.{over}
 use Rattle.form.specs.Table.{holds}
@@ -73,60 +74,60 @@ picked-le false inner = omega arith
 
 -- ---- a payload, from what is asked of it
 
-module _ {doc t ls : List ℕ} {depth kind name len at above n most : ℕ} (a : PayloadAsked doc t depth kind name len at above n ls most) where
+module _ (form : Form) {doc t ls : List ℕ} {depth kind name len at above n most : ℕ} (a : PayloadAsked form doc t depth kind name len at above n ls most) where
   abbrev room : ℕ
   room = roomOf (length t)
 
   pub asked-room : n < room
-  asked-room = only-room doc room (insideAt doc room depth) kind name len at n (a .only)
+  asked-room = only-room form doc room (insideAt form doc room depth) kind name len at n (a .only)
 
   pub asked-fits : 9 * n + 9 ≤ length t
   asked-fits = omega (arith, asked-room, a .named .ready)
 
   module _ (c : holds kind ≡ true) where
-    inside : OnlyCut (insideAt doc room depth kind at (n + 1))
-    inside = only-inside doc room (insideAt doc room depth) kind name len at n (a .only) c
+    inside : OnlyCut (insideAt form doc room depth kind at (n + 1))
+    inside = only-inside form doc room (insideAt form doc room depth) kind name len at n (a .only) c
 
     pub asked-deep : depth ≡ 0 → ⊥
-    asked-deep = only-deep doc room depth kind at (n + 1) inside
+    asked-deep = only-deep form doc room depth kind at (n + 1) inside
 
-    pub entries-asked : kind ≡ 10 → EntriesAsked doc t (depth - 1) at n ls most
+    pub entries-asked : kind ≡ 10 → EntriesAsked form doc t (depth - 1) at n ls most
     entries-asked e =
         let r = a .named .ready in
         let d = positive depth asked-deep in
         record {
           ready = record { doc-le = r .doc-le; at-le = r .at-le; cap-le = r .cap-le; fits = r .fits; n-le = omega (arith, asked-room); above-le = omega arith };
           deep = omega (arith, a .deep);
-          only = only-entries doc room depth kind at (n + 1) inside (λ z. omega arith);
+          only = only-entries form doc room depth kind at (n + 1) inside (λ z. omega arith);
           lines-fit = a .lines-fit;
         }
 
     module _ (e : kind ≡ 9) where
-      pub elements-asked : {h : ListHead} → listHeadAt doc at ≡ got h → ElementsAsked doc t (depth - 1) (h .count) (h .kind) (at + 5) n ls most
+      pub elements-asked : {h : ListHead} → listHeadAt form doc at ≡ got h → ElementsAsked form doc t (depth - 1) (h .count) (h .kind) (at + 5) n ls most
       elements-asked f =
           let r = a .named .ready in
           let d = positive depth asked-deep in
-          let w = list-head-within doc at f in
+          let w = list-head-within form doc at f in
           record {
             ready = record { doc-le = r .doc-le; at-le = w .0; cap-le = r .cap-le; fits = r .fits; n-le = omega (arith, asked-room); above-le = omega arith };
             deep = omega (arith, a .deep);
             kind-le = w .1;
-            kind-some = list-kind-some doc at f;
-            only = only-elements doc room depth kind at (n + 1) inside e f;
+            kind-some = list-kind-some form doc at f;
+            only = only-elements form doc room depth kind at (n + 1) inside e f;
             lines-fit = a .lines-fit;
           }
 
       -- A list whose head is cut leaves nothing.
-      pub list-head-piece : (level : ℕ) {m p : ℕ} → listHeadAt doc at ≡ no m p → level ≤ depthLimit
-          → IsCut (readIn doc (length t) depth kind name len at n) × Shut room (begunAt doc room depth kind name len at n) n 0 level above n t t ls ls most
+      pub list-head-piece : (level : ℕ) {m p : ℕ} → listHeadAt form doc at ≡ no m p → level ≤ depthLimit
+          → IsCut (readIn form doc (length t) depth kind name len at n) × Shut room (begunAt form doc room depth kind name len at n) n 0 level above n t t ls ls most
       list-head-piece level {m} {p} f l =
-          let one : m ≡ 1 = rw f at (only-head doc room depth kind at (n + 1) inside e) in (
+          let one : m ≡ 1 = rw f at (only-head form doc room depth kind at (n + 1) inside e) in (
             (
               p,
-              payload-no doc room (insideAt doc room depth) kind name len at n asked-room c
-                  (inside-list doc room kind at (n + 1) depth asked-deep e ∙ list-head-no doc _ at (n + 1) (f ∙ ap (λ q. no q p) one)),
+              payload-no form doc room (insideAt form doc room depth) kind name len at n asked-room c
+                  (inside-list form doc room kind at (n + 1) depth asked-deep e ∙ list-head-no form doc _ at (n + 1) (f ∙ ap (λ q. no q p) one)),
             ),
-            shut-nothing room level above n t ls most (no-list-at doc room kind name len at n depth e f) (omega (arith, asked-room)) l,
+            shut-nothing room level above n t ls most (no-list-at form doc room kind name len at n depth e f) (omega (arith, asked-room)) l,
           )
 
 module _ (doc : List ℕ) (room : ℕ) (o : Out Run) (k : Kept) (level from above n : ℕ) (t t′ ls ls′ : List ℕ) (most : ℕ) where
@@ -136,13 +137,13 @@ module _ (doc : List ℕ) (room : ℕ) (o : Out Run) (k : Kept) (level from abov
   side-small (Side.Cut n′ count m) (c, g, e) = (g .n-le, omega (arith, g .n-le, g .n-is, e, width-le-size (k .forest)), omega (arith, g .deep))
 
 -- What `held` asks, behind what was gathered in a container.
-pub held-asked : {doc t ls : List ℕ} {depth kind name len at above n most : ℕ} (a : PayloadAsked doc t depth kind name len at above n ls most) {t₁ ls₁ : List ℕ} {s : Side}
+pub held-asked : (form : Form) → {doc t ls : List ℕ} {depth kind name len at above n most : ℕ} (a : PayloadAsked form doc t depth kind name len at above n ls most) {t₁ ls₁ : List ℕ} {s : Side}
     → (endOf s ≤ roomOf (length t)) × (countOf s ≤ roomOf (length t)) × (openOf s ≤ depthLimit)
     → length t₁ ≡ length t → length ls₁ ≡ length ls → {promised level : ℕ} → promised < 2 ^ 32 → level ≤ depthLimit → HeldAsked t₁ name len promised level above n s ls₁ most
-held-asked a w e f p l = record {
-  fits = omega (arith, asked-fits a);
+held-asked form a w e f p l = record {
+  fits = omega (arith, asked-fits form a);
   above-le = a .named .ready .above-le;
-  n-lt = omega (arith, asked-room a, a .named .ready);
+  n-lt = omega (arith, asked-room form a, a .named .ready);
   name-lt = a .named .name-lt;
   len-lt = a .named .len-lt;
   promised-lt = p;
@@ -153,47 +154,47 @@ held-asked a w e f p l = record {
   lines-fit = omega (arith, a .lines-fit, f);
 }
 
-module _ {doc t ls : List ℕ} {depth kind name len at above n most : ℕ} (a : PayloadAsked doc t depth kind name len at above n ls most) (c : holds kind ≡ true)
+module _ (form : Form) {doc t ls : List ℕ} {depth kind name len at above n most : ℕ} (a : PayloadAsked form doc t depth kind name len at above n ls most) (c : holds kind ≡ true)
     (t₁ t₂ ls₁ ls₂ : List ℕ) (s : Side) (r : Piece) where
   abbrev size-of : ℕ
   size-of = length t
 
   level-next : 512 - (depth - 1) ≡ 512 - depth + 1
-  level-next = omega (arith, positive depth (asked-deep a c), a .deep)
+  level-next = omega (arith, positive depth (asked-deep form a c), a .deep)
 
   -- A compound, of its entries and its own record.
   pub compound-piece : kind ≡ 10
-      → SideIs doc (roomOf size-of) (entriesIn doc size-of (depth - 1) at (n + 1)) (entriesKept doc size-of (depth - 1) at (n + 1)) (512 - (depth - 1)) at n (n + 1) t t₁ ls ls₁ most s
+      → SideIs doc (roomOf size-of) (entriesIn form doc size-of (depth - 1) at (n + 1)) (entriesKept form doc size-of (depth - 1) at (n + 1)) (512 - (depth - 1)) at n (n + 1) t t₁ ls ls₁ most s
       → HeldIs kind name len 0 0 (512 - depth) above n t₁ t₂ ls₁ ls₂ most s r
-      → PieceIs doc (roomOf size-of) (readIn doc size-of depth kind name len at n) (begunAt doc (roomOf size-of) depth kind name len at n) (512 - depth) at above n t t₂ ls ls₂ most r
+      → PieceIs doc (roomOf size-of) (readIn form doc size-of depth kind name len at n) (begunAt form doc (roomOf size-of) depth kind name len at n) (512 - depth) at above n t t₂ ls ls₂ most r
   compound-piece e f g =
-      held-piece doc (roomOf size-of) (compound-holds doc (roomOf size-of) depth kind name len at n (asked-deep a c) (asked-room a) e)
-      (512 - depth) (512 - (depth - 1)) at at above t t₁ t₂ ls ls₁ ls₂ most s r f g level-next (omega arith) (asked-fits a) (a .lines-fit)
+      held-piece doc (roomOf size-of) (compound-holds form doc (roomOf size-of) depth kind name len at n (asked-deep form a c) (asked-room form a) e)
+      (512 - depth) (512 - (depth - 1)) at at above t t₁ t₂ ls ls₁ ls₂ most s r f g level-next (omega arith) (asked-fits form a) (a .lines-fit)
 
   -- A list, of its head, its elements and its own record.
-  pub list-piece : kind ≡ 9 → {inner count : ℕ} → listHeadAt doc at ≡ got (record { kind = inner; count = count })
-      → SideIs doc (roomOf size-of) (elementsIn doc size-of (depth - 1) count inner (at + 5) (n + 1)) (elementsKept doc size-of (depth - 1) count inner (at + 5) (n + 1))
+  pub list-piece : kind ≡ 9 → {inner count : ℕ} → listHeadAt form doc at ≡ got (record { kind = inner; count = count })
+      → SideIs doc (roomOf size-of) (elementsIn form doc size-of (depth - 1) count inner (at + 5) (n + 1)) (elementsKept form doc size-of (depth - 1) count inner (at + 5) (n + 1))
       (512 - (depth - 1)) (at + 5) n (n + 1) t t₁ ls ls₁ most s
       → HeldIs kind name len inner count (512 - depth) above n t₁ t₂ ls₁ ls₂ most s r
-      → PieceIs doc (roomOf size-of) (readIn doc size-of depth kind name len at n) (begunAt doc (roomOf size-of) depth kind name len at n) (512 - depth) at above n t t₂ ls ls₂ most r
+      → PieceIs doc (roomOf size-of) (readIn form doc size-of depth kind name len at n) (begunAt form doc (roomOf size-of) depth kind name len at n) (512 - depth) at above n t t₂ ls ls₂ most r
   list-piece e h f g =
-      held-piece doc (roomOf size-of) (list-holds doc (roomOf size-of) depth kind name len at n (asked-deep a c) (asked-room a) e h)
-      (512 - depth) (512 - (depth - 1)) at (at + 5) above t t₁ t₂ ls ls₁ ls₂ most s r f g level-next (omega arith) (asked-fits a) (a .lines-fit)
+      held-piece doc (roomOf size-of) (list-holds form doc (roomOf size-of) depth kind name len at n (asked-deep form a c) (asked-room form a) e h)
+      (512 - depth) (512 - (depth - 1)) at (at + 5) above t t₁ t₂ ls ls₁ ls₂ most s r f g level-next (omega arith) (asked-fits form a) (a .lines-fit)
 
 -- ---- the document
 
 -- With no byte there is no name.
-pub string-none : (doc : List ℕ) → length doc ≡ 0 → (m p : ℕ) × (stringAt doc 1 ≡ no m p)
-string-none doc e = (1, 1, string-no doc 1 (number-no doc 2 1 (omega arith)))
+pub string-none : (form : Form) (doc : List ℕ) → length doc ≡ 0 → (m p : ℕ) × (stringAt form doc 1 ≡ no m p)
+string-none form doc e = (1, 1, string-no form doc 1 (number-no form doc 2 1 (omega arith)))
 
-module _ (doc t : List ℕ) (c : IsCut (reading doc t)) {s : Span} (e : stringAt doc 1 ≡ got s) where
-  root : RootCut doc (roomOf (length t)) s (c .0)
-  root = root-cut doc (roomOf (length t)) e (c .1)
+module _ (form : Form) (doc t : List ℕ) (c : IsCut (reading form doc t)) {s : Span} (e : stringAt form doc 1 ≡ got s) where
+  root : RootCut form doc (roomOf (length t)) s (c .0)
+  root = root-cut form doc (roomOf (length t)) e (c .1)
 
   -- What is asked of the root's payload.
-  pub root-asked : (ls : List ℕ) (most : ℕ) → 3 * most ≤ length ls → PayloadAsked doc t 512 10 (s .start) (s .size) (s .next) 0 0 ls most
+  pub root-asked : (ls : List ℕ) (most : ℕ) → 3 * most ≤ length ls → PayloadAsked form doc t 512 10 (s .start) (s .size) (s .next) 0 0 ls most
   root-asked ls most h =
-      let w = string-within doc 1 e in
+      let w = string-within form doc 1 e in
       let small = root .small in
       record {
         named = record {
@@ -208,17 +209,17 @@ module _ (doc t : List ℕ) (c : IsCut (reading doc t)) {s : Span} (e : stringAt
       }
 
   module _ (t′ ls ls′ : List ℕ) (most : ℕ) (r : Piece)
-      (g : PieceIs doc (roomOf (length t)) (readIn doc (length t) 512 10 (s .start) (s .size) (s .next) 0)
-      (begunAt doc (roomOf (length t)) 512 10 (s .start) (s .size) (s .next) 0) 0 (s .next) 0 0 t t′ ls ls′ most r) where
+      (g : PieceIs doc (roomOf (length t)) (readIn form doc (length t) 512 10 (s .start) (s .size) (s .next) 0)
+      (begunAt form doc (roomOf (length t)) 512 10 (s .start) (s .size) (s .next) 0) 0 (s .next) 0 0 t t′ ls ls′ most r) where
     -- It is not whole.
     pub root-whole : {at n : ℕ} → r ≡ Piece.Whole at n → ⊥
     root-whole f = not-both (rw f at g .0 .is) (root .payload)
 
     -- What it leaves is what is kept of the document.
-    pub root-kept : {n m : ℕ} → r ≡ Piece.Cut n m → KeptIn doc t t′ ls ls′ most n m
+    pub root-kept : {n m : ℕ} → r ≡ Piece.Cut n m → KeptIn form doc t t′ ls ls′ most n m
     root-kept {n} {m} f = record {
       k = _;
-      is = kept-of doc (roomOf (length t)) e (c .1);
+      is = kept-of form doc (roomOf (length t)) e (c .1);
       records-are = shut .n-is ∙ omega arith;
       lines-are = shut .many;
       table = shut .table;
@@ -228,5 +229,5 @@ module _ (doc t : List ℕ) (c : IsCut (reading doc t)) {s : Span} (e : stringAt
       small = omega (arith, shut .deep);
     }
       where
-        shut : Shut (roomOf (length t)) (begunAt doc (roomOf (length t)) 512 10 (s .start) (s .size) (s .next) 0) n m 0 0 0 t t′ ls ls′ most
+        shut : Shut (roomOf (length t)) (begunAt form doc (roomOf (length t)) 512 10 (s .start) (s .size) (s .next) 0) n m 0 0 0 t t′ ls ls′ most
         shut = rw f at g .1

@@ -10,6 +10,7 @@ use native.Mathlib.Numerals.{sub-one}
 use borrow.Author.Tests.{lt-ltb, le-ltb, ne-eqb, eqb-true}
 use lib.ListN.{length}
 use lib.Dec.{ltb, eqb}
+use Rattle.form.specs.Form.{Form}
 use Rattle.form.specs.Answer.{Out, got, no, _>>=_, pick, depthLimit}
 use Rattle.form.specs.Spans.{over}
 use Rattle.form.specs.Table.{none, size, width, holds}
@@ -43,21 +44,21 @@ shut-nothing room level above n t ls most e l d = rw e (record {
   deep = omega arith;
 })
 
-module _ (doc : List ℕ) (room depth kind name len at above n level : ℕ) (t t′ ls : List ℕ) (most : ℕ) where
+module _ (form : Form) (doc : List ℕ) (room depth kind name len at above n level : ℕ) (t t′ ls : List ℕ) (most : ℕ) where
   -- A leaf is kept whole or not at all.
-  pub leaf-piece : (r : Piece) → LeafIs doc room (leafOne doc kind name len at) at above n t t′ r → holds kind ≡ false
-      → OnlyCut (payloadBy doc room (insideAt doc room depth) kind name len at n) → level ≤ depthLimit
-      → PieceIs doc room (payloadBy doc room (insideAt doc room depth) kind name len at n) (begunAt doc room depth kind name len at n) level at above n t t′ ls ls most r
+  pub leaf-piece : (r : Piece) → LeafIs doc room (leafOne form doc kind name len at) at above n t t′ r → holds kind ≡ false
+      → OnlyCut (payloadBy form doc room (insideAt form doc room depth) kind name len at n) → level ≤ depthLimit
+      → PieceIs doc room (payloadBy form doc room (insideAt form doc room depth) kind name len at n) (begunAt form doc room depth kind name len at n) level at above n t t′ ls ls most r
   leaf-piece (Piece.Whole at′ n′) s e h d =
-      let is = payload-leaf doc room (insideAt doc room depth) kind name len at n (only-room doc room (insideAt doc room depth) kind name len at n h) e in
+      let is = payload-leaf form doc room (insideAt form doc room depth) kind name len at n (only-room form doc room (insideAt form doc room depth) kind name len at n h) e in
       (rw is s, refl)
   leaf-piece (Piece.Cut n′ m) s e h d =
-      let l = only-room doc room (insideAt doc room depth) kind name len at n h in
-      let is = payload-leaf doc room (insideAt doc room depth) kind name len at n l e in
+      let l = only-room form doc room (insideAt form doc room depth) kind name len at n h in
+      let is = payload-leaf form doc room (insideAt form doc room depth) kind name len at n l e in
       let f = s .0 .2 in
       let one : s .0 .0 ≡ 1 = rw (is ∙ f) at h in (
         (s .0 .1, is ∙ f ∙ ap (λ q. no q (s .0 .1)) one),
-        rw (s .1, s .2, s .3) (shut-nothing room level above n t ls most (begun-leaf doc room depth kind name len at n e) (omega arith) d),
+        rw (s .1, s .2, s .3) (shut-nothing room level above n t ls most (begun-leaf form doc room depth kind name len at n e) (omega arith) d),
       )
 
 -- ---- a container, closed behind what was gathered in it
@@ -134,9 +135,9 @@ kind-whole : (kind : ℕ) (x : One) {k k′ : Kept} → k ≡ whole x k′ → x
 unfolding firstKind width
 kind-whole kind x {k′} e f = rw e (f ∙ rw (ne-eqb (1 + width (k′ .forest)) 0 (λ z. omega arith)) refl)
 
-module _ (doc : List ℕ) (room : ℕ) where
+module _ (form : Form) (doc : List ℕ) (room : ℕ) where
   -- A record that was read has the kind that was asked for.
-  payload-kind : (inside : ℕ → ℕ → ℕ → Out Inside) (kind name len at n : ℕ) {x : One} → payloadBy doc room inside kind name len at n ≡ got x → x .head .kind ≡ kind
+  payload-kind : (inside : ℕ → ℕ → ℕ → Out Inside) (kind name len at n : ℕ) {x : One} → payloadBy form doc room inside kind name len at n ≡ got x → x .head .kind ≡ kind
   unfolding payloadBy leafOne
   payload-kind inside kind name len at n {x} e = go (holds kind) (guard-got (ltb n room) 8 at (rest (holds kind)) e .1)
     where
@@ -144,7 +145,7 @@ module _ (doc : List ℕ) (room : ℕ) where
       leaf s = one (record { kind = kind; name = name; name-length = len; start = s .start; size = s .size; count = s .count; list-kind = 0 }) none (s .next)
 
       rest : Bool → Out One
-      rest t = elim t [ true ↦ inside kind at (n + 1) >>= (λ y. got (heldOne kind name len y)) | false ↦ leafAt doc kind at >>= (λ s. got (leaf s)) ]
+      rest t = elim t [ true ↦ inside kind at (n + 1) >>= (λ y. got (heldOne kind name len y)) | false ↦ leafAt form doc kind at >>= (λ s. got (leaf s)) ]
 
       go : (t : Bool) → rest t ≡ got x → x .head .kind ≡ kind
       go true f =
@@ -152,45 +153,45 @@ module _ (doc : List ℕ) (room : ℕ) where
           let i : heldOne kind name len (b .0) ≡ x = cc (b .2) in
           rw (← i) refl
       go false f =
-          let b = bind-got (leafAt doc kind at) (λ s. got (leaf s)) f in
+          let b = bind-got (leafAt form doc kind at) (λ s. got (leaf s)) f in
           let i : leaf (b .0) ≡ x = cc (b .2) in
           rw (← i) refl
 
   -- At no depth nothing is kept.
-  begun-none : (kind name len at n : ℕ) → begunAt doc room 0 kind name len at n ≡ nothing
+  begun-none : (kind name len at n : ℕ) → begunAt form doc room 0 kind name len at n ≡ nothing
   unfolding begunAt
   begun-none kind name len at n = refl
 
   -- What is kept of a payload that is cut is a container of its kind.
-  kind-begun : (depth kind name len at n : ℕ) → Kind (begunAt doc room depth kind name len at n) kind
+  kind-begun : (depth kind name len at n : ℕ) → Kind (begunAt form doc room depth kind name len at n) kind
   kind-begun depth kind name len at n = go depth (eqb kind 9) (eqb kind 10) refl refl
     where
-      list : (depth : ℕ) (o : Out ListHead) → listHeadAt doc at ≡ o → Kind (begunAt doc room (suc depth) 9 name len at n) 9
-      list depth (got h) e = kind-opened 9 (begun-list doc room depth at n name len e)
-      list depth (no m p) e = kind-nothing 9 (no-list doc room depth at n name len e)
+      list : (depth : ℕ) (o : Out ListHead) → listHeadAt form doc at ≡ o → Kind (begunAt form doc room (suc depth) 9 name len at n) 9
+      list depth (got h) e = kind-opened 9 (begun-list form doc room depth at n name len e)
+      list depth (no m p) e = kind-nothing 9 (no-list form doc room depth at n name len e)
 
-      go : (depth : ℕ) (a b : Bool) → eqb kind 9 ≡ a → eqb kind 10 ≡ b → Kind (begunAt doc room depth kind name len at n) kind
+      go : (depth : ℕ) (a b : Bool) → eqb kind 9 ≡ a → eqb kind 10 ≡ b → Kind (begunAt form doc room depth kind name len at n) kind
       go zero a b e f = kind-nothing kind (begun-none kind name len at n)
-      go (suc depth) true b e f = rw (eqb-true kind 9 e) (list depth (listHeadAt doc at) refl)
-      go (suc depth) false true e f = rw (eqb-true kind 10 f) (kind-opened 10 (begun-compound doc room depth at n name len))
-      go (suc depth) false false e f = kind-nothing kind (begun-leaf doc room (suc depth) kind name len at n (λ i. e i || f i))
+      go (suc depth) true b e f = rw (eqb-true kind 9 e) (list depth (listHeadAt form doc at) refl)
+      go (suc depth) false true e f = rw (eqb-true kind 10 f) (kind-opened 10 (begun-compound form doc room depth at n name len))
+      go (suc depth) false false e f = kind-nothing kind (begun-leaf form doc room (suc depth) kind name len at n (λ i. e i || f i))
 
   module _ (depth : ℕ) where
     abbrev read-in : Reader
-    read-in = payloadBy doc room (insideAt doc room depth)
+    read-in = payloadBy form doc room (insideAt form doc room depth)
 
     -- So the elements that are kept have the list's kind.
-    kind-elements : (left kind at n : ℕ) → Kind (keptElements doc read-in (begunAt doc room depth) left kind at n) kind
+    kind-elements : (left kind at n : ℕ) → Kind (keptElements form doc read-in (begunAt form doc room depth) left kind at n) kind
     unfolding keptElements
     kind-elements zero kind at n = kind-nothing kind refl
     kind-elements (suc left) kind at n = go (read-in kind 0 0 at n) refl
       where
-        cut : (m p : ℕ) → read-in kind 0 0 at n ≡ no m p → (at < length doc) ⊎ (length doc ≤ at) → Kind (keptElements doc read-in (begunAt doc room depth) (suc left) kind at n) kind
-        cut m p e (inl l) = rw (begun-element doc read-in (begunAt doc room depth) left kind at n e l) (kind-begun depth kind 0 0 at n)
-        cut m p e (inr l) = kind-nothing kind (no-element doc read-in (begunAt doc room depth) left kind at n e l)
+        cut : (m p : ℕ) → read-in kind 0 0 at n ≡ no m p → (at < length doc) ⊎ (length doc ≤ at) → Kind (keptElements form doc read-in (begunAt form doc room depth) (suc left) kind at n) kind
+        cut m p e (inl l) = rw (begun-element form doc read-in (begunAt form doc room depth) left kind at n e l) (kind-begun depth kind 0 0 at n)
+        cut m p e (inr l) = kind-nothing kind (no-element form doc read-in (begunAt form doc room depth) left kind at n e l)
 
-        go : (o : Out One) → read-in kind 0 0 at n ≡ o → Kind (keptElements doc read-in (begunAt doc room depth) (suc left) kind at n) kind
-        go (got x) e = kind-whole kind x (kept-element doc read-in (begunAt doc room depth) left kind at n e) (payload-kind (insideAt doc room depth) kind 0 0 at n e)
+        go : (o : Out One) → read-in kind 0 0 at n ≡ o → Kind (keptElements form doc read-in (begunAt form doc room depth) (suc left) kind at n) kind
+        go (got x) e = kind-whole kind x (kept-element form doc read-in (begunAt form doc room depth) left kind at n e) (payload-kind (insideAt form doc room depth) kind 0 0 at n e)
         go (no m p) e = cut m p e (lt-or at (length doc))
 
 -- ---- lists and compounds
@@ -199,53 +200,54 @@ same-picked : (t : Bool) → _≡_ {A = ℕ} (pick t 0 0) 0
 same-picked true = refl
 same-picked false = refl
 
-module _ (doc : List ℕ) where
+module _ (form : Form) (doc : List ℕ) where
   -- What is kept of a container, by the depth that its parts are read at.
   module _ (room kind name len at n : ℕ) where
-    begun-compound-at : (depth : ℕ) → (depth ≡ 0 → ⊥) → kind ≡ 10 → begunAt doc room depth kind name len at n
-        ≡ opened kind name len n 0 (keptEntries doc (payloadBy doc room (insideAt doc room (depth - 1))) (begunAt doc room (depth - 1)) (suc (length doc)) at (n + 1))
+    begun-compound-at : (depth : ℕ) → (depth ≡ 0 → ⊥) → kind ≡ 10 → begunAt form doc room depth kind name len at n
+        ≡ opened kind name len n 0 (keptEntries form doc (payloadBy form doc room (insideAt form doc room (depth - 1))) (begunAt form doc room (depth - 1)) (suc (length doc)) at (n + 1))
     begun-compound-at zero d e = absurd (d refl)
-    begun-compound-at (suc depth) d e = rw (sub-one (suc depth), e) (begun-compound doc room depth at n name len)
+    begun-compound-at (suc depth) d e = rw (sub-one (suc depth), e) (begun-compound form doc room depth at n name len)
 
-    begun-list-at : (depth : ℕ) → (depth ≡ 0 → ⊥) → kind ≡ 9 → {h : ListHead} → listHeadAt doc at ≡ got h → begunAt doc room depth kind name len at n
-        ≡ opened kind name len n (h .count) (keptElements doc (payloadBy doc room (insideAt doc room (depth - 1))) (begunAt doc room (depth - 1)) (h .count) (h .kind) (at + 5) (n + 1))
+    begun-list-at : (depth : ℕ) → (depth ≡ 0 → ⊥) → kind ≡ 9 → {h : ListHead} → listHeadAt form doc at ≡ got h → begunAt form doc room depth kind name len at n
+        ≡ opened kind name len n (h .count) (keptElements form doc (payloadBy form doc room (insideAt form doc room (depth - 1)))
+        (begunAt form doc room (depth - 1)) (h .count) (h .kind) (at + 5) (n + 1))
     begun-list-at zero d e f = absurd (d refl)
-    begun-list-at (suc depth) d e f = rw (sub-one (suc depth), e) (begun-list doc room depth at n name len f)
+    begun-list-at (suc depth) d e f = rw (sub-one (suc depth), e) (begun-list form doc room depth at n name len f)
 
-    pub no-list-at : (depth : ℕ) → kind ≡ 9 → {m p : ℕ} → listHeadAt doc at ≡ no m p → begunAt doc room depth kind name len at n ≡ nothing
-    no-list-at zero e f = begun-none doc room kind name len at n
-    no-list-at (suc depth) e f = rw e (no-list doc room depth at n name len f)
+    pub no-list-at : (depth : ℕ) → kind ≡ 9 → {m p : ℕ} → listHeadAt form doc at ≡ no m p → begunAt form doc room depth kind name len at n ≡ nothing
+    no-list-at zero e f = begun-none form doc room kind name len at n
+    no-list-at (suc depth) e f = rw e (no-list form doc room depth at n name len f)
 
   module _ (room depth kind name len at n : ℕ) (d : depth ≡ 0 → ⊥) (l : n < room) where
     abbrev reader : Reader
-    reader = payloadBy doc room (insideAt doc room (depth - 1))
+    reader = payloadBy form doc room (insideAt form doc room (depth - 1))
 
     abbrev entries-kept : Kept
-    entries-kept = keptEntries doc reader (begunAt doc room (depth - 1)) (suc (length doc)) at (n + 1)
+    entries-kept = keptEntries form doc reader (begunAt form doc room (depth - 1)) (suc (length doc)) at (n + 1)
 
     -- A compound, by its entries.
     pub compound-holds : kind ≡ 10
-        → HoldsIn (entries doc reader (suc (length doc)) none at (n + 1)) entries-kept
-        kind name len 0 0 n (payloadBy doc room (insideAt doc room depth) kind name len at n) (begunAt doc room depth kind name len at n)
+        → HoldsIn (entries form doc reader (suc (length doc)) none at (n + 1)) entries-kept
+        kind name len 0 0 n (payloadBy form doc room (insideAt form doc room depth) kind name len at n) (begunAt form doc room depth kind name len at n)
     compound-holds e = record {
-      whole = λ x f. payload-got doc room (insideAt doc room depth) kind name len at n l (rw e refl)
-          (inside-compound doc room kind at (n + 1) depth d (λ z. omega arith) ∙ compound-got doc reader at (n + 1) f);
-      cut = λ p f. payload-no doc room (insideAt doc room depth) kind name len at n l (rw e refl)
-          (inside-compound doc room kind at (n + 1) depth d (λ z. omega arith) ∙ compound-no doc reader at (n + 1) f);
+      whole = λ x f. payload-got form doc room (insideAt form doc room depth) kind name len at n l (rw e refl)
+          (inside-compound form doc room kind at (n + 1) depth d (λ z. omega arith) ∙ compound-got form doc reader at (n + 1) f);
+      cut = λ p f. payload-no form doc room (insideAt form doc room depth) kind name len at n l (rw e refl)
+          (inside-compound form doc room kind at (n + 1) depth d (λ z. omega arith) ∙ compound-no form doc reader at (n + 1) f);
       begun = begun-compound-at room kind name len at n depth d e;
       first = rw e (sym (same-picked (eqb (width (entries-kept .forest)) 0)));
     }
 
     -- A list, by its elements.
-    pub list-holds : kind ≡ 9 → {h : ListHead} → listHeadAt doc at ≡ got h
-        → HoldsIn (elements doc reader (h .count) (h .kind) (at + 5) (n + 1)) (keptElements doc reader (begunAt doc room (depth - 1)) (h .count) (h .kind) (at + 5) (n + 1))
-        kind name len (h .kind) (h .count) n (payloadBy doc room (insideAt doc room depth) kind name len at n) (begunAt doc room depth kind name len at n)
+    pub list-holds : kind ≡ 9 → {h : ListHead} → listHeadAt form doc at ≡ got h
+        → HoldsIn (elements form doc reader (h .count) (h .kind) (at + 5) (n + 1)) (keptElements form doc reader (begunAt form doc room (depth - 1)) (h .count) (h .kind) (at + 5) (n + 1))
+        kind name len (h .kind) (h .count) n (payloadBy form doc room (insideAt form doc room depth) kind name len at n) (begunAt form doc room depth kind name len at n)
     list-holds e {h} f = record {
-      whole = λ x g. payload-got doc room (insideAt doc room depth) kind name len at n l (rw e refl)
-          (inside-list doc room kind at (n + 1) depth d e ∙ list-got doc reader at (n + 1) f g
-          ∙ ap (λ c. got (record { forest = x .forest; count = c; kind = h .kind; next = x .next })) (sym (elements-width doc reader (h .count) (h .kind) (at + 5) (n + 1) g)));
-      cut = λ p g. payload-no doc room (insideAt doc room depth) kind name len at n l (rw e refl)
-          (inside-list doc room kind at (n + 1) depth d e ∙ list-no doc reader at (n + 1) f g);
+      whole = λ x g. payload-got form doc room (insideAt form doc room depth) kind name len at n l (rw e refl)
+          (inside-list form doc room kind at (n + 1) depth d e ∙ list-got form doc reader at (n + 1) f g
+          ∙ ap (λ c. got (record { forest = x .forest; count = c; kind = h .kind; next = x .next })) (sym (elements-width form doc reader (h .count) (h .kind) (at + 5) (n + 1) g)));
+      cut = λ p g. payload-no form doc room (insideAt form doc room depth) kind name len at n l (rw e refl)
+          (inside-list form doc room kind at (n + 1) depth d e ∙ list-no form doc reader at (n + 1) f g);
       begun = begun-list-at room kind name len at n depth d e f;
-      first = rw e (kind-elements doc room (depth - 1) (h .count) (h .kind) (at + 5) (n + 1));
+      first = rw e (kind-elements form doc room (depth - 1) (h .count) (h .kind) (at + 5) (n + 1));
     }

@@ -9,6 +9,7 @@ use native.Mathlib.Numerals.{sub-one}
 use lib.ListN.{length}
 use lib.Dec.{ltb, eqb}
 use borrow.Author.Tests.{ltb-true, ltb-false, ne-eqb, not-true, eqb-true, eqb-false}
+use Rattle.form.specs.Form.{Form}
 use Rattle.form.specs.Answer.{Out, got, no, pick, dataEnds, depthLimit, documentLimit}
 use Rattle.form.specs.Spans.{part, over}
 use Rattle.form.specs.Table.{Forest, none, node, size, width, _⊕_, wrote, widthOf, holds}
@@ -55,16 +56,16 @@ single-opened : (kind name len n promised : ℕ) (k : Kept) → Single (opened k
 unfolding width
 single-opened kind name len n promised k = sym (ap (λ b. pick b 0 1) (ne-eqb (suc (length (k .lines))) 0 (λ e. omega arith)))
 
-pub begun-width : (doc : List ℕ) (room depth kind name len at n : ℕ) → Single (begunAt doc room depth kind name len at n)
+pub begun-width : (form : Form) (doc : List ℕ) (room depth kind name len at n : ℕ) → Single (begunAt form doc room depth kind name len at n)
 unfolding begunAt
-begun-width doc room zero kind name len at n = single-nothing
-begun-width doc room (suc depth) kind name len at n = go (eqb kind 9) (eqb kind 10) (listHeadAt doc at)
+begun-width form doc room zero kind name len at n = single-nothing
+begun-width form doc room (suc depth) kind name len at n = go (eqb kind 9) (eqb kind 10) (listHeadAt form doc at)
   where
     list : ListHead → Kept
-    list h = keptElements doc (payloadBy doc room (insideAt doc room depth)) (begunAt doc room depth) (h .count) (h .kind) (at + 5) (n + 1)
+    list h = keptElements form doc (payloadBy form doc room (insideAt form doc room depth)) (begunAt form doc room depth) (h .count) (h .kind) (at + 5) (n + 1)
 
     compound : Kept
-    compound = keptEntries doc (payloadBy doc room (insideAt doc room depth)) (begunAt doc room depth) (suc (length doc)) at (n + 1)
+    compound = keptEntries form doc (payloadBy form doc room (insideAt form doc room depth)) (begunAt form doc room depth) (suc (length doc)) at (n + 1)
 
     go : (a b : Bool) (o : Out ListHead) → Single (elim a [
       | true ↦ elim o [ got h ↦ opened 9 name len n (h .count) (list h) | no m p ↦ nothing ]
@@ -200,65 +201,65 @@ width-some (suc (suc (suc (suc (suc zero))))) h l = omega arith
 width-some (suc (suc (suc (suc (suc (suc zero)))))) h l = omega arith
 width-some (suc (suc (suc (suc (suc (suc (suc kind))))))) h l = absurd (omega arith)
 
-module _ (doc : List ℕ) where
+module _ (form : Form) (doc : List ℕ) where
   -- What holds no records has a byte, so at the document's end it is not whole.
-  leaf-end : (kind at : ℕ) → 0 < kind → length doc ≤ at → leafAt doc kind at ≡ no dataEnds at
+  leaf-end : (kind at : ℕ) → 0 < kind → length doc ≤ at → leafAt form doc kind at ≡ no dataEnds at
   leaf-end kind at h l = go (ltb kind 7) refl
     where
-      wide : (b : Bool) → eqb kind 8 ≡ b → ltb kind 7 ≡ false → leafAt doc kind at ≡ no dataEnds at
-      wide true e f = leaf-string doc kind at (eqb-true kind 8 e) ∙ string-no doc at (number-no doc 2 at (omega arith))
-      wide false e f = leaf-array doc kind at (ltb-false kind 7 f) (eqb-false kind 8 e) ∙ array-no doc (widthOf kind) at (number-no doc 4 at (omega arith))
+      wide : (b : Bool) → eqb kind 8 ≡ b → ltb kind 7 ≡ false → leafAt form doc kind at ≡ no dataEnds at
+      wide true e f = leaf-string form doc kind at (eqb-true kind 8 e) ∙ string-no form doc at (number-no form doc 2 at (omega arith))
+      wide false e f = leaf-array form doc kind at (ltb-false kind 7 f) (eqb-false kind 8 e) ∙ array-no form doc (widthOf kind) at (number-no form doc 4 at (omega arith))
 
-      go : (b : Bool) → ltb kind 7 ≡ b → leafAt doc kind at ≡ no dataEnds at
+      go : (b : Bool) → ltb kind 7 ≡ b → leafAt form doc kind at ≡ no dataEnds at
       go true e =
           let k = ltb-true kind 7 e in
-          leaf-fixed doc kind at k ∙ bytes-no doc (widthOf kind) 0 at (omega (arith, l, width-some kind h k))
+          leaf-fixed form doc kind at k ∙ bytes-no doc (widthOf kind) 0 at (omega (arith, l, width-some kind h k))
       go false e = wide (eqb kind 8) refl e
 
   module _ (room : ℕ) where
     -- No payload of kind 1 or above is whole there.
-    pub at-end : (depth kind name len at n : ℕ) → 0 < kind → length doc ≤ at → OnlyCut (payloadBy doc room (insideAt doc room depth) kind name len at n)
-        → payloadBy doc room (insideAt doc room depth) kind name len at n ≡ no dataEnds at
+    pub at-end : (depth kind name len at n : ℕ) → 0 < kind → length doc ≤ at → OnlyCut (payloadBy form doc room (insideAt form doc room depth) kind name len at n)
+        → payloadBy form doc room (insideAt form doc room depth) kind name len at n ≡ no dataEnds at
     at-end depth kind name len at n h l o = go (holds kind) refl
       where
         there : n < room
-        there = only-room doc room (insideAt doc room depth) kind name len at n o
+        there = only-room form doc room (insideAt form doc room depth) kind name len at n o
 
-        inner : (d : ℕ) → depth ≡ d → holds kind ≡ true → (b : Bool) → eqb kind 9 ≡ b → insideAt doc room depth kind at (n + 1) ≡ no dataEnds at
+        inner : (d : ℕ) → depth ≡ d → holds kind ≡ true → (b : Bool) → eqb kind 9 ≡ b → insideAt form doc room depth kind at (n + 1) ≡ no dataEnds at
         inner zero z e b f =
-            absurd (only-not (payload-no doc room (insideAt doc room depth) kind name len at n there e (inside-deep doc room kind at (n + 1) depth z)) (λ q. omega arith) o)
+            absurd (only-not (payload-no form doc room (insideAt form doc room depth) kind name len at n there e (inside-deep form doc room kind at (n + 1) depth z)) (λ q. omega arith) o)
         inner (suc d) z e true f =
-            inside-list doc room kind at (n + 1) depth (λ q. omega arith) (eqb-true kind 9 f)
-            ∙ list-head-no doc _ at (n + 1) (list-head-end doc at l)
+            inside-list form doc room kind at (n + 1) depth (λ q. omega arith) (eqb-true kind 9 f)
+            ∙ list-head-no form doc _ at (n + 1) (list-head-end form doc at l)
         inner (suc d) z e false f =
-            inside-compound doc room kind at (n + 1) depth (λ q. omega arith) (eqb-false kind 9 f)
-            ∙ compound-no doc _ at (n + 1) (entries-head-no doc _ (suc (length doc)) none at (n + 1) (omega arith) (entry-end doc at l))
+            inside-compound form doc room kind at (n + 1) depth (λ q. omega arith) (eqb-false kind 9 f)
+            ∙ compound-no form doc _ at (n + 1) (entries-head-no form doc _ (suc (length doc)) none at (n + 1) (omega arith) (entry-end form doc at l))
 
-        go : (b : Bool) → holds kind ≡ b → payloadBy doc room (insideAt doc room depth) kind name len at n ≡ no dataEnds at
-        go true e = payload-no doc room (insideAt doc room depth) kind name len at n there e (inner depth refl e (eqb kind 9) refl)
-        go false e = payload-leaf doc room (insideAt doc room depth) kind name len at n there e ∙ leaf-one-no doc kind name len at (leaf-end kind at h l)
+        go : (b : Bool) → holds kind ≡ b → payloadBy form doc room (insideAt form doc room depth) kind name len at n ≡ no dataEnds at
+        go true e = payload-no form doc room (insideAt form doc room depth) kind name len at n there e (inner depth refl e (eqb kind 9) refl)
+        go false e = payload-leaf form doc room (insideAt form doc room depth) kind name len at n there e ∙ leaf-one-no form doc kind name len at (leaf-end kind at h l)
 
 -- ---- one turn of each loop: what is asked of its payload, and what is kept
 
-module _ (doc : List ℕ) (read : Reader) where
-  pub element-only : (kind at n left : ℕ) → 0 < left → OnlyCut (elements doc read left kind at n) → OnlyCut (read kind 0 0 at n)
+module _ (form : Form) (doc : List ℕ) (read : Reader) where
+  pub element-only : (kind at n left : ℕ) → 0 < left → OnlyCut (elements form doc read left kind at n) → OnlyCut (read kind 0 0 at n)
   unfolding elements
   element-only kind at n zero h o = absurd (omega arith)
   element-only kind at n (suc left) h o = only-first (read kind 0 0 at n) _ o
 
   -- The bound on the entries is not reached.
-  pub entries-some : (at n fuel : ℕ) (earlier : Forest) → OnlyCut (entries doc read fuel earlier at n) → 0 < fuel
+  pub entries-some : (at n fuel : ℕ) (earlier : Forest) → OnlyCut (entries form doc read fuel earlier at n) → 0 < fuel
   unfolding entries
   entries-some at n zero earlier o = absurd (let z : _≡_ {A = ℕ} 0 1 = o in omega arith)
   entries-some at n (suc fuel) earlier o = omega arith
 
   -- An entry's name is new, and its payload is accepted or refused with 1 as the entries are.
-  pub entry-only : (at n fuel : ℕ) (earlier : Forest) {kind : ℕ} {s : Span} → entryAt doc at ≡ got (named kind s) → OnlyCut (entries doc read fuel earlier at n)
+  pub entry-only : (at n fuel : ℕ) (earlier : Forest) {kind : ℕ} {s : Span} → entryAt form doc at ≡ got (named kind s) → OnlyCut (entries form doc read fuel earlier at n)
       → (hasName doc (part doc (s .start) (s .size)) earlier ≡ false) × OnlyCut (read kind (s .start) (s .size) (s .next) n)
   unfolding entries
   entry-only at n zero earlier e o = absurd (let z : _≡_ {A = ℕ} 0 1 = o in omega arith)
   entry-only at n (suc fuel) earlier {kind} {s} e o =
-      let f = only-next (entryAt doc at) _ e o in
+      let f = only-next (entryAt form doc at) _ e o in
       let g = only-guard (not (hasName doc (part doc (s .start) (s .size)) earlier)) 6 at _ (λ z. omega arith) f in
       (not-true _ (g .0), only-first (read kind (s .start) (s .size) (s .next) n) _ (g .1))
 
@@ -266,42 +267,42 @@ module _ (doc : List ℕ) (read : Reader) where
     module _ (kind at n : ℕ) where
       pub element-kept : (left : ℕ) {x : One} → 0 < left → read kind 0 0 at n ≡ got x
           → {at′ n′ : ℕ} → at′ ≡ x .next → n′ ≡ n + 1 + size (x .inner)
-          → keptElements doc read begun left kind at n ≡ whole x (keptElements doc read begun (left - 1) kind at′ n′)
+          → keptElements form doc read begun left kind at n ≡ whole x (keptElements form doc read begun (left - 1) kind at′ n′)
       element-kept zero h e p q = absurd (omega arith)
-      element-kept (suc left) {x} h e p q = rw (p, q, sub-one (suc left)) (kept-element doc read begun left kind at n e)
+      element-kept (suc left) {x} h e p q = rw (p, q, sub-one (suc left)) (kept-element form doc read begun left kind at n e)
 
-      pub element-begun : (left : ℕ) {m p : ℕ} → 0 < left → read kind 0 0 at n ≡ no m p → at < length doc → keptElements doc read begun left kind at n ≡ begun kind 0 0 at n
+      pub element-begun : (left : ℕ) {m p : ℕ} → 0 < left → read kind 0 0 at n ≡ no m p → at < length doc → keptElements form doc read begun left kind at n ≡ begun kind 0 0 at n
       element-begun zero h e l = absurd (omega arith)
-      element-begun (suc left) h e l = begun-element doc read begun left kind at n e l
+      element-begun (suc left) h e l = begun-element form doc read begun left kind at n e l
 
-      pub element-none : (left : ℕ) {m p : ℕ} → 0 < left → read kind 0 0 at n ≡ no m p → length doc ≤ at → keptElements doc read begun left kind at n ≡ nothing
+      pub element-none : (left : ℕ) {m p : ℕ} → 0 < left → read kind 0 0 at n ≡ no m p → length doc ≤ at → keptElements form doc read begun left kind at n ≡ nothing
       element-none zero h e l = absurd (omega arith)
-      element-none (suc left) h e l = no-element doc read begun left kind at n e l
+      element-none (suc left) h e l = no-element form doc read begun left kind at n e l
 
     module _ (at n : ℕ) where
-      module _ {kind : ℕ} {s : Span} (e : entryAt doc at ≡ got (named kind s)) where
+      module _ {kind : ℕ} {s : Span} (e : entryAt form doc at ≡ got (named kind s)) where
         pub entry-kept : (fuel : ℕ) {x : One} → 0 < fuel → read kind (s .start) (s .size) (s .next) n ≡ got x
             → {at′ n′ : ℕ} → at′ ≡ x .next → n′ ≡ n + 1 + size (x .inner)
-            → keptEntries doc read begun fuel at n ≡ whole x (keptEntries doc read begun (fuel - 1) at′ n′)
+            → keptEntries form doc read begun fuel at n ≡ whole x (keptEntries form doc read begun (fuel - 1) at′ n′)
         entry-kept zero h f p q = absurd (omega arith)
-        entry-kept (suc fuel) {x} h f p q = rw (p, q, sub-one (suc fuel)) (kept-entry doc read begun fuel at n e f)
+        entry-kept (suc fuel) {x} h f p q = rw (p, q, sub-one (suc fuel)) (kept-entry form doc read begun fuel at n e f)
 
         pub entry-begun : (fuel : ℕ) {m p : ℕ} → 0 < fuel → read kind (s .start) (s .size) (s .next) n ≡ no m p
-            → keptEntries doc read begun fuel at n ≡ begun kind (s .start) (s .size) (s .next) n
+            → keptEntries form doc read begun fuel at n ≡ begun kind (s .start) (s .size) (s .next) n
         entry-begun zero h f = absurd (omega arith)
-        entry-begun (suc fuel) h f = begun-entry doc read begun fuel at n e f
+        entry-begun (suc fuel) h f = begun-entry form doc read begun fuel at n e f
 
-      pub entry-none : (fuel : ℕ) {m p : ℕ} → 0 < fuel → entryAt doc at ≡ no m p → keptEntries doc read begun fuel at n ≡ nothing
+      pub entry-none : (fuel : ℕ) {m p : ℕ} → 0 < fuel → entryAt form doc at ≡ no m p → keptEntries form doc read begun fuel at n ≡ nothing
       entry-none zero h e = absurd (omega arith)
-      entry-none (suc fuel) h e = no-entry doc read begun fuel at n e
+      entry-none (suc fuel) h e = no-entry form doc read begun fuel at n e
 
 -- ---- a payload, where the table is as long as it was
 
 -- What `node` asks.
-pub payload-asked : (doc t ls : List ℕ) (words depth kind name len at above n most : ℕ) → length t ≡ words → length doc ≤ documentLimit → at ≤ length doc → n ≤ roomOf words → above ≤ n
-    → kind ≤ 12 → name < 2 ^ 32 → len < 2 ^ 32 → depth ≤ depthLimit → OnlyCut (readIn doc words depth kind name len at n) → 3 * most ≤ length ls
-    → PayloadAsked doc t depth kind name len at above n ls most
-payload-asked doc t ls words depth kind name len at above n most same d a c u k x y z o f = record {
+pub payload-asked : (form : Form) (doc t ls : List ℕ) (words depth kind name len at above n most : ℕ) → length t ≡ words → length doc ≤ documentLimit → at ≤ length doc → n ≤ roomOf words → above ≤ n
+    → kind ≤ 12 → name < 2 ^ 32 → len < 2 ^ 32 → depth ≤ depthLimit → OnlyCut (readIn form doc words depth kind name len at n) → 3 * most ≤ length ls
+    → PayloadAsked form doc t depth kind name len at above n ls most
+payload-asked form doc t ls words depth kind name len at above n most same d a c u k x y z o f = record {
   named = record {
     ready = record { doc-le = d; at-le = a; cap-le = room-le (length t); fits = room-fits (length t); n-le = rw same c; above-le = u };
     kind-le = k;
@@ -314,15 +315,15 @@ payload-asked doc t ls words depth kind name len at above n most same d a c u k 
 }
 
 -- What `node` leaves, with a table of so many words.
-abbrev pub Pieced : List ℕ → ℕ → ℕ → ℕ → ℕ → ℕ → ℕ → ℕ → ℕ → List ℕ → List ℕ → List ℕ → List ℕ → ℕ → Piece → Type 0
-Pieced doc words depth kind name len at above n t t′ ls ls′ most r =
-    PieceIs doc (roomOf words) (readIn doc words depth kind name len at n) (begunAt doc (roomOf words) depth kind name len at n) (512 - depth) at above n t t′ ls ls′ most r
+abbrev pub Pieced : (form : Form) → List ℕ → ℕ → ℕ → ℕ → ℕ → ℕ → ℕ → ℕ → ℕ → List ℕ → List ℕ → List ℕ → List ℕ → ℕ → Piece → Type 0
+Pieced form doc words depth kind name len at above n t t′ ls ls′ most r =
+    PieceIs doc (roomOf words) (readIn form doc words depth kind name len at n) (begunAt form doc (roomOf words) depth kind name len at n) (512 - depth) at above n t t′ ls ls′ most r
 
-module _ (r : Piece) (doc : List ℕ) (words words₀ depth kind name len at above n : ℕ) (t t′ ls ls′ : List ℕ) (most : ℕ) (same : words ≡ words₀)
-    (s : Pieced doc words depth kind name len at above n t t′ ls ls′ most r) where
-  pub piece-whole : (at′ n′ : ℕ) → r ≡ Piece.Whole at′ n′ → Next doc (roomOf words₀) (readIn doc words₀ depth kind name len at n) at′ n′ at above n t t′ × (ls′ ≡ ls)
+module _ (form : Form) (r : Piece) (doc : List ℕ) (words words₀ depth kind name len at above n : ℕ) (t t′ ls ls′ : List ℕ) (most : ℕ) (same : words ≡ words₀)
+    (s : Pieced form doc words depth kind name len at above n t t′ ls ls′ most r) where
+  pub piece-whole : (at′ n′ : ℕ) → r ≡ Piece.Whole at′ n′ → Next doc (roomOf words₀) (readIn form doc words₀ depth kind name len at n) at′ n′ at above n t t′ × (ls′ ≡ ls)
   piece-whole at′ n′ e = rw (e, same) at s
 
   pub piece-cut : (n′ m : ℕ) → r ≡ Piece.Cut n′ m
-      → IsCut (readIn doc words₀ depth kind name len at n) × Shut (roomOf words₀) (begunAt doc (roomOf words₀) depth kind name len at n) n′ m (512 - depth) above n t t′ ls ls′ most
+      → IsCut (readIn form doc words₀ depth kind name len at n) × Shut (roomOf words₀) (begunAt form doc (roomOf words₀) depth kind name len at n) n′ m (512 - depth) above n t t′ ls ls′ most
   piece-cut n′ m e = rw (e, same) at s

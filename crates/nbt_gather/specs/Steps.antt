@@ -5,6 +5,7 @@ use mathlib.Core.Path.{_≡_}
 use mathlib.Core.List.{List, [], _∷_}
 use lib.ListN.{length}
 use lib.Dec.{ltb, eqb}
+use Rattle.form.specs.Form.{Form}
 use Rattle.form.specs.Answer.{Out, got, no, pick, dataEnds, depthLimit}
 use Rattle.form.specs.Spans.{over}
 use Rattle.form.specs.Table.{none, size, width, words, wrote}
@@ -26,45 +27,45 @@ abbrev pub IsCut : {A : Type 0} → Out A → Type 0
 IsCut o = (p : ℕ) × (o ≡ no dataEnds p)
 
 -- The reader of a payload, with room for the records of a table of so many words, where so many containers may still stand within each other.
-abbrev pub readIn : List ℕ → ℕ → ℕ → Reader
-readIn doc words depth = payloadBy doc (roomOf words) (insideAt doc (roomOf words) depth)
+abbrev pub readIn : Form → List ℕ → ℕ → ℕ → Reader
+readIn form doc words depth = payloadBy form doc (roomOf words) (insideAt form doc (roomOf words) depth)
 
 -- What is read of a list's elements and of a compound's entries, and what is kept of them.
-abbrev pub elementsIn : List ℕ → ℕ → ℕ → ℕ → ℕ → ℕ → ℕ → Out Run
-elementsIn doc words depth count kind at n = elements doc (readIn doc words depth) count kind at n
+abbrev pub elementsIn : Form → List ℕ → ℕ → ℕ → ℕ → ℕ → ℕ → ℕ → Out Run
+elementsIn form doc words depth count kind at n = elements form doc (readIn form doc words depth) count kind at n
 
-abbrev pub entriesIn : List ℕ → ℕ → ℕ → ℕ → ℕ → Out Run
-entriesIn doc words depth at n = entries doc (readIn doc words depth) (suc (length doc)) none at n
+abbrev pub entriesIn : Form → List ℕ → ℕ → ℕ → ℕ → ℕ → Out Run
+entriesIn form doc words depth at n = entries form doc (readIn form doc words depth) (suc (length doc)) none at n
 
-abbrev pub elementsKept : List ℕ → ℕ → ℕ → ℕ → ℕ → ℕ → ℕ → Kept
-elementsKept doc words depth count kind at n = keptElements doc (readIn doc words depth) (begunAt doc (roomOf words) depth) count kind at n
+abbrev pub elementsKept : Form → List ℕ → ℕ → ℕ → ℕ → ℕ → ℕ → ℕ → Kept
+elementsKept form doc words depth count kind at n = keptElements form doc (readIn form doc words depth) (begunAt form doc (roomOf words) depth) count kind at n
 
-abbrev pub entriesKept : List ℕ → ℕ → ℕ → ℕ → ℕ → Kept
-entriesKept doc words depth at n = keptEntries doc (readIn doc words depth) (begunAt doc (roomOf words) depth) (suc (length doc)) at n
+abbrev pub entriesKept : Form → List ℕ → ℕ → ℕ → ℕ → ℕ → Kept
+entriesKept form doc words depth at n = keptEntries form doc (readIn form doc words depth) (begunAt form doc (roomOf words) depth) (suc (length doc)) at n
 
 -- ---- what the functions require
 
 -- Of a payload.
-pub record PayloadAsked (doc t : List ℕ) (depth kind name len at above n : ℕ) (ls : List ℕ) (most : ℕ) : Type 0 where
+pub record PayloadAsked (form : Form) (doc t : List ℕ) (depth kind name len at above n : ℕ) (ls : List ℕ) (most : ℕ) : Type 0 where
   pub named : Named doc t (roomOf (length t)) at above n kind name len
   pub deep : depth ≤ depthLimit
-  pub only : OnlyCut (readIn doc (length t) depth kind name len at n)
+  pub only : OnlyCut (readIn form doc (length t) depth kind name len at n)
   pub lines-fit : 3 * most ≤ length ls
 
 -- Of the elements of the list that is record n: their kind is one that has bytes.
-pub record ElementsAsked (doc t : List ℕ) (depth count kind at n : ℕ) (ls : List ℕ) (most : ℕ) : Type 0 where
+pub record ElementsAsked (form : Form) (doc t : List ℕ) (depth count kind at n : ℕ) (ls : List ℕ) (most : ℕ) : Type 0 where
   pub ready : Ready doc t (roomOf (length t)) at n (n + 1)
   pub deep : depth < depthLimit
   pub kind-le : kind ≤ 12
   pub kind-some : 0 < count → 0 < kind
-  pub only : OnlyCut (elementsIn doc (length t) depth count kind at (n + 1))
+  pub only : OnlyCut (elementsIn form doc (length t) depth count kind at (n + 1))
   pub lines-fit : 3 * most ≤ length ls
 
 -- Of the entries of the compound that is record n.
-pub record EntriesAsked (doc t : List ℕ) (depth at n : ℕ) (ls : List ℕ) (most : ℕ) : Type 0 where
+pub record EntriesAsked (form : Form) (doc t : List ℕ) (depth at n : ℕ) (ls : List ℕ) (most : ℕ) : Type 0 where
   pub ready : Ready doc t (roomOf (length t)) at n (n + 1)
   pub deep : depth < depthLimit
-  pub only : OnlyCut (entriesIn doc (length t) depth at (n + 1))
+  pub only : OnlyCut (entriesIn form doc (length t) depth at (n + 1))
   pub lines-fit : 3 * most ≤ length ls
 
 -- The next record behind what was gathered side by side, how many stand there, and how many containers are open.
@@ -122,19 +123,19 @@ SideIs doc room o k level at above n t t′ ls ls′ most (Side.Whole at′ n′
 SideIs doc room o k level at above n t t′ ls ls′ most (Side.Cut n′ count m) = IsCut o × Shut room k n′ m level above n t t′ ls ls′ most × (count ≡ width (k .forest))
 
 -- A payload of a kind at a place, where so many containers may still stand within each other; a list's elements; a compound's entries.
-abbrev pub PayloadIs : List ℕ → ℕ → ℕ → ℕ → ℕ → ℕ → ℕ → ℕ → List ℕ → List ℕ → List ℕ → List ℕ → ℕ → Piece → Type 0
-PayloadIs doc depth kind name len at above n t t′ ls ls′ most r =
-    PieceIs doc (roomOf (length t)) (readIn doc (length t) depth kind name len at n) (begunAt doc (roomOf (length t)) depth kind name len at n)
+abbrev pub PayloadIs : Form → List ℕ → ℕ → ℕ → ℕ → ℕ → ℕ → ℕ → ℕ → List ℕ → List ℕ → List ℕ → List ℕ → ℕ → Piece → Type 0
+PayloadIs form doc depth kind name len at above n t t′ ls ls′ most r =
+    PieceIs doc (roomOf (length t)) (readIn form doc (length t) depth kind name len at n) (begunAt form doc (roomOf (length t)) depth kind name len at n)
     (512 - depth) at above n t t′ ls ls′ most r
 
-abbrev pub ElementsAre : List ℕ → ℕ → ℕ → ℕ → ℕ → ℕ → List ℕ → List ℕ → List ℕ → List ℕ → ℕ → Side → Type 0
-ElementsAre doc depth count kind at n t t′ ls ls′ most r =
-    SideIs doc (roomOf (length t)) (elementsIn doc (length t) depth count kind at (n + 1)) (elementsKept doc (length t) depth count kind at (n + 1))
+abbrev pub ElementsAre : Form → List ℕ → ℕ → ℕ → ℕ → ℕ → ℕ → List ℕ → List ℕ → List ℕ → List ℕ → ℕ → Side → Type 0
+ElementsAre form doc depth count kind at n t t′ ls ls′ most r =
+    SideIs doc (roomOf (length t)) (elementsIn form doc (length t) depth count kind at (n + 1)) (elementsKept form doc (length t) depth count kind at (n + 1))
     (512 - depth) at n (n + 1) t t′ ls ls′ most r
 
-abbrev pub EntriesAre : List ℕ → ℕ → ℕ → ℕ → List ℕ → List ℕ → List ℕ → List ℕ → ℕ → Side → Type 0
-EntriesAre doc depth at n t t′ ls ls′ most r =
-    SideIs doc (roomOf (length t)) (entriesIn doc (length t) depth at (n + 1)) (entriesKept doc (length t) depth at (n + 1))
+abbrev pub EntriesAre : Form → List ℕ → ℕ → ℕ → ℕ → List ℕ → List ℕ → List ℕ → List ℕ → ℕ → Side → Type 0
+EntriesAre form doc depth at n t t′ ls ls′ most r =
+    SideIs doc (roomOf (length t)) (entriesIn form doc (length t) depth at (n + 1)) (entriesKept form doc (length t) depth at (n + 1))
     (512 - depth) at n (n + 1) t t′ ls ls′ most r
 
 -- The words of a container's record.
@@ -155,9 +156,9 @@ HeldIs kind name len inner promised level above n t t′ ls ls′ most (Side.Cut
 
 -- What is kept of a document that a read into a table of words t refuses with 1: the records from 0 on, and the lines from 0 on if they are
 -- `most` at the most; or its root's id or name is not whole, and nothing is changed.
-pub record KeptIn (doc t t′ ls ls′ : List ℕ) (most records lines : ℕ) : Type 0 where
+pub record KeptIn (form : Form) (doc t t′ ls ls′ : List ℕ) (most records lines : ℕ) : Type 0 where
   pub k : Kept
-  pub is : keptOf doc (roomOf (length t)) ≡ got k
+  pub is : keptOf form doc (roomOf (length t)) ≡ got k
   pub records-are : records ≡ size (k .forest)
   pub lines-are : lines ≡ length (k .lines)
   pub table : t′ ≡ wrote t 0 0 (k .forest)
@@ -166,6 +167,6 @@ pub record KeptIn (doc t t′ ls ls′ : List ℕ) (most records lines : ℕ) : 
   pub fits : 9 * records ≤ length t
   pub small : lines ≤ depthLimit
 
-abbrev pub GatheredIs : List ℕ → List ℕ → List ℕ → List ℕ → List ℕ → ℕ → Gathered → Type 0
-GatheredIs doc t t′ ls ls′ most (Gathered.Kept records lines) = KeptIn doc t t′ ls ls′ most records lines
-GatheredIs doc t t′ ls ls′ most Gathered.NoRoot = ((m p : ℕ) × (stringAt doc 1 ≡ no m p)) × (t′ ≡ t) × (ls′ ≡ ls)
+abbrev pub GatheredIs : Form → List ℕ → List ℕ → List ℕ → List ℕ → List ℕ → ℕ → Gathered → Type 0
+GatheredIs form doc t t′ ls ls′ most (Gathered.Kept records lines) = KeptIn form doc t t′ ls ls′ most records lines
+GatheredIs form doc t t′ ls ls′ most Gathered.NoRoot = ((m p : ℕ) × (stringAt form doc 1 ≡ no m p)) × (t′ ≡ t) × (ls′ ≡ ls)

@@ -8,6 +8,7 @@ ghost use Prim.Native.Nat.{_+_, _-_, _*_, _≤_, _<_, _^_};
 ghost use lib.ListN.{length};
 ghost use lib.Dec.{eqb};
 ghost use Rattle.form.specs.Answer.{pick};
+ghost use Rattle.form.specs.Form.{Form, formNo};
 ghost use Rattle.form.specs.Spans.{over};
 ghost use Rattle.form.specs.Reading.{leafOne, roomOf, reading};
 ghost use Rattle.nbt_reader.specs.Steps.{Named};
@@ -50,7 +51,7 @@ fn gather_fixed(
     ix: usize,
 ) -> Piece
     requires { ⌜ (Named (now doc) (now table) (roomOf (length (now table))) at up ix kind name len) × (ix < roomOf (length (now table))) × (kind < 7) ⌝ }
-    ensures { λ r. ⌜ LeafIs (now (doc .entry)) (roomOf (length (now (table .entry)))) (leafOne (now (doc .entry)) kind name len at) at up ix (now (table .entry)) (now (table .exit)) r ⌝ }
+    ensures { λ r. ⌜ ((f : Form) → LeafIs (now (doc .entry)) (roomOf (length (now (table .entry)))) (leafOne f (now (doc .entry)) kind name len at) at up ix (now (table .entry)) (now (table .exit)) r) ⌝ }
 {
     let width = nbt_fields::width_of(kind);
     if doc.len() - at < width {
@@ -74,11 +75,12 @@ fn gather_leaf(
     table: &mut [u32],
     up: usize,
     ix: usize,
+    form: u32,
 ) -> Piece
     requires { ⌜ (Named (now doc) (now table) (roomOf (length (now table))) at up ix kind name len) × (ix < roomOf (length (now table))) × (6 < kind) ⌝ }
-    ensures { λ r. ⌜ LeafIs (now (doc .entry)) (roomOf (length (now (table .entry)))) (leafOne (now (doc .entry)) kind name len at) at up ix (now (table .entry)) (now (table .exit)) r ⌝ }
+    ensures { λ r. ⌜ LeafIs (now (doc .entry)) (roomOf (length (now (table .entry)))) (leafOne (formNo form) (now (doc .entry)) kind name len at) at up ix (now (table .entry)) (now (table .exit)) r ⌝ }
 {
-    match nbt_fields::leaf_at(doc, kind, at) {
+    match nbt_fields::leaf_at(doc, kind, at, form) {
         Part::No { .. } => Piece::Cut(ix, 0),
         Part::Is {
             start,
@@ -170,13 +172,27 @@ fn gather_tag_body(
     ix: usize,
     lines: &mut [u32],
     most: usize,
+    form: u32,
 ) -> Piece
-    requires { ⌜ PayloadAsked (now doc) (now table) depth kind name len at up ix (now lines) most ⌝ }
-    ensures { λ r. ⌜ PayloadIs (now (doc .entry)) depth kind name len at up ix (now (table .entry)) (now (table .exit)) (now (lines .entry)) (now (lines .exit)) most r ⌝ }
+    requires { ⌜ PayloadAsked (formNo form) (now doc) (now table) depth kind name len at up ix (now lines) most ⌝ }
+    ensures { λ r. ⌜ PayloadIs (formNo form) (now (doc .entry)) depth kind name len at up ix (now (table .entry)) (now (table .exit)) (now (lines .entry)) (now (lines .exit)) most r ⌝ }
 {
     match kind {
         kinds::END..=kinds::DOUBLE => gather_fixed(doc, kind, name, len, at, table, up, ix),
-        _ => gather_larger_body(doc, kind, name, len, at, depth, table, up, ix, lines, most),
+        _ => gather_larger_body(
+            doc,
+            kind,
+            name,
+            len,
+            at,
+            depth,
+            table,
+            up,
+            ix,
+            lines,
+            most,
+            form,
+        ),
     }
 }
 
@@ -193,24 +209,36 @@ fn gather_larger_body(
     ix: usize,
     lines: &mut [u32],
     most: usize,
+    form: u32,
 ) -> Piece
-    requires { ⌜ (PayloadAsked (now doc) (now table) depth kind name len at up ix (now lines) most) × (6 < kind) ⌝ }
-    ensures { λ r. ⌜ PayloadIs (now (doc .entry)) depth kind name len at up ix (now (table .entry)) (now (table .exit)) (now (lines .entry)) (now (lines .exit)) most r ⌝ }
+    requires { ⌜ (PayloadAsked (formNo form) (now doc) (now table) depth kind name len at up ix (now lines) most) × (6 < kind) ⌝ }
+    ensures { λ r. ⌜ PayloadIs (formNo form) (now (doc .entry)) depth kind name len at up ix (now (table .entry)) (now (table .exit)) (now (lines .entry)) (now (lines .exit)) most r ⌝ }
 {
     let level = form::DEPTH - depth;
     match kind {
-        kinds::LIST => match nbt_fields::list_head(doc, at) {
+        kinds::LIST => match nbt_fields::list_head(doc, at, form) {
             ListHead::No { .. } => Piece::Cut(ix, 0),
             ListHead::Is { kind: of, count: n } => {
-                let s = gather_elements(doc, of, n, at + 5, depth - 1, table, ix, lines, most);
+                let s = gather_elements(
+                    doc,
+                    of,
+                    n,
+                    at + 5,
+                    depth - 1,
+                    table,
+                    ix,
+                    lines,
+                    most,
+                    form,
+                );
                 held(kind, name, len, of, n, s, level, table, up, ix, lines, most)
             }
         },
         kinds::COMPOUND => {
-            let s = gather_compound(doc, at, depth - 1, table, ix, lines, most);
+            let s = gather_compound(doc, at, depth - 1, table, ix, lines, most, form);
             held(kind, name, len, 0, 0, s, level, table, up, ix, lines, most)
         }
-        _ => gather_leaf(doc, kind, name, len, at, table, up, ix),
+        _ => gather_leaf(doc, kind, name, len, at, table, up, ix, form),
     }
 }
 
@@ -225,9 +253,10 @@ fn gather_elements(
     n: usize,
     lines: &mut [u32],
     most: usize,
+    form: u32,
 ) -> Side
-    requires { ⌜ ElementsAsked (now doc) (now table) depth count kind at n (now lines) most ⌝ }
-    ensures { λ r. ⌜ ElementsAre (now (doc .entry)) depth count kind at n (now (table .entry)) (now (table .exit)) (now (lines .entry)) (now (lines .exit)) most r ⌝ }
+    requires { ⌜ ElementsAsked (formNo form) (now doc) (now table) depth count kind at n (now lines) most ⌝ }
+    ensures { λ r. ⌜ ElementsAre (formNo form) (now (doc .entry)) depth count kind at n (now (table .entry)) (now (table .exit)) (now (lines .entry)) (now (lines .exit)) most r ⌝ }
 {
     let mut here = at;
     let mut next = n + 1;
@@ -236,7 +265,20 @@ fn gather_elements(
         if doc.len() <= here {
             return Side::Cut(next, done, 0);
         }
-        match gather_tag_body(doc, kind, 0, 0, here, depth, table, n, next, lines, most) {
+        match gather_tag_body(
+            doc,
+            kind,
+            0,
+            0,
+            here,
+            depth,
+            table,
+            n,
+            next,
+            lines,
+            most,
+            form,
+        ) {
             Piece::Cut(end, open) => return Side::Cut(end, with_open(done, open), open),
             Piece::Whole(a, i) => {
                 here = a;
@@ -257,23 +299,36 @@ fn gather_compound(
     n: usize,
     lines: &mut [u32],
     most: usize,
+    form: u32,
 ) -> Side
-    requires { ⌜ EntriesAsked (now doc) (now table) depth at n (now lines) most ⌝ }
-    ensures { λ r. ⌜ EntriesAre (now (doc .entry)) depth at n (now (table .entry)) (now (table .exit)) (now (lines .entry)) (now (lines .exit)) most r ⌝ }
+    requires { ⌜ EntriesAsked (formNo form) (now doc) (now table) depth at n (now lines) most ⌝ }
+    ensures { λ r. ⌜ EntriesAre (formNo form) (now (doc .entry)) depth at n (now (table .entry)) (now (table .exit)) (now (lines .entry)) (now (lines .exit)) most r ⌝ }
 {
     let mut here = at;
     let mut ix = n + 1;
     let mut count: usize = 0;
     loop {
-        match nbt_fields::entry_at(doc, here) {
+        match nbt_fields::entry_at(doc, here, form) {
             Entry::No { .. } => return Side::Cut(ix, count, 0),
             Entry::End => return Side::Whole(here + 1, ix, count),
             Entry::Named {
                 kind,
                 start: name,
                 len,
-                next: at,
-            } => match gather_tag_body(doc, kind, name, len, at, depth, table, n, ix, lines, most) {
+            } => match gather_tag_body(
+                doc,
+                kind,
+                name,
+                len,
+                name + len,
+                depth,
+                table,
+                n,
+                ix,
+                lines,
+                most,
+                form,
+            ) {
                 Piece::Cut(end, open) => return Side::Cut(end, with_open(count, open), open),
                 Piece::Whole(a, i) => {
                     here = a;
@@ -286,14 +341,14 @@ fn gather_compound(
 }
 
 // What is kept of a document that is refused with 1: its records in the table and, if they are `most` at the most, its lines in the list.
-pub fn gather(doc: &[u8], table: &mut [u32], lines: &mut [u32], most: usize) -> Gathered
-    requires { ⌜ (IsCut (reading (now doc) (now table))) × (3 * most ≤ length (now lines)) ⌝ }
-    ensures { λ r. ⌜ GatheredIs (now (doc .entry)) (now (table .entry)) (now (table .exit)) (now (lines .entry)) (now (lines .exit)) most r ⌝ }
+pub fn gather(doc: &[u8], table: &mut [u32], lines: &mut [u32], most: usize, form: u32) -> Gathered
+    requires { ⌜ (IsCut (reading (formNo form) (now doc) (now table))) × (3 * most ≤ length (now lines)) ⌝ }
+    ensures { λ r. ⌜ GatheredIs (formNo form) (now (doc .entry)) (now (table .entry)) (now (table .exit)) (now (lines .entry)) (now (lines .exit)) most r ⌝ }
 {
     if doc.len() == 0 {
         return Gathered::NoRoot;
     }
-    match nbt_fields::string_at(doc, 1) {
+    match nbt_fields::string_at(doc, 1, form) {
         Part::No { .. } => Gathered::NoRoot,
         Part::Is {
             start,
@@ -312,6 +367,7 @@ pub fn gather(doc: &[u8], table: &mut [u32], lines: &mut [u32], most: usize) -> 
             0,
             lines,
             most,
+            form,
         ) {
             Piece::Whole(_, _) => Gathered::NoRoot,
             Piece::Cut(ix, open) => Gathered::Kept {

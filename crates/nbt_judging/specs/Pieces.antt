@@ -5,8 +5,9 @@ use Prim.Native.Nat.{ℕ, _+_, _-_}
 use mathlib.Core.List.{List, [], _++_}
 use mathlib.Core.Bool.{Bool, true, false, not, _||_}
 use lib.Dec.{ltb, eqb}
+use Rattle.form.specs.Form.{Form}
 use Rattle.form.specs.Answer.{Out, guard, _>>_, nameTwice, tooDeep, mixedList}
-use Rattle.form.specs.Numbers.{bytesOf}
+use Rattle.form.specs.Numbers.{bytesIn, bytesOf}
 use Rattle.form.specs.Spans.{part}
 use Rattle.form.specs.Table.{Head, Forest, none, node, holds}
 use Rattle.form.specs.Writing.{stringFine, payloadFine, judged}
@@ -34,51 +35,51 @@ isAt (Repeat.At r) i = eqb r i
 isAt Repeat.Nothing i = false
 
 -- What stands before the bytes of a payload: a string's length, an array's count.
-unfoldable pub lengthBytes : Head → List ℕ
-lengthBytes h = elim (eqb (h .kind) 8) [
-  | true ↦ bytesOf 2 (h .size)
-  | false ↦ elim (ltb 6 (h .kind)) [ true ↦ bytesOf 4 (h .count) | false ↦ [] ]
+unfoldable pub lengthBytes : Form → Head → List ℕ
+lengthBytes form h = elim (eqb (h .kind) 8) [
+  | true ↦ bytesIn (form .order) 2 (h .size)
+  | false ↦ elim (ltb 6 (h .kind)) [ true ↦ bytesIn (form .order) 4 (h .count) | false ↦ [] ]
 ]
 
 -- A list's id and count.
-unfoldable pub listBytes : Head → List ℕ
-listBytes h = bytesOf 1 (h .list-kind) ++ bytesOf 4 (h .count)
+unfoldable pub listBytes : Form → Head → List ℕ
+listBytes form h = bytesOf 1 (h .list-kind) ++ bytesIn (form .order) 4 (h .count)
 
-module _ (doc : List ℕ) where
+module _ (form : Form) (doc : List ℕ) where
   -- What comes after a record's name: depth (7), kind (11), string payload (12, 4).
   unfoldable pub restFine : ℕ → Bool → ℕ → ℕ → Head → Out (Unit {0})
   restFine left list k n h = do
     guard (not (deep (h .kind) left)) tooDeep n
     guard (not (mixed list (h .kind) k)) mixedList n
-    payloadFine doc h n
+    payloadFine form doc h n
 
   -- A record by itself, `twice` being whether an earlier one beside it has its name.
   unfoldable pub ownFine : ℕ → Bool → ℕ → Bool → ℕ → Head → Out (Unit {0})
   ownFine left list k twice n h = do
-    stringFine doc (h .name) (h .name-length) n
+    stringFine form doc (h .name) (h .name-length) n
     guard (not twice) nameTwice n
     restFine left list k n h
 
   -- A record and those in it.
   unfoldable pub oneJudged : ℕ → Bool → ℕ → Bool → ℕ → Head → Forest → Out (Unit {0})
   oneJudged left list k twice n h inner =
-      ownFine left list k twice n h >> judged doc (left - 1) (eqb (h .kind) 9) (h .list-kind) none (n + 1) inner
+      ownFine left list k twice n h >> judged form doc (left - 1) (eqb (h .kind) 9) (h .list-kind) none (n + 1) inner
 
   -- ---- the bytes of a record
 
   -- What stands before the payload: an entry's id and name; nothing of an element of a list.
   unfoldable pub nameBytes : Bool → Head → List ℕ
   nameBytes true h = []
-  nameBytes false h = bytesOf 1 (h .kind) ++ (bytesOf 2 (h .name-length) ++ part doc (h .name) (h .name-length))
+  nameBytes false h = bytesOf 1 (h .kind) ++ (bytesIn (form .order) 2 (h .name-length) ++ part doc (h .name) (h .name-length))
 
   -- The payload of what holds no records.
   unfoldable pub leafBytes : Head → List ℕ
-  leafBytes h = lengthBytes h ++ part doc (h .start) (h .size)
+  leafBytes h = lengthBytes form h ++ part doc (h .start) (h .size)
 
   -- A payload; bs are the bytes of the records in it: a list's id and count come before them, a compound's end byte after.
   unfoldable pub bodyBytes : Head → List ℕ → List ℕ
   bodyBytes h bs = elim (eqb (h .kind) 9) [
-    | true ↦ listBytes h ++ bs
+    | true ↦ listBytes form h ++ bs
     | false ↦ elim (eqb (h .kind) 10) [ true ↦ bs ++ bytesOf 1 0 | false ↦ leafBytes h ]
   ]
 

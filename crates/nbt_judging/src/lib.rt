@@ -4,6 +4,7 @@ ghost use mathlib.Core.Path.{_≡_};
 ghost use mathlib.Core.Bool.{false};
 ghost use Prim.Native.Nat.{_+_, _*_, _≤_};
 ghost use lib.ListN.{length};
+ghost use Rattle.form.specs.Form.{formNo};
 ghost use Rattle.form.specs.Table.{word as wordOf, headOf};
 ghost use Rattle.form.specs.Writing.{stringFine, payloadFine};
 ghost use Rattle.nbt_siblings.specs.Lists.{Family};
@@ -53,9 +54,9 @@ fn is_at(found: Repeat, i: usize) -> bool
 }
 
 // A name or a string payload of record n: its length fits a u16 (12), and it is well formed (4).
-fn string_fine(doc: &[u8], start: usize, size: usize, n: usize) -> Fine
+fn string_fine(doc: &[u8], start: usize, size: usize, n: usize, form: u32) -> Fine
     requires { ⌜ start + size ≤ length (now doc) ⌝ }
-    ensures { λ r. ⌜ fineOut r ≡ stringFine (now (doc .entry)) start size n ⌝ }
+    ensures { λ r. ⌜ fineOut r ≡ stringFine (formNo form) (now (doc .entry)) start size n ⌝ }
 {
     if form::STRING < size {
         return Fine::No {
@@ -64,7 +65,7 @@ fn string_fine(doc: &[u8], start: usize, size: usize, n: usize) -> Fine
         };
     }
     let end = start + size;
-    if mutf8::is_well_formed(&doc[start..end]) {
+    if mutf8::is_well_formed(&doc[start..end], form) {
         return Fine::Yes;
     }
     Fine::No {
@@ -74,23 +75,31 @@ fn string_fine(doc: &[u8], start: usize, size: usize, n: usize) -> Fine
 }
 
 // The string payload of a record, if it has one.
-fn payload_fine(doc: &[u8], table: &[u32], n: usize) -> Fine
+fn payload_fine(doc: &[u8], table: &[u32], n: usize, form: u32) -> Fine
     requires { ⌜ Placed (now doc) (now table) n ⌝ }
-    ensures { λ r. ⌜ fineOut r ≡ payloadFine (now (doc .entry)) (headOf (now (table .entry)) n) n ⌝ }
+    ensures { λ r. ⌜ fineOut r ≡ payloadFine (formNo form) (now (doc .entry)) (headOf (now (table .entry)) n) n ⌝ }
 {
     match table::word(table, n, table::KIND) {
         kinds::STRING => {
             let start = table::word(table, n, table::START);
-            string_fine(doc, start, table::word(table, n, table::LENGTH), n)
+            string_fine(doc, start, table::word(table, n, table::LENGTH), n, form)
         }
         _ => Fine::Yes,
     }
 }
 
 // What comes after a record's name: depth (7), kind (11), string payload (12, 4).
-fn rest_fine(doc: &[u8], table: &[u32], n: usize, left: usize, list: bool, k: usize) -> Fine
+fn rest_fine(
+    doc: &[u8],
+    table: &[u32],
+    n: usize,
+    left: usize,
+    list: bool,
+    k: usize,
+    form: u32,
+) -> Fine
     requires { ⌜ Placed (now doc) (now table) n ⌝ }
-    ensures { λ r. ⌜ fineOut r ≡ restFine (now (doc .entry)) left list k n (headOf (now (table .entry)) n) ⌝ }
+    ensures { λ r. ⌜ fineOut r ≡ restFine (formNo form) (now (doc .entry)) left list k n (headOf (now (table .entry)) n) ⌝ }
 {
     let kind = table::word(table, n, table::KIND);
     if deep(kind, left) {
@@ -105,7 +114,7 @@ fn rest_fine(doc: &[u8], table: &[u32], n: usize, left: usize, list: bool, k: us
             place: n,
         };
     }
-    payload_fine(doc, table, n)
+    payload_fine(doc, table, n, form)
 }
 
 // A record by itself, in the order of rule 8: name (12, 4, 6), depth (7), kind (11), string payload (12, 4).
@@ -117,12 +126,19 @@ fn own_fine(
     list: bool,
     k: usize,
     twice: bool,
+    form: u32,
 ) -> Fine
     requires { ⌜ Placed (now doc) (now table) n ⌝ }
-    ensures { λ r. ⌜ fineOut r ≡ ownFine (now (doc .entry)) left list k twice n (headOf (now (table .entry)) n) ⌝ }
+    ensures { λ r. ⌜ fineOut r ≡ ownFine (formNo form) (now (doc .entry)) left list k twice n (headOf (now (table .entry)) n) ⌝ }
 {
     let start = table::word(table, n, table::NAME);
-    match string_fine(doc, start, table::word(table, n, table::NAME_LENGTH), n) {
+    match string_fine(
+        doc,
+        start,
+        table::word(table, n, table::NAME_LENGTH),
+        n,
+        form,
+    ) {
         Fine::No { number, place } => Fine::No { number, place },
         Fine::Yes => {
             if twice {
@@ -131,7 +147,7 @@ fn own_fine(
                     place: n,
                 };
             }
-            rest_fine(doc, table, n, left, list, k)
+            rest_fine(doc, table, n, left, list, k, form)
         }
     }
 }
@@ -183,9 +199,10 @@ pub fn judged(
     left: usize,
     list: bool,
     k: usize,
+    form: u32,
 ) -> Size
     requires { ⌜ Some (now doc) (now table) list n end ⌝ }
-    ensures { λ r. ⌜ JudgedIs (now (doc .entry)) (now (table .entry)) left list k n end r (now (table .exit)) ⌝ }
+    ensures { λ r. ⌜ JudgedIs (formNo form) (now (doc .entry)) (now (table .entry)) left list k n end r (now (table .exit)) ⌝ }
 {
     let repeat = first_twice(doc, table, n, end, list);
     let mut i = n;
@@ -193,7 +210,7 @@ pub fn judged(
     while i < end {
         let next = table::word(table, i, table::END);
         let twice = is_at(repeat, i);
-        match one_judged(doc, table, i, next, left, list, k, twice) {
+        match one_judged(doc, table, i, next, left, list, k, twice, form) {
             Size::No { number, place } => return Size::No { number, place },
             Size::Is(size) => {
                 total += size;
@@ -214,11 +231,12 @@ fn one_judged(
     list: bool,
     k: usize,
     twice: bool,
+    form: u32,
 ) -> Size
     requires { ⌜ One (now doc) (now table) list n end ⌝ }
-    ensures { λ r. ⌜ OneJudgedIs (now (doc .entry)) (now (table .entry)) left list k twice n end r (now (table .exit)) ⌝ }
+    ensures { λ r. ⌜ OneJudgedIs (formNo form) (now (doc .entry)) (now (table .entry)) left list k twice n end r (now (table .exit)) ⌝ }
 {
-    match own_fine(doc, table, n, left, list, k, twice) {
+    match own_fine(doc, table, n, left, list, k, twice, form) {
         Fine::No { number, place } => Size::No { number, place },
         Fine::Yes => {
             let own = own_size(table, n, list);
@@ -227,7 +245,7 @@ fn one_judged(
             }
             let elements = table::word(table, n, table::KIND) == kinds::LIST;
             let inner = table::word(table, n, table::LIST_KIND);
-            match judged(doc, table, n + 1, end, left - 1, elements, inner) {
+            match judged(doc, table, n + 1, end, left - 1, elements, inner, form) {
                 Size::No { number, place } => Size::No { number, place },
                 Size::Is(size) => Size::Is(own + size),
             }

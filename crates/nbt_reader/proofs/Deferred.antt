@@ -5,6 +5,7 @@ use mathlib.Core.Bool.{Bool, true, false, not}
 use mathlib.Core.List.{List}
 use mathlib.Core.Path.{_≡_, refl, sym, ap, _∙_}
 use native.Mathlib.Omega.{arith}
+use Rattle.form.specs.Form.{Form}
 use Rattle.form.specs.Answer.{Out, got, no, _>>=_, _>>_, guard}
 use lib.ListN.{length}
 use Rattle.form.specs.Table.{Head, Forest, none, node, size, width, _⊕_, wrote}
@@ -57,38 +58,38 @@ pub deferred-start : (doc : List ℕ) (whole : Out Run) → Deferred doc whole w
 unfolding namesOnce
 deferred-start doc whole = record { is = after-none whole }
 
-module _ (doc : List ℕ) (read : Reader) (whole : Out Run) (fuel : ℕ) (acc : Forest) (at n : ℕ) (d : Deferred doc whole (entries doc read fuel acc at n) acc) (h : 0 < fuel) where
+module _ (form : Form) (doc : List ℕ) (read : Reader) (whole : Out Run) (fuel : ℕ) (acc : Forest) (at n : ℕ) (d : Deferred doc whole (entries form doc read fuel acc at n) acc) (h : 0 < fuel) where
   -- a refusal before the name is known
-  pub deferred-head-no : (m p : ℕ) → entryAt doc at ≡ no m p → whole ≡ (namesOnce doc none acc >> no m p)
-  deferred-head-no m p e = d .is ∙ ap (λ o. namesOnce doc none acc >> after acc o) (entries-head-no doc read fuel acc at n h e)
+  pub deferred-head-no : (m p : ℕ) → entryAt form doc at ≡ no m p → whole ≡ (namesOnce doc none acc >> no m p)
+  deferred-head-no m p e = d .is ∙ ap (λ o. namesOnce doc none acc >> after acc o) (entries-head-no form doc read fuel acc at n h e)
 
   -- the end byte
-  pub deferred-end : entryAt doc at ≡ got end → whole ≡ (namesOnce doc none acc >> got (record { forest = acc; next = at + 1 }))
+  pub deferred-end : entryAt form doc at ≡ got end → whole ≡ (namesOnce doc none acc >> got (record { forest = acc; next = at + 1 }))
   deferred-end e =
       d .is
-      ∙ ap (λ o. namesOnce doc none acc >> after acc o) (entries-end doc read fuel acc at n h e)
+      ∙ ap (λ o. namesOnce doc none acc >> after acc o) (entries-end form doc read fuel acc at n h e)
       ∙ ap (λ g. namesOnce doc none acc >> got (record { forest = g; next = at + 1 })) (append-none acc)
 
-  module _ (kind : ℕ) (s : Span) (e : entryAt doc at ≡ got (named kind s)) where
+  module _ (kind : ℕ) (s : Span) (e : entryAt form doc at ≡ got (named kind s)) where
     -- a refusal in the entry's payload: its own name comes first
     pub deferred-no : (m p : ℕ) → read kind (s .start) (s .size) (s .next) n ≡ no m p
         → whole ≡ (namesOnce doc none acc >> (guard (not (hasName doc (part doc (s .start) (s .size)) acc)) 6 at >> no m p))
     deferred-no m p f = d .is ∙ go (hasName doc (part doc (s .start) (s .size)) acc) refl
       where
         go : (b : Bool) → hasName doc (part doc (s .start) (s .size)) acc ≡ b
-            → (namesOnce doc none acc >> after acc (entries doc read fuel acc at n)) ≡ (namesOnce doc none acc >> (guard (not (hasName doc (part doc (s .start) (s .size)) acc)) 6 at >> no m p))
-        go true q = rw (q, entries-twice doc read fuel acc at n h e q) refl
-        go false q = rw (q, entries-no doc read fuel acc at n h e q f) refl
+            → (namesOnce doc none acc >> after acc (entries form doc read fuel acc at n)) ≡ (namesOnce doc none acc >> (guard (not (hasName doc (part doc (s .start) (s .size)) acc)) 6 at >> no m p))
+        go true q = rw (q, entries-twice form doc read fuel acc at n h e q) refl
+        go false q = rw (q, entries-no form doc read fuel acc at n h e q f) refl
 
     -- an entry
     pub deferred-next : (x : One) → read kind (s .start) (s .size) (s .next) n ≡ got x → x .head .name ≡ s .start → x .head .name-length ≡ s .size → s .start ≡ at + 3
         → (at′ n′ : ℕ) → at′ ≡ x .next → n′ ≡ n + 1 + size (x .inner)
-        → Deferred doc whole (entries doc read (fuel - 1) (acc ⊕ node (x .head) (x .inner) none) at′ n′) (acc ⊕ node (x .head) (x .inner) none)
+        → Deferred doc whole (entries form doc read (fuel - 1) (acc ⊕ node (x .head) (x .inner) none) at′ n′) (acc ⊕ node (x .head) (x .inner) none)
     unfolding _⊕_
     deferred-next x f p q r at′ n′ u v = record { is = d .is ∙ go (hasName doc (part doc (s .start) (s .size)) acc) refl }
       where
         rest : Out Run
-        rest = entries doc read (fuel - 1) (acc ⊕ node (x .head) (x .inner) none) at′ n′
+        rest = entries form doc read (fuel - 1) (acc ⊕ node (x .head) (x .inner) none) at′ n′
 
         place : x .head .name - 3 ≡ at
         place = omega (arith, p, r)
@@ -99,12 +100,13 @@ module _ (doc : List ℕ) (read : Reader) (whole : Out Run) (fuel : ℕ) (acc : 
             ∙ (λ i. namesOnce doc none acc >> guard (not (hasName doc (part doc (p i) (q i)) acc)) 6 (place i))
 
         go : (b : Bool) → hasName doc (part doc (s .start) (s .size)) acc ≡ b
-            → (namesOnce doc none acc >> after acc (entries doc read fuel acc at n)) ≡ (namesOnce doc none (acc ⊕ node (x .head) (x .inner) none) >> after (acc ⊕ node (x .head) (x .inner) none) rest)
+            → (namesOnce doc none acc >> after acc (entries form doc read fuel acc at n))
+            ≡ (namesOnce doc none (acc ⊕ node (x .head) (x .inner) none) >> after (acc ⊕ node (x .head) (x .inner) none) rest)
         go true w =
-            rw (more, w, entries-twice doc read fuel acc at n h e w)
+            rw (more, w, entries-twice form doc read fuel acc at n h e w)
             (sym (cut (namesOnce doc none acc) 6 at (after (acc ⊕ node (x .head) (x .inner) none) rest)))
         go false w =
-            rw (more, w, entries-next doc read fuel acc at n h e w f u v, after-then acc x rest)
+            rw (more, w, entries-next form doc read fuel acc at n h e w f u v, after-then acc x rest)
             (sym (assoc (namesOnce doc none acc) (got tt) (after (acc ⊕ node (x .head) (x .inner) none) rest)))
 
 -- with what is written
@@ -140,7 +142,7 @@ module _ {doc : List ℕ} {whole left : Out Run} {acc : Forest} {t₀ t : List �
 
 -- ---- an entry's name stands three bytes after its id byte
 
-module _ (doc : List ℕ) where
+module _ (form : Form) (doc : List ℕ) where
   bytes-start : (n count at : ℕ) {s : Span} → bytesAt doc n count at ≡ got s → s .start ≡ at
   unfolding bytesAt
   bytes-start n count at {s} e =
@@ -148,15 +150,15 @@ module _ (doc : List ℕ) where
       let f : record { start = at; size = n; count = count; next = at + n } ≡ s = cc in
       rw (← f) refl
 
-  string-start : (at : ℕ) {s : Span} → stringAt doc at ≡ got s → s .start ≡ at + 2
-  string-start at e = let w = string-worded doc at e in bytes-start (w .n) 0 (at + 2) (w .span)
+  string-start : (at : ℕ) {s : Span} → stringAt form doc at ≡ got s → s .start ≡ at + 2
+  string-start at e = let w = string-worded form doc at e in bytes-start (w .n) 0 (at + 2) (w .span)
 
-  pub entry-start : (at : ℕ) {k : ℕ} {s : Span} → entryAt doc at ≡ got (named k s) → s .start ≡ at + 3
+  pub entry-start : (at : ℕ) {k : ℕ} {s : Span} → entryAt form doc at ≡ got (named k s) → s .start ≡ at + 3
   unfolding entryAt
   entry-start at {k} {s} e = go (eqb (b .0) 0) (b .2)
     where
       rest : ℕ → Bool → Out Entry
-      rest c t = elim t [ true ↦ got end | false ↦ stringAt doc (at + 1) >>= (λ n. guard (leb c 12) 3 at >> got (named c n)) ]
+      rest c t = elim t [ true ↦ got end | false ↦ stringAt form doc (at + 1) >>= (λ n. guard (leb c 12) 3 at >> got (named c n)) ]
 
       b : (c : ℕ) × (byteAt doc at ≡ got c) × (rest c (eqb c 0) ≡ got (named k s))
       b = bind-got (byteAt doc at) (λ c. rest c (eqb c 0)) e
@@ -164,7 +166,7 @@ module _ (doc : List ℕ) where
       go : (t : Bool) → rest (b .0) t ≡ got (named k s) → s .start ≡ at + 3
       go true f = absurd (let z : _≡_ {A = ℕ} 0 1 = cc in omega arith)
       go false f =
-          let n = bind-got (stringAt doc (at + 1)) (λ n. guard (leb (b .0) 12) 3 at >> got (named (b .0) n)) f in
+          let n = bind-got (stringAt form doc (at + 1)) (λ n. guard (leb (b .0) 12) 3 at >> got (named (b .0) n)) f in
           let g = guard-got (leb (b .0) 12) 3 at (got (named (b .0) (n .0))) (n .2) in
           let sb : n .0 ≡ s = cc (g .1) in
           let w : n .0 .start ≡ at + 1 + 2 = string-start (at + 1) (n .1) in

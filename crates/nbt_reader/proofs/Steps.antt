@@ -6,6 +6,7 @@ use mathlib.Core.Path.{_≡_, refl, sym, ap, _∙_}
 use lib.ListN.{length, replicate}
 use lib.Dec.{eqb}
 use mathlib.Core.Bool.{Bool, true, false, not, _||_}
+use Rattle.form.specs.Form.{Form}
 use Rattle.form.specs.Answer.{Out, got, no, _>>_, guard}
 use Rattle.form.specs.Table.{Forest, none, node, size, width, wrote, widthOf, holds}
 use Rattle.form.specs.Spans.{over}
@@ -42,11 +43,12 @@ holds-between k h l = go (eqb k 9) refl
     go false e = rw (e, eq-eqb k 10 (omega (arith, eqb-false k 9 e, h, l))) refl
 
 -- kinds 1 to 6, whose width is known
-pub fixed-got : (doc : List ℕ) (kind at w : ℕ) → kind < 7 → w ≡ widthOf kind → at + w ≤ length doc → leafAt doc kind at ≡ got (record { start = at; size = w; count = 0; next = at + w })
-fixed-got doc kind at w h e l = leaf-fixed doc kind at h ∙ ap (λ x. bytesAt doc x 0 at) (sym e) ∙ bytes-got doc w 0 at l
+pub fixed-got : (form : Form) (doc : List ℕ) (kind at w : ℕ) → kind < 7 → w ≡ widthOf kind → at + w ≤ length doc
+    → leafAt form doc kind at ≡ got (record { start = at; size = w; count = 0; next = at + w })
+fixed-got form doc kind at w h e l = leaf-fixed form doc kind at h ∙ ap (λ x. bytesAt doc x 0 at) (sym e) ∙ bytes-got doc w 0 at l
 
-pub fixed-no : (doc : List ℕ) (kind at w : ℕ) → kind < 7 → w ≡ widthOf kind → length doc < at + w → leafAt doc kind at ≡ no 1 at
-fixed-no doc kind at w h e l = leaf-fixed doc kind at h ∙ ap (λ x. bytesAt doc x 0 at) (sym e) ∙ bytes-no doc w 0 at l
+pub fixed-no : (form : Form) (doc : List ℕ) (kind at w : ℕ) → kind < 7 → w ≡ widthOf kind → length doc < at + w → leafAt form doc kind at ≡ no 1 at
+fixed-no form doc kind at w h e l = leaf-fixed form doc kind at h ∙ ap (λ x. bytesAt doc x 0 at) (sym e) ∙ bytes-no doc w 0 at l
 
 -- a container's own record, written before those in it
 pub held-table : (above n : ℕ) {doc : List ℕ} {cap : ℕ} {o : Out Inside} {at′ n′ count inner at : ℕ} {t t₁ : List ℕ}
@@ -66,12 +68,12 @@ stepped-from (Step.Next a i) doc cap o at above n t t′ s =
 stepped-from (Step.No m p) doc cap o at above n t t′ s = s
 
 -- the two public answers
-pub refused : (doc t t₁ : List ℕ) {t₂ : List ℕ} {m p : ℕ} → reading doc t ≡ no m p → length t₁ ≡ length t → t₂ ≡ replicate (length t₁) 0
-    → ReadIs doc t (readOut (Answer.Refused m p)) t₂
-refused doc t t₁ e l c = record { answer-is = rw e refl; table-is = rw e (c ∙ ap (λ n. replicate n 0) l) }
+pub refused : (form : Form) (doc t t₁ : List ℕ) {t₂ : List ℕ} {m p : ℕ} → reading form doc t ≡ no m p → length t₁ ≡ length t → t₂ ≡ replicate (length t₁) 0
+    → ReadIs form doc t (readOut (Answer.Refused m p)) t₂
+refused form doc t t₁ e l c = record { answer-is = rw e refl; table-is = rw e (c ∙ ap (λ n. replicate n 0) l) }
 
-pub accepted : (doc t : List ℕ) {cap at n : ℕ} {t′ : List ℕ} → Next doc cap (reading doc t) at n 0 0 0 t t′ → ReadIs doc t (readOut (Answer.Accepted at n)) t′
-accepted doc t s = record { answer-is = rw (s .is, s .at-is, s .n-is) refl; table-is = rw (s .is) (s .table) }
+pub accepted : (form : Form) (doc t : List ℕ) {cap at n : ℕ} {t′ : List ℕ} → Next doc cap (reading form doc t) at n 0 0 0 t t′ → ReadIs form doc t (readOut (Answer.Accepted at n)) t′
+accepted form doc t s = record { answer-is = rw (s .is, s .at-is, s .n-is) refl; table-is = rw (s .is) (s .table) }
 
 -- ---- a refusal, unless a name is repeated before it
 

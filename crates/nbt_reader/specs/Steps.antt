@@ -5,6 +5,7 @@ use mathlib.Core.Path.{_≡_}
 use mathlib.Core.List.{List}
 use lib.ListN.{length, take}
 use mathlib.Core.Bool.{Bool, not}
+use Rattle.form.specs.Form.{Form}
 use Rattle.form.specs.Answer.{Out, got, no, _>>_, guard}
 use Rattle.nbt_siblings.specs.Holding.{among, Holds}
 use Rattle.nbt_siblings.specs.Names.{firstRepeat}
@@ -60,9 +61,9 @@ Stepped doc cap o at above n t t′ (Step.Next at′ n′) = Next doc cap o at�
 Stepped doc cap o at above n t t′ (Step.No m p) = (o ≡ no m p) × Kept n t t′
 
 -- what the root's payload gives, where the table has room for its records
-abbrev pub RootIs : List ℕ → ℕ → ℕ → ℕ → List ℕ → List ℕ → Step → Type 0
-RootIs doc name len at t t′ r =
-    Stepped doc (roomOf (length t)) (payloadBy doc (roomOf (length t)) (insideAt doc (roomOf (length t)) 512) 10 name len at 0) at 0 0 t t′ r
+abbrev pub RootIs : Form → List ℕ → ℕ → ℕ → ℕ → List ℕ → List ℕ → Step → Type 0
+RootIs form doc name len at t t′ r =
+    Stepped doc (roomOf (length t)) (payloadBy form doc (roomOf (length t)) (insideAt form doc (roomOf (length t)) 512) 10 name len at 0) at 0 0 t t′ r
 
 -- the records x in a container were read and are written from record n on
 pub record Filled (doc : List ℕ) (cap : ℕ) (o : Out Inside) (at′ n′ count kind : ℕ) (at above n : ℕ) (t t′ : List ℕ) : Type 0 where

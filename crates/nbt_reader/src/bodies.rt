@@ -5,6 +5,7 @@ use crate::settling::settle;
 use crate::settling::settle_entry;
 ghost use Prim.Native.Nat.{suc, _+_, _≤_, _<_};
 ghost use lib.ListN.{length};
+ghost use Rattle.form.specs.Form.{Form, formNo};
 ghost use Rattle.form.specs.Table.{none};
 ghost use Rattle.form.specs.Reading.{leafOne, payloadBy, insideAt, listAt, elements as elementsOf, entries as entriesOf};
 ghost use Rattle.nbt_reader.specs.Steps.{Ready, Named, Stepped, Held, Went};
@@ -47,7 +48,7 @@ fn read_fixed(
     ix: usize,
 ) -> Step
     requires { ⌜ (Named (now doc) (now table) cap at above ix kind name «name_len») × (ix < cap) × (kind < 7) ⌝ }
-    ensures { λ r. ⌜ Stepped (now (doc .entry)) cap (leafOne (now (doc .entry)) kind name «name_len» at) at above ix (now (table .entry)) (now (table .exit)) r ⌝ }
+    ensures { λ r. ⌜ ((f : Form) → Stepped (now (doc .entry)) cap (leafOne f (now (doc .entry)) kind name «name_len» at) at above ix (now (table .entry)) (now (table .exit)) r) ⌝ }
 {
     let width = nbt_fields::width_of(kind);
     if doc.len() - at < width {
@@ -78,11 +79,12 @@ fn read_leaf(
     cap: usize,
     above: usize,
     ix: usize,
+    form: u32,
 ) -> Step
     requires { ⌜ (Named (now doc) (now table) cap at above ix kind name «name_len») × (ix < cap) × (6 < kind) ⌝ }
-    ensures { λ r. ⌜ Stepped (now (doc .entry)) cap (leafOne (now (doc .entry)) kind name «name_len» at) at above ix (now (table .entry)) (now (table .exit)) r ⌝ }
+    ensures { λ r. ⌜ Stepped (now (doc .entry)) cap (leafOne (formNo form) (now (doc .entry)) kind name «name_len» at) at above ix (now (table .entry)) (now (table .exit)) r ⌝ }
 {
-    match nbt_fields::leaf_at(doc, kind, at) {
+    match nbt_fields::leaf_at(doc, kind, at, form) {
         Part::No { number, place } => Step::No { number, place },
         Part::Is {
             start,
@@ -115,9 +117,10 @@ fn read_tag_body(
     cap: usize,
     above: usize,
     ix: usize,
+    form: u32,
 ) -> Step
     requires { ⌜ Named (now doc) (now table) cap at above ix kind name «name_len» ⌝ }
-    ensures { λ r. ⌜ Stepped (now (doc .entry)) cap (payloadBy (now (doc .entry)) cap (insideAt (now (doc .entry)) cap depth) kind name «name_len» at ix) at above ix (now (table .entry)) (now (table .exit)) r ⌝ }
+    ensures { λ r. ⌜ Stepped (now (doc .entry)) cap (payloadBy (formNo form) (now (doc .entry)) cap (insideAt (formNo form) (now (doc .entry)) cap depth) kind name «name_len» at ix) at above ix (now (table .entry)) (now (table .exit)) r ⌝ }
 {
     if cap <= ix {
         return Step::No {
@@ -129,7 +132,19 @@ fn read_tag_body(
         kinds::END..=kinds::DOUBLE => {
             read_fixed(doc, kind, name, name_len, at, table, cap, above, ix)
         }
-        _ => read_larger_body(doc, kind, name, name_len, at, depth, table, cap, above, ix),
+        _ => read_larger_body(
+            doc,
+            kind,
+            name,
+            name_len,
+            at,
+            depth,
+            table,
+            cap,
+            above,
+            ix,
+            form,
+        ),
     }
 }
 
@@ -145,15 +160,16 @@ pub fn read_larger_body(
     cap: usize,
     above: usize,
     ix: usize,
+    form: u32,
 ) -> Step
     requires { ⌜ (Named (now doc) (now table) cap at above ix kind name «name_len») × (ix < cap) × (6 < kind) ⌝ }
-    ensures { λ r. ⌜ Stepped (now (doc .entry)) cap (payloadBy (now (doc .entry)) cap (insideAt (now (doc .entry)) cap depth) kind name «name_len» at ix) at above ix (now (table .entry)) (now (table .exit)) r ⌝ }
+    ensures { λ r. ⌜ Stepped (now (doc .entry)) cap (payloadBy (formNo form) (now (doc .entry)) cap (insideAt (formNo form) (now (doc .entry)) cap depth) kind name «name_len» at ix) at above ix (now (table .entry)) (now (table .exit)) r ⌝ }
 {
     match kind {
         kinds::LIST | kinds::COMPOUND => {}
-        _ => return read_leaf(doc, kind, name, name_len, at, table, cap, above, ix),
+        _ => return read_leaf(doc, kind, name, name_len, at, table, cap, above, ix, form),
     }
-    match read_container(doc, kind, at, depth, table, cap, ix, ix + 1) {
+    match read_container(doc, kind, at, depth, table, cap, ix, ix + 1, form) {
         Kids::No { number, place } => Step::No { number, place },
         Kids::Done {
             at: next,
@@ -181,9 +197,10 @@ fn read_container(
     cap: usize,
     above: usize,
     ix: usize,
+    form: u32,
 ) -> Kids
     requires { ⌜ Ready (now doc) (now table) cap at above ix ⌝ }
-    ensures { λ r. ⌜ Held (now (doc .entry)) cap (insideAt (now (doc .entry)) cap depth kind at ix) at above ix (now (table .entry)) (now (table .exit)) r ⌝ }
+    ensures { λ r. ⌜ Held (now (doc .entry)) cap (insideAt (formNo form) (now (doc .entry)) cap depth kind at ix) at above ix (now (table .entry)) (now (table .exit)) r ⌝ }
 {
     if depth == 0 {
         return Kids::No {
@@ -192,8 +209,8 @@ fn read_container(
         };
     }
     match kind {
-        kinds::LIST => read_list(doc, at, depth - 1, table, cap, above, ix),
-        _ => match read_compound(doc, at, depth - 1, table, cap, above, ix) {
+        kinds::LIST => read_list(doc, at, depth - 1, table, cap, above, ix, form),
+        _ => match read_compound(doc, at, depth - 1, table, cap, above, ix, form) {
             Ran::No { number, place } => Kids::No { number, place },
             Ran::Done {
                 at: next,
@@ -218,11 +235,12 @@ fn read_list(
     cap: usize,
     above: usize,
     ix: usize,
+    form: u32,
 ) -> Kids
     requires { ⌜ Ready (now doc) (now table) cap at above ix ⌝ }
-    ensures { λ r. ⌜ Held (now (doc .entry)) cap (listAt (now (doc .entry)) (payloadBy (now (doc .entry)) cap (insideAt (now (doc .entry)) cap depth)) at ix) at above ix (now (table .entry)) (now (table .exit)) r ⌝ }
+    ensures { λ r. ⌜ Held (now (doc .entry)) cap (listAt (formNo form) (now (doc .entry)) (payloadBy (formNo form) (now (doc .entry)) cap (insideAt (formNo form) (now (doc .entry)) cap depth)) at ix) at above ix (now (table .entry)) (now (table .exit)) r ⌝ }
 {
-    match nbt_fields::list_head(doc, at) {
+    match nbt_fields::list_head(doc, at, form) {
         ListHead::No { number, place } => Kids::No { number, place },
         ListHead::Is { kind, count } => match read_elements(
             doc,
@@ -234,6 +252,7 @@ fn read_list(
             cap,
             above,
             ix,
+            form,
         ) {
             Ran::No { number, place } => Kids::No { number, place },
             Ran::Done {
@@ -261,15 +280,16 @@ fn read_elements(
     cap: usize,
     above: usize,
     ix: usize,
+    form: u32,
 ) -> Ran
     requires { ⌜ (Ready (now doc) (now table) cap at above ix) × (kind ≤ 12) ⌝ }
-    ensures { λ r. ⌜ Went (now (doc .entry)) cap (elementsOf (now (doc .entry)) (payloadBy (now (doc .entry)) cap (insideAt (now (doc .entry)) cap depth)) count kind at ix) at above ix (now (table .entry)) (now (table .exit)) r ⌝ }
+    ensures { λ r. ⌜ Went (now (doc .entry)) cap (elementsOf (formNo form) (now (doc .entry)) (payloadBy (formNo form) (now (doc .entry)) cap (insideAt (formNo form) (now (doc .entry)) cap depth)) count kind at ix) at above ix (now (table .entry)) (now (table .exit)) r ⌝ }
 {
     let mut here = at;
     let mut next = ix;
     let mut left = count;
     while 0 < left {
-        match read_tag_body(doc, kind, 0, 0, here, depth, table, cap, above, next) {
+        match read_tag_body(doc, kind, 0, 0, here, depth, table, cap, above, next, form) {
             Step::No { number, place } => return Ran::No { number, place },
             Step::Next { at: a, ix: i } => {
                 here = a;
@@ -294,23 +314,31 @@ fn read_compound(
     cap: usize,
     above: usize,
     ix: usize,
+    form: u32,
 ) -> Ran
     requires { ⌜ Ready (now doc) (now table) cap at above ix ⌝ }
-    ensures { λ r. ⌜ Went (now (doc .entry)) cap (entriesOf (now (doc .entry)) (payloadBy (now (doc .entry)) cap (insideAt (now (doc .entry)) cap depth)) (suc (length (now (doc .entry)))) none at ix) at above ix (now (table .entry)) (now (table .exit)) r ⌝ }
+    ensures { λ r. ⌜ Went (now (doc .entry)) cap (entriesOf (formNo form) (now (doc .entry)) (payloadBy (formNo form) (now (doc .entry)) cap (insideAt (formNo form) (now (doc .entry)) cap depth)) (suc (length (now (doc .entry)))) none at ix) at above ix (now (table .entry)) (now (table .exit)) r ⌝ }
 {
     let mut here = at;
     let mut next = ix;
     let mut count: usize = 0;
     loop {
-        match nbt_fields::entry_at(doc, here) {
+        match nbt_fields::entry_at(doc, here, form) {
             Entry::No { number, place } => return settle(doc, table, ix, next, number, place),
             Entry::End => return finish(doc, table, ix, next, here + 1, count),
-            Entry::Named {
+            Entry::Named { kind, start, len } => match read_tag_body(
+                doc,
                 kind,
                 start,
                 len,
-                next: from,
-            } => match read_tag_body(doc, kind, start, len, from, depth, table, cap, above, next) {
+                start + len,
+                depth,
+                table,
+                cap,
+                above,
+                next,
+                form,
+            ) {
                 Step::No { number, place } => {
                     return settle_entry(doc, table, ix, next, start, len, here, number, place);
                 }

@@ -9,6 +9,7 @@ use form::kinds;
 use nbt_fields::Part;
 ghost use mathlib.Core.Path.{_≡_};
 ghost use lib.ListN.{length};
+ghost use Rattle.form.specs.Form.{formNo};
 ghost use Rattle.form.specs.Reading.{ReadIs, documentAt, roomOf};
 ghost use Rattle.nbt_reader.specs.Steps.{readOut, Named, Stepped, RootIs};
 
@@ -30,9 +31,9 @@ fn room(n: usize) -> usize
 }
 
 // The root's payload at `at`, as record 0: room, then what it holds.
-fn root(doc: &[u8], name: usize, name_len: usize, at: usize, table: &mut [u32]) -> Step
+fn root(doc: &[u8], name: usize, name_len: usize, at: usize, table: &mut [u32], form: u32) -> Step
     requires { ⌜ Named (now doc) (now table) (roomOf (length (now table))) at 0 0 10 name «name_len» ⌝ }
-    ensures { λ r. ⌜ RootIs (now (doc .entry)) name «name_len» at (now (table .entry)) (now (table .exit)) r ⌝ }
+    ensures { λ r. ⌜ RootIs (formNo form) (now (doc .entry)) name «name_len» at (now (table .entry)) (now (table .exit)) r ⌝ }
 {
     let cap = room(table.len());
     if cap == 0 {
@@ -52,12 +53,13 @@ fn root(doc: &[u8], name: usize, name_len: usize, at: usize, table: &mut [u32]) 
         cap,
         0,
         0,
+        form,
     )
 }
 
 // A whole document, from record 0 on.
-fn document(doc: &[u8], table: &mut [u32]) -> Step
-    ensures { λ r. ⌜ Stepped (now (doc .entry)) (roomOf (length (now (table .entry)))) (documentAt (now (doc .entry)) (roomOf (length (now (table .entry))))) 0 0 0 (now (table .entry)) (now (table .exit)) r ⌝ }
+fn document(doc: &[u8], table: &mut [u32], form: u32) -> Step
+    ensures { λ r. ⌜ Stepped (now (doc .entry)) (roomOf (length (now (table .entry)))) (documentAt (formNo form) (now (doc .entry)) (roomOf (length (now (table .entry))))) 0 0 0 (now (table .entry)) (now (table .exit)) r ⌝ }
 {
     if form::DOCUMENT < doc.len() {
         return Step::No {
@@ -73,14 +75,14 @@ fn document(doc: &[u8], table: &mut [u32]) -> Step
     }
     let kind = doc[0];
     match kind {
-        kinds::COMPOUND => match nbt_fields::string_at(doc, 1) {
+        kinds::COMPOUND => match nbt_fields::string_at(doc, 1, form) {
             Part::No { number, place } => Step::No { number, place },
             Part::Is {
                 start,
                 len,
                 count: _,
                 next,
-            } => root(doc, start, len, next, table),
+            } => root(doc, start, len, next, table, form),
         },
         _ => Step::No {
             number: form::ROOT_ID,
@@ -90,10 +92,10 @@ fn document(doc: &[u8], table: &mut [u32]) -> Step
 }
 
 // Reads a document into the table. A refused read leaves the table all zero; an accepted one changes the records' words only.
-pub fn read(doc: &[u8], table: &mut [u32]) -> Answer
-    ensures { λ r. ⌜ ReadIs (now (doc .entry)) (now (table .entry)) (readOut r) (now (table .exit)) ⌝ }
+pub fn read(doc: &[u8], table: &mut [u32], form: u32) -> Answer
+    ensures { λ r. ⌜ ReadIs (formNo form) (now (doc .entry)) (now (table .entry)) (readOut r) (now (table .exit)) ⌝ }
 {
-    match document(doc, table) {
+    match document(doc, table, form) {
         Step::No { number, place } => {
             table::clear(table);
             Answer::Refused { number, place }

@@ -2,6 +2,7 @@
 ghost use mathlib.Core.Path.{_≡_};
 ghost use lib.ListN.{length};
 ghost use Rattle.form.specs.Answer.{no};
+ghost use Rattle.form.specs.Form.{formNo};
 ghost use Rattle.form.specs.Reading.{reading};
 ghost use Rattle.form.specs.Cut.{RescueIs};
 ghost use Rattle.nbt_writer.specs.Steps.{answerOut};
@@ -22,21 +23,27 @@ pub enum Answer {
 }
 
 // Writes the document that the records gathered stand for, where there is room (13).
-fn lay(doc: &[u8], table: &mut [u32], records: usize, out: &mut [u8]) -> nbt_writer::Answer
-    requires { ⌜ GatheredIn (now doc) (now table) records ⌝ }
-    ensures { λ r. ⌜ LaidIs (now (doc .entry)) (now (table .entry)) (now (out .entry)) (answerOut r) (now (out .exit)) ⌝ }
+fn lay(
+    doc: &[u8],
+    table: &mut [u32],
+    records: usize,
+    out: &mut [u8],
+    form: u32,
+) -> nbt_writer::Answer
+    requires { ⌜ GatheredIn (formNo form) (now doc) (now table) records ⌝ }
+    ensures { λ r. ⌜ LaidIs (formNo form) (now (doc .entry)) (now (table .entry)) (now (out .entry)) (answerOut r) (now (out .exit)) ⌝ }
 {
     let words = table::WORDS * records;
-    nbt_writer::write(doc, &mut table[..words], out)
+    nbt_writer::write(doc, &mut table[..words], out, form)
 }
 
 // The same where the output has room for the cut document and a byte for each line, so that nothing is judged or counted first.
-fn put(doc: &[u8], table: &[u32], records: usize, out: &mut [u8]) -> usize
-    requires { ⌜ Roomy (now doc) (now table) records (now out) ⌝ }
-    ensures { λ r. ⌜ KeptPut (now (doc .entry)) (now (table .entry)) (now (out .entry)) (now (out .exit)) r ⌝ }
+fn put(doc: &[u8], table: &[u32], records: usize, out: &mut [u8], form: u32) -> usize
+    requires { ⌜ Roomy (formNo form) (now doc) (now table) records (now out) ⌝ }
+    ensures { λ r. ⌜ KeptPut (formNo form) (now (doc .entry)) (now (table .entry)) (now (out .entry)) (now (out .exit)) r ⌝ }
 {
     let words = table::WORDS * records;
-    nbt_writer::put(doc, &table[..words], out)
+    nbt_writer::put(doc, &table[..words], out, form)
 }
 
 // How many lines may be put while the document is gathered: those that have room, if the output then has room for certain.
@@ -62,11 +69,12 @@ fn tight(
     lines: usize,
     out: &mut [u8],
     changes: &mut [u32],
+    form: u32,
 ) -> Answer
-    requires { ⌜ TightAsked (now doc) (now table) records lines (now changes) ⌝ }
-    ensures { λ r. ⌜ CutIs (now (doc .entry)) (now (table .entry)) (now (out .entry)) (now (changes .entry)) (rescueOut r) (now (out .exit)) (now (changes .exit)) ⌝ }
+    requires { ⌜ TightAsked (formNo form) (now doc) (now table) records lines (now changes) ⌝ }
+    ensures { λ r. ⌜ CutIs (formNo form) (now (doc .entry)) (now (table .entry)) (now (out .entry)) (now (changes .entry)) (rescueOut r) (now (out .exit)) (now (changes .exit)) ⌝ }
 {
-    match lay(doc, table, records, out) {
+    match lay(doc, table, records, out, form) {
         nbt_writer::Answer::Refused {
             number,
             place,
@@ -77,19 +85,26 @@ fn tight(
             count: 0,
         },
         nbt_writer::Answer::Written { bytes } => {
-            nbt_gather::gather(doc, table, changes, changes.len() / 3);
+            nbt_gather::gather(doc, table, changes, changes.len() / 3, form);
             Answer::Saved { bytes, lines }
         }
     }
 }
 
 // A document that is refused with 1 at `place`.
-fn cut(doc: &[u8], place: usize, table: &mut [u32], out: &mut [u8], changes: &mut [u32]) -> Answer
-    requires { ⌜ reading (now doc) (now table) ≡ no 1 place ⌝ }
-    ensures { λ r. ⌜ CutIs (now (doc .entry)) (now (table .entry)) (now (out .entry)) (now (changes .entry)) (rescueOut r) (now (out .exit)) (now (changes .exit)) ⌝ }
+fn cut(
+    doc: &[u8],
+    place: usize,
+    table: &mut [u32],
+    out: &mut [u8],
+    changes: &mut [u32],
+    form: u32,
+) -> Answer
+    requires { ⌜ reading (formNo form) (now doc) (now table) ≡ no 1 place ⌝ }
+    ensures { λ r. ⌜ CutIs (formNo form) (now (doc .entry)) (now (table .entry)) (now (out .entry)) (now (changes .entry)) (rescueOut r) (now (out .exit)) (now (changes .exit)) ⌝ }
 {
     let most = most(doc.len(), out.len(), changes.len());
-    match nbt_gather::gather(doc, table, changes, most) {
+    match nbt_gather::gather(doc, table, changes, most, form) {
         Gathered::NoRoot => Answer::Refused {
             number: form::ROOT_CUT,
             place,
@@ -104,19 +119,25 @@ fn cut(doc: &[u8], place: usize, table: &mut [u32], out: &mut [u8], changes: &mu
                 };
             }
             if most < lines {
-                return tight(doc, table, records, lines, out, changes);
+                return tight(doc, table, records, lines, out, changes, form);
             }
-            let bytes = put(doc, table, records, out);
+            let bytes = put(doc, table, records, out, form);
             Answer::Saved { bytes, lines }
         }
     }
 }
 
 // Rescues a document: the reader's refusals but 1 as they are; 31 for an accepted one; 32, 24 and 13. The table ends as the read leaves it.
-pub fn rescue(doc: &[u8], table: &mut [u32], out: &mut [u8], changes: &mut [u32]) -> Answer
-    ensures { λ r. ⌜ RescueIs (now (doc .entry)) (now (table .entry)) (now (out .entry)) (now (changes .entry)) (rescueOut r) (now (table .exit)) (now (out .exit)) (now (changes .exit)) ⌝ }
+pub fn rescue(
+    doc: &[u8],
+    table: &mut [u32],
+    out: &mut [u8],
+    changes: &mut [u32],
+    form: u32,
+) -> Answer
+    ensures { λ r. ⌜ RescueIs (formNo form) (now (doc .entry)) (now (table .entry)) (now (out .entry)) (now (changes .entry)) (rescueOut r) (now (table .exit)) (now (out .exit)) (now (changes .exit)) ⌝ }
 {
-    match nbt_reader::read(doc, table) {
+    match nbt_reader::read(doc, table, form) {
         nbt_reader::Answer::Accepted {
             consumed: _,
             records: _,
@@ -127,7 +148,7 @@ pub fn rescue(doc: &[u8], table: &mut [u32], out: &mut [u8], changes: &mut [u32]
         },
         nbt_reader::Answer::Refused { number, place } => {
             if number == form::DATA_ENDS {
-                let r = cut(doc, place, table, out, changes);
+                let r = cut(doc, place, table, out, changes, form);
                 table::clear(table);
                 return r;
             }

@@ -11,6 +11,7 @@ use Rattle.form.specs.Answer.{Out, got, _>>=_}
 use Rattle.form.specs.Table.{Head, Forest, none, node, size, _⊕_, flat, wrote, holds}
 use Rattle.form.specs.Spans.{over}
 use lib.Dec.{ltb}
+use Rattle.form.specs.Form.{Form}
 use Rattle.form.specs.Reading.{One, Inside, Span, one, leafAt, leafOne, heldOne, payloadBy}
 use Rattle.form.proofs.Table.{flat-length}
 use Rattle.form.proofs.Answer.{bind-got, guard-got}
@@ -70,16 +71,17 @@ free-more none h inner r e = (e, tt)
 free-more (node g i later) h inner r e = (r .0, free-more later h inner (r .1) e)
 
 -- a record that was read has the word free
-pub payload-free : (doc : List ℕ) (room : ℕ) (inside : ℕ → ℕ → ℕ → Out Inside) (kind name len at n : ℕ) {x : One} → payloadBy doc room inside kind name len at n ≡ got x → spare (x .head) ≡ 0
+pub payload-free : (form : Form) (doc : List ℕ) (room : ℕ) (inside : ℕ → ℕ → ℕ → Out Inside) (kind name len at n : ℕ) {x : One}
+    → payloadBy form doc room inside kind name len at n ≡ got x → spare (x .head) ≡ 0
 unfolding payloadBy leafOne
-payload-free doc room inside kind name len at n {x} e =
+payload-free form doc room inside kind name len at n {x} e =
     go (holds kind) refl (guard-got (ltb n room) 8 at (rest (holds kind)) e .1)
   where
     leaf : Span → One
     leaf s = one (record { kind = kind; name = name; name-length = len; start = s .start; size = s .size; count = s .count; list-kind = 0 }) none (s .next)
 
     rest : Bool → Out One
-    rest t = elim t [ true ↦ inside kind at (n + 1) >>= (λ y. got (heldOne kind name len y)) | false ↦ leafAt doc kind at >>= (λ s. got (leaf s)) ]
+    rest t = elim t [ true ↦ inside kind at (n + 1) >>= (λ y. got (heldOne kind name len y)) | false ↦ leafAt form doc kind at >>= (λ s. got (leaf s)) ]
 
     pick : (a b : ℕ) (t : Bool) → holds kind ≡ t → _≡_ {A = ℕ} (elim t [ true ↦ a | false ↦ b ]) 0 → _≡_ {A = ℕ} (elim (holds kind) [ true ↦ a | false ↦ b ]) 0
     pick a b t q z = rw q z
@@ -90,6 +92,6 @@ payload-free doc room inside kind name len at n {x} e =
         let i : heldOne kind name len (b .0) ≡ x = cc (b .2) in
         subst (λ y. spare (y .head) ≡ 0) i (pick 0 (b .0 .kind) true q refl)
     go false q f =
-        let b = bind-got (leafAt doc kind at) (λ s. got (leaf s)) f in
+        let b = bind-got (leafAt form doc kind at) (λ s. got (leaf s)) f in
         let i : leaf (b .0) ≡ x = cc (b .2) in
         subst (λ y. spare (y .head) ≡ 0) i (pick (b .0 .start) 0 false q refl)

@@ -5,9 +5,10 @@ use mathlib.Core.List.{List, [], _++_}
 use mathlib.Core.Path.{_≡_, sym, ap, _∙_}
 use native.Mathlib.Omega.{arith}
 use lib.ListN.{length, length-append}
-use Rattle.form.specs.Numbers.{bytesOf}
+use Rattle.form.specs.Numbers.{bytesIn}
 use Rattle.form.specs.Spans.{part, over}
-use Rattle.form.proofs.Digits.{digits-length as bytes-length}
+use Rattle.form.specs.Form.{Order}
+use Rattle.form.proofs.Orders.{bytes-length}
 use Rattle.form.proofs.Spans.{part-length}
 use Rattle.form.proofs.Table.{over-none, over-length, over-over}
 use Rattle.nbt_writer.specs.Steps.{Puts}
@@ -17,8 +18,8 @@ pub puts-none : (o : List ℕ) (at : ℕ) → Puts [] o at o at
 puts-none o at = record { is = sym (over-none o at); next = omega arith }
 
 -- A number of w bytes, x in the code.
-pub puts-number : (w v r : ℕ) {o o′ : List ℕ} {at x : ℕ} → r ≡ at + w → x ≡ v → o′ ≡ over o at (bytesOf w x) → Puts (bytesOf w v) o at o′ r
-puts-number w v r {o} {o′} {at} f e is = record { is = is ∙ ap (λ y. over o at (bytesOf w y)) e; next = omega (arith, bytes-length w v) }
+pub puts-number : (order : Order) (w v r : ℕ) {o o′ : List ℕ} {at x : ℕ} → r ≡ at + w → x ≡ v → o′ ≡ over o at (bytesIn order w x) → Puts (bytesIn order w v) o at o′ r
+puts-number order w v r {o} {o′} {at} f e is = record { is = is ∙ ap (λ y. over o at (bytesIn order w y)) e; next = omega (arith, bytes-length order w v) }
 
 -- A span, of n bytes from a in the code.
 pub puts-span : (doc : List ℕ) (start size r : ℕ) {o o′ : List ℕ} {at a n : ℕ} → start + size ≤ length doc → r ≡ at + size → a ≡ start → n ≡ size

@@ -8,11 +8,12 @@ use native.Mathlib.Omega.{arith}
 use borrow.Author.Tests.{eq-eqb, ne-eqb}
 use lib.ListN.{length, length-append}
 use lib.Dec.{eqb}
+use Rattle.form.specs.Form.{Form, big}
 use Rattle.form.specs.Numbers.{bytesOf}
 use Rattle.form.specs.Spans.{over}
 use Rattle.form.specs.Table.{Head, Forest, none, node, _⊕_, word, headOf}
 use Rattle.form.specs.Tables.{Within}
-use Rattle.form.proofs.Digits.{digits-length as bytes-length}
+use Rattle.form.proofs.Digits.{digits-length}
 use Rattle.nbt_judging.specs.Pieces.{nameBytes, listBytes, leafBytes, bodyBytes, laid}
 use Rattle.nbt_judging.specs.Steps.{Rows}
 use Rattle.nbt_writer.specs.Steps.{SomeRoom, OneRoom, Puts}
@@ -23,17 +24,17 @@ use Rattle.nbt_judging.proofs.Rows.{Here, rows-here, walk-all, walk-more, here-
 -- ---- how far a walk over records side by side has come
 
 -- The bytes of the records so far are written, and there is room for those left.
-pub record Way (doc t : List ℕ) (list : Bool) (end : ℕ) (f : Forest) (o : List ℕ) (at : ℕ) (o₁ : List ℕ) (i here : ℕ) : Type 0 where
+pub record Way (form : Form) (doc t : List ℕ) (list : Bool) (end : ℕ) (f : Forest) (o : List ℕ) (at : ℕ) (o₁ : List ℕ) (i here : ℕ) : Type 0 where
   pub done : Forest
   pub rest : Forest
   pub split : f ≡ done ⊕ rest
   pub rows : Rows doc t list i end rest
-  pub puts : Puts (laid doc list done) o at o₁ here
-  pub room : at + length (laid doc list done) + length (laid doc list rest) ≤ length o
+  pub puts : Puts (laid form doc list done) o at o₁ here
+  pub room : at + length (laid form doc list done) + length (laid form doc list rest) ≤ length o
 
-module _ (doc t : List ℕ) (list : Bool) (end : ℕ) (o : List ℕ) (at : ℕ) where
+module _ (form : Form) (doc t : List ℕ) (list : Bool) (end : ℕ) (o : List ℕ) (at : ℕ) where
   -- At the start nothing is done.
-  pub way-start : {n : ℕ} (p : SomeRoom doc t list n end o at) → Way doc t list end (p .some .forest) o at o n at
+  pub way-start : {n : ℕ} (p : SomeRoom form doc t list n end o at) → Way form doc t list end (p .some .forest) o at o n at
   unfolding _⊕_
   way-start p =
       let r = p .room in
@@ -42,19 +43,19 @@ module _ (doc t : List ℕ) (list : Bool) (end : ℕ) (o : List ℕ) (at : ℕ) 
         rest = p .some .forest;
         split = refl;
         rows = p .some .rows;
-        puts = rw (laid-none doc list) (puts-none o at);
-        room = omega (arith, ap length (laid-none doc list));
+        puts = rw (laid-none form doc list) (puts-none o at);
+        room = omega (arith, ap length (laid-none form doc list));
       }
 
-  module _ {f : Forest} {o₁ : List ℕ} {i here : ℕ} (w : Way doc t list end f o at o₁ i here) where
+  module _ {f : Forest} {o₁ : List ℕ} {i here : ℕ} (w : Way form doc t list end f o at o₁ i here) where
     -- The output is as long as it was.
     pub way-length : length o₁ ≡ length o
     way-length = let r = w .room in puts-length (w .puts) (omega arith)
 
     -- At the end all are done.
-    pub way-end : end ≤ i → Puts (laid doc list f) o at o₁ here
+    pub way-end : end ≤ i → Puts (laid form doc list f) o at o₁ here
     way-end l =
-        subst (λ g. Puts (laid doc list g) o at o₁ here) (sym (walk-all (w .done) (w .split) (w .rows) l)) (w .puts)
+        subst (λ g. Puts (laid form doc list g) o at o₁ here) (sym (walk-all (w .done) (w .split) (w .rows) l)) (w .puts)
 
     module _ (l : i < end) where
       -- The first of those left.
@@ -66,11 +67,11 @@ module _ (doc t : List ℕ) (list : Bool) (end : ℕ) (o : List ℕ) (at : ℕ) 
       one = node (first .head) (first .inner) none
 
       -- The bytes left are its own and those after it.
-      parted : length (laid doc list (w .rest)) ≡ length (laid doc list one) + length (laid doc list (first .later))
+      parted : length (laid form doc list (w .rest)) ≡ length (laid form doc list one) + length (laid form doc list (first .later))
       parted =
-          ap (λ g. length (laid doc list g)) (first .is)
-          ∙ ap length (laid-node doc list (first .head) (first .inner) (first .later))
-          ∙ length-append (laid doc list one) (laid doc list (first .later))
+          ap (λ g. length (laid form doc list g)) (first .is)
+          ∙ ap length (laid-node form doc list (first .head) (first .inner) (first .later))
+          ∙ length-append (laid form doc list one) (laid form doc list (first .later))
 
       module _ {next : ℕ} (e : next ≡ word t i 7) where
         -- The next record comes after this one, and no later than the end.
@@ -78,16 +79,16 @@ module _ (doc t : List ℕ) (list : Bool) (end : ℕ) (o : List ℕ) (at : ℕ) 
         way-on = here-on first refl e
 
         -- There is room for this one.
-        pub way-one : Within (length doc) t → OneRoom doc t list i next o₁ here
+        pub way-one : Within (length doc) t → OneRoom form doc t list i next o₁ here
         way-one s = record { one = here-one first refl e s; room = omega (arith, way-length, w .puts .next, w .room, parted) }
 
         -- It is written.
         pub way-next : (s : Within (length doc) t) {o₂ : List ℕ} {there : ℕ}
-            → ((p : OneRoom doc t list i next o₁ here) → Puts (laid doc list (node (p .one .head) (p .one .inner) none)) o₁ here o₂ there)
-            → Way doc t list end f o at o₂ next there
+            → ((p : OneRoom form doc t list i next o₁ here) → Puts (laid form doc list (node (p .one .head) (p .one .inner) none)) o₁ here o₂ there)
+            → Way form doc t list end f o at o₂ next there
         unfolding way-one
         way-next s told =
-            let more = laid-append doc list (w .done) one in
+            let more = laid-append form doc list (w .done) one in
             let b = w .room in
             record {
               done = w .done ⊕ one;
@@ -95,12 +96,12 @@ module _ (doc t : List ℕ) (list : Bool) (end : ℕ) (o : List ℕ) (at : ℕ) 
               split = walk-more (w .done) (w .split) first;
               rows = here-rest first refl e;
               puts = rw more (puts-then (w .puts) (omega arith) (told (way-one s)));
-              room = omega (arith, parted, ap length more, length-append (laid doc list (w .done)) (laid doc list one));
+              room = omega (arith, parted, ap length more, length-append (laid form doc list (w .done)) (laid form doc list one));
             }
 
 -- ---- one record
 
-module _ (doc t : List ℕ) (list : Bool) (n end : ℕ) (o : List ℕ) (at : ℕ) (p : OneRoom doc t list n end o at) where
+module _ (form : Form) (doc t : List ℕ) (list : Bool) (n end : ℕ) (o : List ℕ) (at : ℕ) (p : OneRoom form doc t list n end o at) where
   -- The record.
   abbrev pub h : Head
   h = p .one .head
@@ -115,7 +116,7 @@ module _ (doc t : List ℕ) (list : Bool) (n end : ℕ) (o : List ℕ) (at : ℕ
 
   -- The bytes before its payload.
   name : List ℕ
-  name = nameBytes doc list h
+  name = nameBytes form doc list h
 
   -- Its head has the kind that its words have.
   pub kind-is : {k : ℕ} → word t n 0 ≡ k → h .kind ≡ k
@@ -127,19 +128,19 @@ module _ (doc t : List ℕ) (list : Bool) (n end : ℕ) (o : List ℕ) (at : ℕ
 
   -- Its payload.
   body : List ℕ
-  body = bodyBytes doc h (laid doc (eqb (h .kind) 9) inner)
+  body = bodyBytes form doc h (laid form doc (eqb (h .kind) 9) inner)
 
   -- Together they are all.
-  whole : length (laid doc list (node h inner none)) ≡ length name + length body
+  whole : length (laid form doc list (node h inner none)) ≡ length name + length body
   unfolding name body
-  whole = ap length (laid-one doc list h inner) ∙ length-append (nameBytes doc list h) (bodyBytes doc h (laid doc (eqb (h .kind) 9) inner))
+  whole = ap length (laid-one form doc list h inner) ∙ length-append (nameBytes form doc list h) (bodyBytes form doc h (laid form doc (eqb (h .kind) 9) inner))
 
   -- There is room for its name.
-  pub name-room : at + length (nameBytes doc list (headOf t n)) ≤ length o
+  pub name-room : at + length (nameBytes form doc list (headOf t n)) ≤ length o
   unfolding name
   name-room = rw head (omega (arith, p .room, whole))
 
-  module _ {o₁ : List ℕ} {from : ℕ} (a : Puts (nameBytes doc list (headOf t n)) o at o₁ from) where
+  module _ {o₁ : List ℕ} {from : ℕ} (a : Puts (nameBytes form doc list (headOf t n)) o at o₁ from) where
     -- The name is written.
     named : Puts name o at o₁ from
     unfolding name
@@ -158,59 +159,59 @@ module _ (doc t : List ℕ) (list : Bool) (n end : ℕ) (o : List ℕ) (at : ℕ
     left = omega (arith, long, named .next, p .room, whole)
 
     -- The name and the payload make the record.
-    joined : {bs : List ℕ} {o₂ : List ℕ} {r : ℕ} → body ≡ bs → Puts bs o₁ from o₂ r → Puts (laid doc list (node h inner none)) o at o₂ r
+    joined : {bs : List ℕ} {o₂ : List ℕ} {r : ℕ} → body ≡ bs → Puts bs o₁ from o₂ r → Puts (laid form doc list (node h inner none)) o at o₂ r
     unfolding name body
-    joined e b = rw (laid-one doc list h inner) (puts-then named name-fits (rw e b))
+    joined e b = rw (laid-one form doc list h inner) (puts-then named name-fits (rw e b))
 
     -- A leaf.
     module _ (e : word t n 0 ≡ 9 → ⊥) (f : word t n 0 ≡ 10 → ⊥) where
       -- Its payload is a leaf's.
-      leaf : body ≡ leafBytes doc h
+      leaf : body ≡ leafBytes form doc h
       unfolding body
-      leaf = body-leaf doc h _ (λ q. e (ap (λ x. x .kind) head ∙ q)) (λ q. f (ap (λ x. x .kind) head ∙ q))
+      leaf = body-leaf form doc h _ (λ q. e (ap (λ x. x .kind) head ∙ q)) (λ q. f (ap (λ x. x .kind) head ∙ q))
 
       -- There is room for it.
-      pub leaf-room : from + length (leafBytes doc (headOf t n)) ≤ length o₁
+      pub leaf-room : from + length (leafBytes form doc (headOf t n)) ≤ length o₁
       leaf-room = rw head (omega (arith, left, ap length leaf))
 
       -- It is written.
-      pub put-leaf : {o₂ : List ℕ} {r : ℕ} → Puts (leafBytes doc (headOf t n)) o₁ from o₂ r → Puts (laid doc list (node h inner none)) o at o₂ r
+      pub put-leaf : {o₂ : List ℕ} {r : ℕ} → Puts (leafBytes form doc (headOf t n)) o₁ from o₂ r → Puts (laid form doc list (node h inner none)) o at o₂ r
       put-leaf b = joined leaf (rw head at b)
 
     -- A list: its id and count, then the elements.
     module _ (e : word t n 0 ≡ 9) where
       -- Its payload is a head and elements.
-      listed : body ≡ listBytes h ++ laid doc true inner
+      listed : body ≡ listBytes form h ++ laid form doc true inner
       unfolding body
-      listed = body-list doc h _ (kind-is e) ∙ ap (λ b. listBytes h ++ laid doc b inner) (eq-eqb (h .kind) 9 (kind-is e))
+      listed = body-list form doc h _ (kind-is e) ∙ ap (λ b. listBytes form h ++ laid form doc b inner) (eq-eqb (h .kind) 9 (kind-is e))
 
       -- There is room for the head.
       pub list-room : from + 5 ≤ length o₁
-      list-room = omega (arith, left, ap length listed, length-append (listBytes h) (laid doc true inner), list-length h)
+      list-room = omega (arith, left, ap length listed, length-append (listBytes form h) (laid form doc true inner), list-length form h)
 
-      module _ {o₂ : List ℕ} {first : ℕ} (b : Puts (listBytes (headOf t n)) o₁ from o₂ first) where
+      module _ {o₂ : List ℕ} {first : ℕ} (b : Puts (listBytes form (headOf t n)) o₁ from o₂ first) where
         -- The head is written.
-        started : Puts (listBytes h) o₁ from o₂ first
+        started : Puts (listBytes form h) o₁ from o₂ first
         started = rw head at b
 
         -- It fits.
-        list-fits : from + length (listBytes h) ≤ length o₁
-        list-fits = omega (arith, list-length h, list-room)
+        list-fits : from + length (listBytes form h) ≤ length o₁
+        list-fits = omega (arith, list-length form h, list-room)
 
         -- There is room for the elements.
-        pub elements-fit : first + length (laid doc true inner) ≤ length o₂
-        elements-fit = omega (arith, left, ap length listed, length-append (listBytes h) (laid doc true inner), started .next, puts-length started list-fits)
+        pub elements-fit : first + length (laid form doc true inner) ≤ length o₂
+        elements-fit = omega (arith, left, ap length listed, length-append (listBytes form h) (laid form doc true inner), started .next, puts-length started list-fits)
 
         -- So they may be written.
-        abbrev pub list-some : SomeRoom doc t true (n + 1) end o₂ first
+        abbrev pub list-some : SomeRoom form doc t true (n + 1) end o₂ first
         list-some = record {
           some = record { small = p .one .small; forest = inner; rows = held-rows (eq-eqb (h .kind) 9 (kind-is e)) };
           room = elements-fit;
         }
 
         -- They are written.
-        pub put-list : {o₃ : List ℕ} {r : ℕ} → ((q : SomeRoom doc t true (n + 1) end o₂ first) → Puts (laid doc true (q .some .forest)) o₂ first o₃ r)
-            → Puts (laid doc list (node h inner none)) o at o₃ r
+        pub put-list : {o₃ : List ℕ} {r : ℕ} → ((q : SomeRoom form doc t true (n + 1) end o₂ first) → Puts (laid form doc true (q .some .forest)) o₂ first o₃ r)
+            → Puts (laid form doc list (node h inner none)) o at o₃ r
         put-list told = joined listed (puts-then started list-fits (told list-some))
 
     -- A compound: the entries, then the end byte.
@@ -220,26 +221,26 @@ module _ (doc t : List ℕ) (list : Bool) (n end : ℕ) (o : List ℕ) (at : ℕ
       no-list = ne-eqb (h .kind) 9 (λ q. omega (arith, kind-is e))
 
       -- Its payload is entries and an end byte.
-      entered : body ≡ laid doc false inner ++ bytesOf 1 0
+      entered : body ≡ laid form doc false inner ++ bytesOf 1 0
       unfolding body
-      entered = body-compound doc h _ (kind-is e) ∙ ap (λ b. laid doc b inner ++ bytesOf 1 0) no-list
+      entered = body-compound form doc h _ (kind-is e) ∙ ap (λ b. laid form doc b inner ++ bytesOf 1 0) no-list
 
       -- There is room for them.
-      pub entries-fit : from + length (laid doc false inner) + 1 ≤ length o₁
-      entries-fit = omega (arith, left, ap length entered, length-append (laid doc false inner) (bytesOf 1 0), bytes-length 1 0)
+      pub entries-fit : from + length (laid form doc false inner) + 1 ≤ length o₁
+      entries-fit = omega (arith, left, ap length entered, length-append (laid form doc false inner) (bytesOf 1 0), digits-length 1 0)
 
       -- So they may be written.
-      abbrev pub compound-some : SomeRoom doc t false (n + 1) end o₁ from
+      abbrev pub compound-some : SomeRoom form doc t false (n + 1) end o₁ from
       compound-some = record {
         some = record { small = p .one .small; forest = inner; rows = held-rows no-list };
         room = omega (arith, entries-fit);
       }
 
-      module _ {o₂ : List ℕ} {last : ℕ} (told : (q : SomeRoom doc t false (n + 1) end o₁ from) → Puts (laid doc false (q .some .forest)) o₁ from o₂ last) where
+      module _ {o₂ : List ℕ} {last : ℕ} (told : (q : SomeRoom form doc t false (n + 1) end o₁ from) → Puts (laid form doc false (q .some .forest)) o₁ from o₂ last) where
         -- There is room for the end byte.
         pub end-room : last + 1 ≤ length o₂
         end-room = let b = told compound-some in omega (arith, entries-fit, b .next, puts-length b (omega (arith, entries-fit)))
 
         -- They are written, and the end byte.
-        pub put-compound : {o₃ : List ℕ} → o₃ ≡ over o₂ last (bytesOf 1 0) → Puts (laid doc list (node h inner none)) o at o₃ (last + 1)
-        put-compound g = joined entered (puts-then (told compound-some) (omega (arith, entries-fit)) (puts-number 1 0 (last + 1) refl refl g))
+        pub put-compound : {o₃ : List ℕ} → o₃ ≡ over o₂ last (bytesOf 1 0) → Puts (laid form doc list (node h inner none)) o at o₃ (last + 1)
+        put-compound g = joined entered (puts-then (told compound-some) (omega (arith, entries-fit)) (puts-number big 1 0 (last + 1) refl refl g))

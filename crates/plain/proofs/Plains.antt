@@ -5,12 +5,16 @@ use mathlib.Core.Path.{_≡_, refl, sym, ap, ap₂, _∙_}
 use mathlib.Core.Bool.{Bool, true, false, not, _&&_}
 use mathlib.Core.Logic.{⊎-elim}
 use mathlib.Core.List.{List}
+use native.Mathlib.Nat.{zero-add}
 use native.Mathlib.Omega.{arith}
 use borrow.Author.Tests.{ltb-true, ltb-false, leb-true, eqb-false, not-true, le-leb, lt-leb, eq-eqb, ne-eqb}
 use lib.Dec.{leb, ltb, eqb}
-use lib.ListN.{getD}
+use lib.ListN.{length, getD}
 use Rattle.form.specs.Answer.{pick}
+use Rattle.form.specs.Spans.{part}
 use Rattle.form.proofs.Picks.{lt-or, and-left, and-right, and-false}
+use Rattle.form.proofs.Spans.{part-length}
+use Rattle.form.proofs.Places.{part-at}
 use Rattle.plain.specs.Runs.{plainByte, mark, plainIn, shortPlain, IsPlain, Plain}
 
 -- ---- tests
@@ -110,6 +114,7 @@ pub more-in : (p q : ℕ) (t : List ℕ) (i n : ℕ) → plainIn p q t i (n + 1)
 unfolding plainIn
 more-in p q t i n = let e : n + 1 ≡ suc n = omega arith in rw e refl
 
+-- where the test of n bytes holds, each is plain
 pub run-is : (p q : ℕ) (t : List ℕ) (i n : ℕ) → plainIn p q t i n ≡ true → Plain p q t i (i + n)
 unfolding plainIn
 run-is p q t i zero e = plain-none p q t i (i + 0) (omega arith)
@@ -118,6 +123,7 @@ run-is p q t i (suc n) e =
     let z : i + suc n ≡ i + n + 1 = omega arith in
     rw z (plain-more p q t i (i + n) (run-is p q t i n (and-left (plainIn p q t i n) b e)) (byte-is p q (getD t (i + n) 0) (and-right (plainIn p q t i n) b e)))
 
+-- and where each is, the test holds
 pub run-holds : (p q : ℕ) (t : List ℕ) (i n : ℕ) → Plain p q t i (i + n) → plainIn p q t i n ≡ true
 unfolding plainIn
 run-holds p q t i zero r = refl
@@ -125,39 +131,54 @@ run-holds p q t i (suc n) r =
     let before = run-holds p q t i n (record { each = λ k h m. r .each k h (omega (arith, m)) }) in
     ap₂ _&&_ before (sym (byte-holds p q (getD t (i + n) 0) (r .each (i + n) (omega arith) (omega arith))))
 
-pub short-is : (p : ℕ) (t : List ℕ) (start e : ℕ) → start ≤ e → shortPlain p t start e ≡ true → (e - start < 64) × Plain p p t start e
-short-is p t start e h s =
-    let n = e - start in
-    let z : start + n ≡ e = omega arith in
-    (ltb-true n 64 (and-left (ltb n 64) (plainIn p p t start n) s), rw z at (run-is p p t start n (and-right (ltb n 64) (plainIn p p t start n) s)))
+-- the same two of a list's first n bytes
+start-is : (p q : ℕ) (t : List ℕ) (n : ℕ) → plainIn p q t 0 n ≡ true → Plain p q t 0 n
+start-is p q t n e = rw zero-add at (run-is p q t 0 n e)
 
--- a span by its first n bytes and its last n
-module _ (p q : ℕ) (t : List ℕ) (start e n : ℕ) (l : start + n ≤ e) (h : e ≤ start + n + n) where
-  whole : start + (e - start) ≡ e
-  whole = omega arith
+start-holds : (p q : ℕ) (t : List ℕ) (n : ℕ) → Plain p q t 0 n → plainIn p q t 0 n ≡ true
+start-holds p q t n r = run-holds p q t 0 n (rw zero-add r)
 
-  behind : e - n + n ≡ e
+-- what the test of a short list says of it
+pub short-is : (p : ℕ) (t : List ℕ) → shortPlain p t ≡ true → (length t < 64) × Plain p p t 0 (length t)
+short-is p t e =
+    let n = length t in
+    (ltb-true n 64 (and-left (ltb n 64) (plainIn p p t 0 n) e), start-is p p t n (and-right (ltb n 64) (plainIn p p t 0 n) e))
+
+-- and what it says of a text of which the list is a part
+pub part-is : (p : ℕ) (t : List ℕ) (start e : ℕ) → start ≤ e → e ≤ length t → shortPlain p (part t start (e - start)) ≡ true → (e - start < 64) × Plain p p t start e
+part-is p t start e h k x =
+    let w = short-is p (part t start (e - start)) x in
+    let long = part-length t start (e - start) (omega arith) in
+    (omega (arith, w .0, long), record { each = λ n a b. rw (byte n a b) at (w .1 .each (n - start) (omega arith) (omega (arith, long))) })
+  where
+    byte : (n : ℕ) → start ≤ n → n < e → getD (part t start (e - start)) (n - start) 0 ≡ getD t n 0
+    byte n a b = let z : start + (n - start) ≡ n = omega arith in part-at t start (e - start) (n - start) (omega arith) ∙ ap (λ (i : ℕ). getD t i 0) z
+
+-- a list by its first n bytes and its last n
+module _ (p q : ℕ) (t : List ℕ) (n : ℕ) (l : n ≤ length t) (h : length t ≤ n + n) where
+  behind : length t - n + n ≡ length t
   behind = omega arith
 
-  first-of : plainIn p q t start (e - start) ≡ true → plainIn p q t start n ≡ true
-  first-of a = run-holds p q t start n (record { each = λ k x y. run-is p q t start (e - start) a .each k x (omega (arith, y, whole)) })
+  -- where all are plain, so are the first and the last
+  first-of : plainIn p q t 0 (length t) ≡ true → plainIn p q t 0 n ≡ true
+  first-of a = start-holds p q t n (record { each = λ k x y. start-is p q t (length t) a .each k x (omega (arith, y)) })
 
-  last-of : plainIn p q t start (e - start) ≡ true → plainIn p q t (e - n) n ≡ true
-  last-of a = run-holds p q t (e - n) n (record {
-    each = λ k x y. run-is p q t start (e - start) a .each k (omega (arith, x)) (omega (arith, y, whole, behind));
-  })
+  last-of : plainIn p q t 0 (length t) ≡ true → plainIn p q t (length t - n) n ≡ true
+  last-of a = run-holds p q t (length t - n) n (record { each = λ k x y. start-is p q t (length t) a .each k (omega (arith, x)) (omega (arith, y, behind)) })
 
-  pub both-in : plainIn p q t start n ≡ true → plainIn p q t (e - n) n ≡ plainIn p q t start (e - start)
-  both-in a = alike (plainIn p q t (e - n) n) (plainIn p q t start (e - start)) joined last-of
+  -- the first are: then all are, exactly where the last are
+  pub both-in : plainIn p q t 0 n ≡ true → plainIn p q t (length t - n) n ≡ plainIn p q t 0 (length t)
+  both-in a = alike (plainIn p q t (length t - n) n) (plainIn p q t 0 (length t)) joined last-of
     where
-      joined : plainIn p q t (e - n) n ≡ true → plainIn p q t start (e - start) ≡ true
+      joined : plainIn p q t (length t - n) n ≡ true → plainIn p q t 0 (length t) ≡ true
       joined b =
-          let last = rw behind at (run-is p q t (e - n) n b) in
-          run-holds p q t start (e - start) (rw whole (plain-join p q t start (start + n) (e - n) e (omega arith) (run-is p q t start n a) last))
+          let last = rw behind at (run-is p q t (length t - n) n b) in
+          start-holds p q t (length t) (plain-join p q t 0 n (length t - n) (length t) (omega arith) (start-is p q t n a) last)
 
-  pub first-fails : plainIn p q t start n ≡ false → false ≡ plainIn p q t start (e - start)
-  first-fails a = go (plainIn p q t start (e - start)) refl
+  -- the first are not: then not all are
+  pub first-fails : plainIn p q t 0 n ≡ false → false ≡ plainIn p q t 0 (length t)
+  first-fails a = go (plainIn p q t 0 (length t)) refl
     where
-      go : (x : Bool) → plainIn p q t start (e - start) ≡ x → false ≡ x
+      go : (x : Bool) → plainIn p q t 0 (length t) ≡ x → false ≡ x
       go true b = sym a ∙ first-of b
       go false b = refl

@@ -90,37 +90,36 @@ pub fn plain_end(p: u8, q: u8, text: &[u8], at: usize, end: usize) -> usize
     at
 }
 
-// Whether a span is plain, by its first n bytes and its last n, which overlap or meet.
-fn both_plain(p: u8, text: &[u8], start: usize, end: usize, n: usize) -> bool
-    requires { ⌜ (start + n ≤ end) × (end ≤ start + n + n) × (end ≤ length (now text)) ⌝ }
-    ensures { λ r. ⌜ r ≡ plainIn p p (now (text .entry)) start (end - start) ⌝ }
+// Whether a slice is plain, by its first n bytes and its last n, which overlap or meet.
+fn both_plain(p: u8, text: &[u8], n: usize) -> bool
+    requires { ⌜ (n ≤ length (now text)) × (length (now text) ≤ n + n) ⌝ }
+    ensures { λ r. ⌜ r ≡ plainIn p p (now (text .entry)) 0 (length (now (text .entry))) ⌝ }
 {
-    if all_plain(p, p, text, start, n) {
-        return all_plain(p, p, text, end - n, n);
+    if all_plain(p, p, text, 0, n) {
+        return all_plain(p, p, text, text.len() - n, n);
     }
     false
 }
 
-// Whether a span is short and plain, as most are: nothing more is then to be asked of it.
-pub fn is_plain(p: u8, text: &[u8], start: usize, end: usize) -> bool
-    requires { ⌜ (start ≤ end) × (end ≤ length (now text)) ⌝ }
-    ensures { λ r. ⌜ r ≡ shortPlain p (now (text .entry)) start end ⌝ }
+// Whether a slice is short and plain, as most are: nothing more is then to be asked of it.
+pub fn is_plain(p: u8, text: &[u8]) -> bool
+    ensures { λ r. ⌜ r ≡ shortPlain p (now (text .entry)) ⌝ }
 {
-    let size = end - start;
+    let size = text.len();
     if size < 4 {
-        return all_plain(p, p, text, start, size);
+        return all_plain(p, p, text, 0, size);
     }
     if size < 8 {
-        return both_plain(p, text, start, end, 4);
+        return both_plain(p, text, 4);
     }
     if size < 16 {
-        return both_plain(p, text, start, end, 8);
+        return both_plain(p, text, 8);
     }
     if size < 32 {
-        return both_plain(p, text, start, end, 16);
+        return both_plain(p, text, 16);
     }
     if size < 64 {
-        return both_plain(p, text, start, end, 32);
+        return both_plain(p, text, 32);
     }
     false
 }

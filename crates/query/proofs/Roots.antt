@@ -7,6 +7,7 @@ use mathlib.Core.Bool.{Bool, false}
 use native.Mathlib.Omega.{arith}
 use lib.ListN.{length}
 use lib.Dec.{eqb}
+use Rattle.form.specs.Form.{Form}
 use Rattle.form.specs.Answer.{got, depthLimit, recordLimit}
 use Rattle.form.specs.Table.{none, node, size, word, valueOf}
 use Rattle.form.specs.Tables.{Fair, IsTable}
@@ -81,26 +82,26 @@ module _ (doc t : List ℕ) (i : IsTable (length doc) t) where
         let end = root-stands .end in
         passed-over (omega arith) (ap (goesIn set 0) (sym e) ∙ sym f ∙ g)
 
-module _ (doc t : List ℕ) (i : IsTable (length doc) t) (q : List ℕ) {query : Query} {plan₀ plan : List ℕ} (laid : Laid query plan₀ plan) where
+module _ (form : Form) (doc t : List ℕ) (i : IsTable (length doc) t) (q : List ℕ) {query : Query} {plan₀ plan : List ℕ} (laid : Laid query plan₀ plan) where
   -- What matches is found at the root and in it.
-  root-found : matches (valueOf doc (i .head) (i .inner)) (stepsFrom q query 0)
+  root-found : matches (valueOf form doc (i .head) (i .inner)) (stepsFrom q query 0)
       ≡ hit (fits (lastOf (planned q plan) (query .count)) []) 0 ++ foundIn doc t (lastOf (planned q plan) (query .count)) 0 [] (i .inner)
   unfolding foundIn matches
   root-found =
       let kind : word t 0 0 ≡ 10 = root-stands doc t i .kind ∙ i .compound in
       let entries : eqb (i .head .kind) 9 ≡ false = rw (i .compound) in
       let fair : Fair (length doc) false (i .inner) = rw entries at (root-side doc t i .fair) in
-      rw (tree-paths doc (length doc) (i .head) (i .inner) fair, kind, laid-steps laid q)
+      rw (tree-paths form doc (length doc) (i .head) (i .inner) fair, kind, laid-steps laid q)
       (which-first (fits (stepsFrom q query 0)) 0 [] (recordPaths doc 10 0 [] (i .inner)))
 
   module _ {set : ℕ} (reaches : Reaches q plan (query .count) [] set) {l : List ℕ} {r : ℕ} {l′ : List ℕ} (v : Walks (hit (has set 0) 0) 0 l r l′) where
     -- The records in it are walked over.
-    pub root-done : {r′ : ℕ} {l″ : List ℕ} → Done doc t q plan 0 set r l′ r′ l″ → Walks (matches (valueOf doc (i .head) (i .inner)) (stepsFrom q query 0)) 0 l r′ l″
+    pub root-done : {r′ : ℕ} {l″ : List ℕ} → Done doc t q plan 0 set r l′ r′ l″ → Walks (matches (valueOf form doc (i .head) (i .inner)) (stepsFrom q query 0)) 0 l r′ l″
     root-done d =
         rw (root-found, ← reaches-fits reaches)
         (walks-then (hit (has set 0) 0) (foundIn doc t (lastOf (planned q plan) (query .count)) 0 [] (i .inner)) v (d .walks (query .count) [] reaches (root-side doc t i)))
 
     -- They are not.
     pub root-alone : {past : ℕ} {b : Bool} → past ≡ word t 0 7 → b ≡ goesIn set 0 past → b ≡ false
-        → Walks (matches (valueOf doc (i .head) (i .inner)) (stepsFrom q query 0)) 0 l r l′
+        → Walks (matches (valueOf form doc (i .head) (i .inner)) (stepsFrom q query 0)) 0 l r l′
     root-alone e f g = root-done (root-over doc t i q reaches v e f g)

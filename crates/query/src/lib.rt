@@ -6,6 +6,7 @@ ghost use mathlib.Core.Path.{_≡_};
 ghost use Prim.Native.Nat.{ℕ, _*_, _≤_};
 ghost use lib.ListN.{length};
 ghost use Rattle.form.specs.Answer.{got, recordLimit, depthLimit, failed};
+ghost use Rattle.form.specs.Form.{Form, formNo};
 ghost use Rattle.form.specs.Table.{node, none, valueOf};
 ghost use Rattle.form.specs.Tables.{IsTable};
 ghost use Rattle.form.specs.Paths.{matches};
@@ -122,7 +123,7 @@ fn visit_all(
 // How many tags of a table match; their numbers are written into the list as far as it has room.
 fn walk(doc: &[u8], table: &[u32], q: &[u8], query: Query, list: &mut [u32]) -> usize
     requires { ⌜ ((i : IsTable (length (now doc)) (now table)) × (shallow depthLimit 0 (node (i .head) (i .inner) none) ≡ got tt)) × (length (now table) ≤ 9 * recordLimit) × (QueryIn (now q) query) ⌝ }
-    ensures { λ r. ⌜ ((i : IsTable (length (now (doc .entry))) (now (table .entry))) → Walks (matches (valueOf (now (doc .entry)) (i .head) (i .inner)) (stepsFrom (now (q .entry)) query 0)) 0 (now (list .entry)) r (now (list .exit))) ⌝ }
+    ensures { λ r. ⌜ ((f : Form) (i : IsTable (length (now (doc .entry))) (now (table .entry))) → Walks (matches (valueOf f (now (doc .entry)) (i .head) (i .inner)) (stepsFrom (now (q .entry)) query 0)) 0 (now (list .entry)) r (now (list .exit))) ⌝ }
 {
     let mut plan = [0u32; query_reach::PLAN];
     query_reach::lay(query, &mut plan);
@@ -139,15 +140,15 @@ fn walk(doc: &[u8], table: &[u32], q: &[u8], query: Query, list: &mut [u32]) -> 
 // What asking a table gives: a container too deep (7), then a query that is malformed (14), then more matches than there is room (24), with
 // the true count. The list is written only where the count is known to fit: it has a word for every record, or the matches were counted
 // before, in a walk whose list is not the caller's.
-fn ask(doc: &[u8], table: &[u32], q: &[u8], list: &mut [u32]) -> Found
+fn ask(doc: &[u8], table: &[u32], q: &[u8], list: &mut [u32], form: u32) -> Found
     requires { ⌜ (IsTable (length (now doc)) (now table)) × (length (now table) ≤ 9 * recordLimit) ⌝ }
-    ensures { λ r. ⌜ ((i : IsTable (length (now (doc .entry))) (now (table .entry))) → Finds (within (length (now (list .entry))) (asked (now (doc .entry)) (now (q .entry)) (i .head) (i .inner))) (now (list .entry)) (foundCount r) (now (list .exit))) ⌝ }
+    ensures { λ r. ⌜ ((i : IsTable (length (now (doc .entry))) (now (table .entry))) → Finds (within (length (now (list .entry))) (asked (formNo form) (now (doc .entry)) (now (q .entry)) (i .head) (i .inner))) (now (list .entry)) (foundCount r) (now (list .exit))) ⌝ }
 {
     match first_deep(table, 0, table.len() / table::WORDS, form::DEPTH) {
         Depth::TooDeep(n) => return refused(form::TOO_DEEP, n),
         Depth::Fine => {}
     }
-    let taken = query_steps::take_apart(q);
+    let taken = query_steps::take_apart(q, form);
     let query = taken.query;
     if !taken.ok {
         return refused(form::BAD_QUERY, taken.place);
@@ -181,12 +182,12 @@ fn refused(number: u8, place: usize) -> Found
 
 // Rule 9 and demand 3: the numbers of the tags that match the query, in file order, from the list's beginning on. Order of refusals: 9, 10,
 // 7, 14, 24; a refusal changes nothing.
-pub fn query(doc: &[u8], table: &[u32], q: &[u8], list: &mut [u32]) -> Found
-    ensures { λ r. ⌜ QueryIs (now (doc .entry)) (now (table .entry)) (now (q .entry)) (now (list .entry)) (foundCount r) (now (list .exit)) ⌝ }
+pub fn query(doc: &[u8], table: &[u32], q: &[u8], list: &mut [u32], form: u32) -> Found
+    ensures { λ r. ⌜ QueryIs (formNo form) (now (doc .entry)) (now (table .entry)) (now (q .entry)) (now (list .entry)) (foundCount r) (now (list .exit)) ⌝ }
 {
     match table::is_table(doc.len(), table) {
         Verdict::OverLimit => refused(form::OVER_LIMIT, 0),
         Verdict::NoTable => refused(form::NO_TABLE, 0),
-        Verdict::Table => ask(doc, table, q, list),
+        Verdict::Table => ask(doc, table, q, list, form),
     }
 }

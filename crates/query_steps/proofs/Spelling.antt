@@ -7,10 +7,11 @@ use mathlib.Core.Bool.{true, false}
 use native.Mathlib.Omega.{arith}
 use lib.ListN.{length, getD}
 use borrow.Author.Tests.{lt-ltb, le-ltb, ne-eqb}
+use Rattle.form.specs.Form.{Form, asks}
 use Rattle.form.specs.Answer.{Out, got, no, badQuery, dataEnds, negativeCount}
 use Rattle.form.specs.Spans.{part}
 use Rattle.form.specs.Numbers.{bigEndian}
-use Rattle.form.specs.Decoding.{wellFormed}
+use Rattle.form.specs.Decoding.{wellFormedIn}
 use Rattle.form.specs.Reading.{numberAt, stringAt, countAt}
 use Rattle.form.specs.Query.{Spelt, blamed, stepBy, stepAt}
 use Rattle.form.proofs.Strings.{isGood-iff, isGood-not}
@@ -29,7 +30,7 @@ wordsOf k a n = record { kind = k; at = a; len = n }
 pub bad-goes : (q : List ℕ) (at : ℕ) (t : StepWords) (j : ℕ) → Bad ≡ Next t j → Goes q at t j
 bad-goes q at t j e = absurd (let z : _≡_ {A = ℕ} 0 1 = cc in omega arith)
 
-module _ (q : List ℕ) (at : ℕ) where
+module _ (form : Form) (q : List ℕ) (at : ℕ) where
   -- What a step that was read goes by.
   pub next-goes : (s : StepWords) (i : ℕ) → Goes q at s i → (t : StepWords) (j : ℕ) → Next s i ≡ Next t j → Goes q at t j
   next-goes s i g t j e =
@@ -43,33 +44,33 @@ module _ (q : List ℕ) (at : ℕ) where
   -- ---- 01
 
   -- The string is refused.
-  name-off : {n p : ℕ} → stringAt q (at + 1) ≡ no n p → Reads q at (blamed at (stepBy q 1 at)) Bad
+  name-off : {n p : ℕ} → stringAt (asks form) q (at + 1) ≡ no n p → Reads q at (blamed at (stepBy form q 1 at)) Bad
   unfolding stepBy
-  name-off e = bad-is (blamed at (stepBy q 1 at)) (rw e)
+  name-off e = bad-is (blamed at (stepBy form q 1 at)) (rw e)
 
-  pub name-short : length q < at + 3 → Reads q at (blamed at (stepBy q 1 at)) Bad
-  name-short h = name-off (string-no q (at + 1) (number-no q 2 (at + 1) (omega arith)))
+  pub name-short : length q < at + 3 → Reads q at (blamed at (stepBy form q 1 at)) Bad
+  name-short h = name-off (string-no (asks form) q (at + 1) (number-no (asks form) q 2 (at + 1) (omega arith)))
 
   module _ (whole : at + 3 ≤ length q) where
-    length-is : numberAt q 2 (at + 1) ≡ got (bigEndian (part q (at + 1) 2))
-    length-is = number-got q 2 (at + 1) (omega arith)
+    length-is : numberAt (asks form) q 2 (at + 1) ≡ got (bigEndian (part q (at + 1) 2))
+    length-is = number-got (asks form) q 2 (at + 1) (omega arith)
 
-    pub name-cut : length q < at + 3 + bigEndian (part q (at + 1) 2) → Reads q at (blamed at (stepBy q 1 at)) Bad
-    name-cut h = name-off (string-cut q (at + 1) (bigEndian (part q (at + 1) 2)) length-is (omega arith))
+    pub name-cut : length q < at + 3 + bigEndian (part q (at + 1) 2) → Reads q at (blamed at (stepBy form q 1 at)) Bad
+    name-cut h = name-off (string-cut (asks form) q (at + 1) (bigEndian (part q (at + 1) 2)) length-is (omega arith))
 
     module _ (fits : at + 3 + bigEndian (part q (at + 1) 2) ≤ length q) where
-      pub name-bad : wellFormed (part q (at + 3) (bigEndian (part q (at + 1) 2))) ≡ false → Reads q at (blamed at (stepBy q 1 at)) Bad
+      pub name-bad : wellFormedIn (form .strings) (part q (at + 3) (bigEndian (part q (at + 1) 2))) ≡ false → Reads q at (blamed at (stepBy form q 1 at)) Bad
       name-bad w =
           let z : at + 3 ≡ at + 1 + 2 = omega arith in
-          name-off (string-bad q (at + 1) (bigEndian (part q (at + 1) 2)) length-is (omega arith) (isGood-not _ (rw z at w) .1))
+          name-off (string-bad (asks form) q (at + 1) (bigEndian (part q (at + 1) 2)) length-is (omega arith) (isGood-not _ (rw z at w) .1))
 
-      pub name-got : getD q at 0 ≡ 1 → wellFormed (part q (at + 3) (bigEndian (part q (at + 1) 2))) ≡ true → bigEndian (part q (at + 1) 2) < 65536
-          → Reads q at (blamed at (stepBy q 1 at)) (Next (wordsOf 1 (at + 3) (bigEndian (part q (at + 1) 2))) (at + 3 + bigEndian (part q (at + 1) 2)))
+      pub name-got : getD q at 0 ≡ 1 → wellFormedIn (form .strings) (part q (at + 3) (bigEndian (part q (at + 1) 2))) ≡ true → bigEndian (part q (at + 1) 2) < 65536
+          → Reads q at (blamed at (stepBy form q 1 at)) (Next (wordsOf 1 (at + 3) (bigEndian (part q (at + 1) 2))) (at + 3 + bigEndian (part q (at + 1) 2)))
       unfolding stepBy stepOf wordsAt bytesAt
       name-got b w small =
           let n = bigEndian (part q (at + 1) 2) in
           let z : at + 3 ≡ at + 1 + 2 = omega arith in
-          let s = string-got q (at + 1) n length-is (omega arith) (isGood-iff _ .0 (rw z at w)) in
+          let s = string-got (asks form) q (at + 1) n length-is (omega arith) (isGood-iff _ .0 (rw z at w)) in
           record {
             is = rw (s, z);
             goes = next-goes (wordsOf 1 (at + 3) n) (at + 3 + n) (record { words = rw b refl; place = rw b (omega arith); after = omega arith; near = omega arith; name = λ e. fits });
@@ -78,24 +79,24 @@ module _ (q : List ℕ) (at : ℕ) where
   -- ---- 02
 
   -- The count is refused.
-  index-off : {n p : ℕ} → countAt q (at + 1) ≡ no n p → Reads q at (blamed at (stepBy q 2 at)) Bad
+  index-off : {n p : ℕ} → countAt (asks form) q (at + 1) ≡ no n p → Reads q at (blamed at (stepBy form q 2 at)) Bad
   unfolding stepBy
-  index-off e = bad-is (blamed at (stepBy q 2 at)) (rw e)
+  index-off e = bad-is (blamed at (stepBy form q 2 at)) (rw e)
 
-  pub index-short : length q < at + 5 → Reads q at (blamed at (stepBy q 2 at)) Bad
+  pub index-short : length q < at + 5 → Reads q at (blamed at (stepBy form q 2 at)) Bad
   unfolding countAt
-  index-short h = index-off {n = dataEnds} {p = at + 1} (rw (number-no q 4 (at + 1) (omega arith)))
+  index-short h = index-off {n = dataEnds} {p = at + 1} (rw (number-no (asks form) q 4 (at + 1) (omega arith)))
 
-  pub index-below : at + 5 ≤ length q → 2 ^ 31 ≤ bigEndian (part q (at + 1) 4) → Reads q at (blamed at (stepBy q 2 at)) Bad
+  pub index-below : at + 5 ≤ length q → 2 ^ 31 ≤ bigEndian (part q (at + 1) 4) → Reads q at (blamed at (stepBy form q 2 at)) Bad
   unfolding countAt
-  index-below h b = index-off {n = negativeCount} {p = at + 1} (rw (number-got q 4 (at + 1) (omega arith), le-ltb (bigEndian (part q (at + 1) 4)) (2 ^ 31) b))
+  index-below h b = index-off {n = negativeCount} {p = at + 1} (rw (number-got (asks form) q 4 (at + 1) (omega arith), le-ltb (bigEndian (part q (at + 1) 4)) (2 ^ 31) b))
 
   pub index-got : getD q at 0 ≡ 2 → at + 5 ≤ length q → bigEndian (part q (at + 1) 4) < 2 ^ 31
-      → Reads q at (blamed at (stepBy q 2 at)) (Next (wordsOf 2 (bigEndian (part q (at + 1) 4)) 0) (at + 5))
+      → Reads q at (blamed at (stepBy form q 2 at)) (Next (wordsOf 2 (bigEndian (part q (at + 1) 4)) 0) (at + 5))
   unfolding stepBy stepOf countAt wordsAt bytesAt
   index-got two h b =
       let n = bigEndian (part q (at + 1) 4) in
-      let s : countAt q (at + 1) ≡ got n = rw (number-got q 4 (at + 1) (omega arith), lt-ltb n (2 ^ 31) b) in
+      let s : countAt (asks form) q (at + 1) ≡ got n = rw (number-got (asks form) q 4 (at + 1) (omega arith), lt-ltb n (2 ^ 31) b) in
       record {
         is = rw s;
         goes = next-goes (wordsOf 2 n 0) (at + 5)
@@ -106,11 +107,11 @@ module _ (q : List ℕ) (at : ℕ) where
 
   module _ (in-q : at < length q) where
     -- It is that of its first byte.
-    by-kind : (k : ℕ) → getD q at 0 ≡ k → stepAt q at ≡ blamed at (stepBy q k at)
+    by-kind : (k : ℕ) → getD q at 0 ≡ k → stepAt form q at ≡ blamed at (stepBy form q k at)
     unfolding stepAt
     by-kind k e = rw (byte-got q at in-q, e)
 
-    pub kind-is : (k : ℕ) (r : One) → getD q at 0 ≡ k → Reads q at (blamed at (stepBy q k at)) r → Reads q at (stepAt q at) r
+    pub kind-is : (k : ℕ) (r : One) → getD q at 0 ≡ k → Reads q at (blamed at (stepBy form q k at)) r → Reads q at (stepAt form q at) r
     kind-is k r e s = record { is = s .is ∙ sym (by-kind k e); goes = s .goes }
 
     -- 03 and 04 are a byte.
@@ -124,17 +125,17 @@ module _ (q : List ℕ) (at : ℕ) where
       name = λ (e : getD q at 0 ≡ 1). absurd (n e);
     })
 
-    pub any-is : getD q at 0 ≡ 3 → Reads q at (stepAt q at) (Next (wordsOf (getD q at 0) 0 0) (at + 1))
+    pub any-is : getD q at 0 ≡ 3 → Reads q at (stepAt form q at) (Next (wordsOf (getD q at 0) 0 0) (at + 1))
     unfolding stepBy stepOf
     any-is e = record { is = rw e (sym (by-kind 3 e)); goes = plain-goes (λ f. omega arith) (λ f. omega arith) }
 
-    pub deep-is : getD q at 0 ≡ 4 → Reads q at (stepAt q at) (Next (wordsOf (getD q at 0) 0 0) (at + 1))
+    pub deep-is : getD q at 0 ≡ 4 → Reads q at (stepAt form q at) (Next (wordsOf (getD q at 0) 0 0) (at + 1))
     unfolding stepBy stepOf
     deep-is e = record { is = rw e (sym (by-kind 4 e)); goes = plain-goes (λ f. omega arith) (λ f. omega arith) }
 
     -- Any other byte is no step.
-    pub none-is : (getD q at 0 ≡ 1 → ⊥) → (getD q at 0 ≡ 2 → ⊥) → (getD q at 0 ≡ 3 → ⊥) → (getD q at 0 ≡ 4 → ⊥) → Reads q at (stepAt q at) Bad
+    pub none-is : (getD q at 0 ≡ 1 → ⊥) → (getD q at 0 ≡ 2 → ⊥) → (getD q at 0 ≡ 3 → ⊥) → (getD q at 0 ≡ 4 → ⊥) → Reads q at (stepAt form q at) Bad
     unfolding stepBy
     none-is a b c d =
-        bad-is (stepAt q at)
+        bad-is (stepAt form q at)
         (sym (by-kind (getD q at 0) refl ∙ rw (stepBy, ne-eqb (getD q at 0) 1 a, ne-eqb (getD q at 0) 2 b, ne-eqb (getD q at 0) 3 c, ne-eqb (getD q at 0) 4 d)))

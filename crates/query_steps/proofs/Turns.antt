@@ -11,6 +11,7 @@ use lib.ListN.{length, getD, set, replicate, length-set, length-replicate}
 use lib.Seq.{getD-set-same, getD-set-other}
 use borrow.Author.Tests.{lt-ltb, le-ltb}
 use lib.Dec.{ltb}
+use Rattle.form.specs.Form.{Form}
 use Rattle.form.specs.Answer.{Out, got, no as refusal, _>>=_, pick, badQuery}
 use Rattle.form.proofs.Picks.{lt-or}
 use Rattle.form.specs.Paths.{Step}
@@ -45,56 +46,56 @@ none-held (suc n) (suc k) = none-held n k
 
 -- What the loop keeps: the steps so far, before what the definition says of the rest, are the whole; the array holds them, and behind them
 -- none. A step is at most 65,538 bytes, so the place fits a word.
-pub record Turn (q : List ℕ) (query : Query) (i : ℕ) : Type 0 where
+pub record Turn (form : Form) (q : List ℕ) (query : Query) (i : ℕ) : Type 0 where
   pub long : length (query .steps) ≡ 16
   pub few : query .count ≤ 16
   pub far : i ≤ query .count * 65538
   pub place : i ≡ placeOf q (query .count)
   pub held : (k : ℕ) → getD (query .steps) k noStep ≡ heldAt q (query .count) k
   pub names : (k : ℕ) → k < query .count → NameIn q (getD (query .steps) k noStep)
-  pub spells : spelt q ≡ before (span (stepNo q query) 0 (query .count)) (stepsAt q (16 - query .count) i)
+  pub spells : spelt form q ≡ before (span (stepNo q query) 0 (query .count)) (stepsAt form q (16 - query .count) i)
 
 -- Where it begins.
-pub turn-none : (q : List ℕ) (query : Query) → query .steps ≡ replicate 16 noStep → query .count ≡ 0 → Turn q query 0
+pub turn-none : (form : Form) (q : List ℕ) (query : Query) → query .steps ≡ replicate 16 noStep → query .count ≡ 0 → Turn form q query 0
 unfolding spelt span placeOf
-turn-none q query l e = record {
+turn-none form q query l e = record {
   long = ap length l ∙ length-replicate 16 noStep;
   few = omega arith;
   far = omega arith;
   place = rw e refl;
   held = λ k. rw (l, e, none-held 16 k, le-ltb k 0 (omega arith)) refl;
   names = λ k h. absurd (let z : k < 0 = omega arith in omega arith);
-  spells = rw e (before-nil (stepsAt q 16 0));
+  spells = rw e (before-nil (stepsAt form q 16 0));
 }
 
 -- The query with one step more.
 abbrev pub push : Query → StepWords → Query
 push query t = record { steps = set (query .steps) (query .count) t; count = query .count + 1 }
 
-module _ (q : List ℕ) (query : Query) (i : ℕ) (turn : Turn q query i) (lt : i < length q) where
+module _ (form : Form) (q : List ℕ) (query : Query) (i : ℕ) (turn : Turn form q query i) (lt : i < length q) where
   -- The whole, by what is left.
-  left : {o : Out (List Step)} → stepsAt q (16 - query .count) i ≡ o → spelt q ≡ before (span (stepNo q query) 0 (query .count)) o
+  left : {o : Out (List Step)} → stepsAt form q (16 - query .count) i ≡ o → spelt form q ≡ before (span (stepNo q query) 0 (query .count)) o
   left e = turn .spells ∙ ap (before (span (stepNo q query) 0 (query .count))) e
 
   -- What is left where a step follows, and where it is refused.
-  left-more : query .count < 16 → (t : StepWords) (j : ℕ) → got (record { step = stepOf q t; next = j }) ≡ stepAt q i
-      → stepsAt q (16 - query .count) i ≡ before (stepOf q t ∷ []) (stepsAt q (16 - (query .count + 1)) j)
+  left-more : query .count < 16 → (t : StepWords) (j : ℕ) → got (record { step = stepOf q t; next = j }) ≡ stepAt form q i
+      → stepsAt form q (16 - query .count) i ≡ before (stepOf q t ∷ []) (stepsAt form q (16 - (query .count + 1)) j)
   unfolding stepsAt
   left-more h t j e =
       let a : 16 - query .count ≡ suc (16 - (query .count + 1)) = omega arith in
-      rw (a, stepsAt, lt-ltb i (length q) lt, ← e) (go (stepsAt q (16 - (query .count + 1)) j))
+      rw (a, stepsAt, lt-ltb i (length q) lt, ← e) (go (stepsAt form q (16 - (query .count + 1)) j))
     where
       go : (o : Out (List Step)) → (o >>= (λ rest. got (stepOf q t ∷ rest))) ≡ before (stepOf q t ∷ []) o
       go (got l) = refl
       go (refusal n p) = refl
 
-  left-bad : query .count < 16 → refusal badQuery i ≡ stepAt q i → stepsAt q (16 - query .count) i ≡ refusal badQuery i
+  left-bad : query .count < 16 → refusal badQuery i ≡ stepAt form q i → stepsAt form q (16 - query .count) i ≡ refusal badQuery i
   unfolding stepsAt
   left-bad h e =
       let a : 16 - query .count ≡ suc (16 - (query .count + 1)) = omega arith in
       rw (a, stepsAt, lt-ltb i (length q) lt, ← e)
 
-  left-many : 16 ≤ query .count → stepsAt q (16 - query .count) i ≡ refusal badQuery i
+  left-many : 16 ≤ query .count → stepsAt form q (16 - query .count) i ≡ refusal badQuery i
   unfolding stepsAt
   left-many h = let a : 16 - query .count ≡ 0 = omega arith in rw (a, stepsAt, lt-ltb i (length q) lt)
 
@@ -113,13 +114,13 @@ module _ (q : List ℕ) (query : Query) (i : ℕ) (turn : Turn q query i) (lt : 
   next = let a : query .count + 1 ≡ suc (query .count) = omega arith in rw a (ap (λ (k : ℕ). k + bytesAt q k) (turn .place))
 
   -- A turn.
-  pub turn-more : query .count < 16 → (r : One) (t : StepWords) (j : ℕ) → Reads q i (stepAt q i) r → r ≡ Next t j → Turn q (push query t) j
+  pub turn-more : query .count < 16 → (r : One) (t : StepWords) (j : ℕ) → Reads q i (stepAt form q i) r → r ≡ Next t j → Turn form q (push query t) j
   turn-more h r t j s e =
       let g = s .goes t j e in
       let few = turn .few in
       let far = turn .far in
       let near = g .near in
-      let x : got (record { step = stepOf q t; next = j }) ≡ stepAt q i = ap (oneOut q i) (sym e) ∙ s .is in
+      let x : got (record { step = stepOf q t; next = j }) ≡ stepAt form q i = ap (oneOut q i) (sym e) ∙ s .is in
       record {
         long = length-set (query .steps) (query .count) t ∙ turn .long;
         few = omega arith;
@@ -128,7 +129,7 @@ module _ (q : List ℕ) (query : Query) (i : ℕ) (turn : Turn q query i) (lt : 
         held = λ k. keeps g k (ℕ-discrete k (query .count));
         names = λ k lt′. go g k lt′ (ℕ-discrete k (query .count));
         spells =
-            let rest = stepsAt q (16 - (query .count + 1)) j in
+            let rest = stepsAt form q (16 - (query .count + 1)) j in
             left (left-more h t j x) ∙ before-before _ _ rest ∙ ap (λ l. before l rest) (sym (span-push h t));
       }
     where
@@ -152,14 +153,14 @@ module _ (q : List ℕ) (query : Query) (i : ℕ) (turn : Turn q query i) (lt : 
       go g k lt′ (no p) = rw (getD-set-other (query .steps) (query .count) k t noStep p) (turn .names k (omega arith))
 
   -- The turn goes on in the query's bytes.
-  pub turn-after : (r : One) (t : StepWords) (j : ℕ) → Reads q i (stepAt q i) r → r ≡ Next t j → i < j
+  pub turn-after : (r : One) (t : StepWords) (j : ℕ) → Reads q i (stepAt form q i) r → r ≡ Next t j → i < j
   turn-after r t j s e = s .goes t j e .after
 
   -- An answer of refusal 14 there.
   abbrev pub Refuses : Taken → Type 0
   Refuses r = r ≡ refusedAt i
 
-  refuses : (r : Taken) → Refuses r → refusal badQuery i ≡ spelt q → TakenIs q r
+  refuses : (r : Taken) → Refuses r → refusal badQuery i ≡ spelt form q → TakenIs form q r
   refuses r s e =
       let c : r .query .count ≡ 0 = ap (λ (x : Taken). x .query .count) s in
       record {
@@ -169,37 +170,37 @@ module _ (q : List ℕ) (query : Query) (i : ℕ) (turn : Turn q query i) (lt : 
       }
 
   -- A step that can't be read.
-  pub turn-bad : query .count < 16 → (o : One) → Reads q i (stepAt q i) o → o ≡ Bad → (r : Taken) → Refuses r → TakenIs q r
+  pub turn-bad : query .count < 16 → (o : One) → Reads q i (stepAt form q i) o → o ≡ Bad → (r : Taken) → Refuses r → TakenIs form q r
   turn-bad h o s e r f =
-      let x : refusal badQuery i ≡ stepAt q i = ap (oneOut q i) (sym e) ∙ s .is in
+      let x : refusal badQuery i ≡ stepAt form q i = ap (oneOut q i) (sym e) ∙ s .is in
       refuses r f (sym (left (left-bad h x)))
 
   -- A seventeenth step.
-  pub turn-many : 16 ≤ query .count → (r : Taken) → Refuses r → TakenIs q r
+  pub turn-many : 16 ≤ query .count → (r : Taken) → Refuses r → TakenIs form q r
   turn-many h r f = refuses r f (sym (left (left-many h)))
 
-left-end : (n : ℕ) (q : List ℕ) (i : ℕ) → length q ≤ i → stepsAt q n i ≡ got []
+left-end : (form : Form) (n : ℕ) (q : List ℕ) (i : ℕ) → length q ≤ i → stepsAt form q n i ≡ got []
 unfolding stepsAt
-left-end zero q i h = rw (stepsAt, le-ltb i (length q) h)
-left-end (suc n) q i h = rw (stepsAt, le-ltb i (length q) h)
+left-end form zero q i h = rw (stepsAt, le-ltb i (length q) h)
+left-end form (suc n) q i h = rw (stepsAt, le-ltb i (length q) h)
 
 -- The answer of so many steps.
 abbrev taken-steps : List ℕ → ℕ → Taken
 taken-steps q n = record { ok = true; place = 0; query = record { steps = span (heldAt q n) 0 16; count = n } }
 
-held-all : (q : List ℕ) (query : Query) (i : ℕ) → Turn q query i → _≡_ {A = Taken} (record { ok = true; place = 0; query = query }) (taken-steps q (query .count))
-held-all q query i turn =
+held-all : (form : Form) (q : List ℕ) (query : Query) (i : ℕ) → Turn form q query i → _≡_ {A = Taken} (record { ok = true; place = 0; query = query }) (taken-steps q (query .count))
+held-all form q query i turn =
     ap (λ (l : List StepWords). record { ok = true; place = 0; query = record { steps = l; count = query .count } })
     (span-is (heldAt q (query .count)) noStep (query .steps) 0 16 (turn .long) (λ k h. let z : 0 + k ≡ k = omega arith in rw z (turn .held k)))
 
 -- The end of the bytes.
-pub turn-last : (q : List ℕ) (query : Query) (i : ℕ) → Turn q query i → length q ≤ i → TakenIs q (record { ok = true; place = 0; query = query })
-turn-last q query i turn h =
+pub turn-last : (form : Form) (q : List ℕ) (query : Query) (i : ℕ) → Turn form q query i → length q ≤ i → TakenIs form q (record { ok = true; place = 0; query = query })
+turn-last form q query i turn h =
     let z : query .count - 0 ≡ query .count = omega arith in
     let steps = span (stepNo q query) 0 (query .count) in
-    let all : spelt q ≡ got steps = turn .spells ∙ ap (before steps) (left-end (16 - query .count) q i h) ∙ ap got (append-nil steps) in
+    let all : spelt form q ≡ got steps = turn .spells ∙ ap (before steps) (left-end form (16 - query .count) q i h) ∙ ap got (append-nil steps) in
     record {
-      whole = held-all q query i turn ∙ ap (λ (n : ℕ). taken-steps q n) (sym (span-length (stepNo q query) 0 (query .count))) ∙ ap (takenBy q) (sym all);
+      whole = held-all form q query i turn ∙ ap (λ (n : ℕ). taken-steps q n) (sym (span-length (stepNo q query) 0 (query .count))) ∙ ap (takenBy q) (sym all);
       is = rw z (sym all);
       safe = record { few = turn .few; names = turn .names };
     }

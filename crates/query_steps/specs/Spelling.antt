@@ -6,6 +6,7 @@ use mathlib.Core.List.{List}
 use mathlib.Core.Bool.{true, false}
 use lib.Dec.{ltb, eqb}
 use lib.ListN.{length, getD, replicate}
+use Rattle.form.specs.Form.{Form}
 use Rattle.form.specs.Answer.{Out, got, no, pick, badQuery, stepLimit}
 use Rattle.form.specs.Spans.{part}
 use Rattle.form.specs.Numbers.{bigEndian}
@@ -73,7 +74,7 @@ takenBy q (got ss) = record { ok = true; place = 0; query = record { steps = spa
 takenBy q (no n p) = refusedAt p
 
 -- The promise of taking a query apart: the answer; that its steps are those of rule 9; and that their names lie in the query's bytes.
-pub record TakenIs (q : List ℕ) (r : Taken) : Type 0 where
-  pub whole : r ≡ takenBy q (spelt q)
-  pub is : takenOut q r ≡ spelt q
+pub record TakenIs (form : Form) (q : List ℕ) (r : Taken) : Type 0 where
+  pub whole : r ≡ takenBy q (spelt form q)
+  pub is : takenOut q r ≡ spelt form q
   pub safe : QueryIn q (r .query)

@@ -2,6 +2,7 @@
 ghost use mathlib.Core.Path.{_≡_};
 ghost use Prim.Native.Nat.{_≤_, _<_};
 ghost use lib.ListN.{length, getD};
+ghost use Rattle.form.specs.Form.{Form, formNo};
 ghost use Rattle.form.specs.Query.{blamed, stepBy, stepAt};
 ghost use Rattle.query_steps.specs.Spelling.{noQuery, refusedAt, Reads, TakenIs};
 
@@ -44,9 +45,9 @@ enum One {
 // ---- the query taken apart
 
 // 01 and a string.
-fn name_step(q: &[u8], at: usize) -> One
+fn name_step(q: &[u8], at: usize, form: u32) -> One
     requires { ⌜ (at < length (now q)) × (at ≤ 1048608) × (getD (now q) at 0 ≡ 1) ⌝ }
-    ensures { λ r. ⌜ Reads (now (q .entry)) at (blamed at (stepBy (now (q .entry)) 1 at)) r ⌝ }
+    ensures { λ r. ⌜ Reads (now (q .entry)) at (blamed at (stepBy (formNo form) (now (q .entry)) 1 at)) r ⌝ }
 {
     if q.len() - at < 3 {
         return One::Bad;
@@ -57,7 +58,7 @@ fn name_step(q: &[u8], at: usize) -> One
         return One::Bad;
     }
     let end = start + size;
-    if !mutf8::is_well_formed(&q[start..end]) {
+    if !mutf8::is_well_formed(&q[start..end], form) {
         return One::Bad;
     }
     let step = Step {
@@ -71,7 +72,7 @@ fn name_step(q: &[u8], at: usize) -> One
 // 02 and an i32 that is not below 0.
 fn index_step(q: &[u8], at: usize) -> One
     requires { ⌜ (at < length (now q)) × (at ≤ 1048608) × (getD (now q) at 0 ≡ 2) ⌝ }
-    ensures { λ r. ⌜ Reads (now (q .entry)) at (blamed at (stepBy (now (q .entry)) 2 at)) r ⌝ }
+    ensures { λ r. ⌜ ((f : Form) → Reads (now (q .entry)) at (blamed at (stepBy f (now (q .entry)) 2 at)) r) ⌝ }
 {
     if q.len() - at < 5 {
         return One::Bad;
@@ -89,13 +90,13 @@ fn index_step(q: &[u8], at: usize) -> One
 }
 
 // The step at a place.
-fn one_step(q: &[u8], at: usize) -> One
+fn one_step(q: &[u8], at: usize, form: u32) -> One
     requires { ⌜ (at < length (now q)) × (at ≤ 1048608) ⌝ }
-    ensures { λ r. ⌜ Reads (now (q .entry)) at (stepAt (now (q .entry)) at) r ⌝ }
+    ensures { λ r. ⌜ Reads (now (q .entry)) at (stepAt (formNo form) (now (q .entry)) at) r ⌝ }
 {
     let kind = q[at];
     if kind == NAME {
-        return name_step(q, at);
+        return name_step(q, at, form);
     }
     if kind == INDEX {
         return index_step(q, at);
@@ -141,8 +142,8 @@ fn refused(place: usize) -> Taken
 }
 
 // The query that some bytes spell. A step that can't be read, and a seventeenth whatever it is, are refusal 14 at its first byte.
-pub fn take_apart(q: &[u8]) -> Taken
-    ensures { λ r. ⌜ TakenIs (now (q .entry)) r ⌝ }
+pub fn take_apart(q: &[u8], form: u32) -> Taken
+    ensures { λ r. ⌜ TakenIs (formNo form) (now (q .entry)) r ⌝ }
 {
     let none = Step {
         kind: 0,
@@ -159,7 +160,7 @@ pub fn take_apart(q: &[u8]) -> Taken
         if form::STEPS <= count {
             return refused(at);
         }
-        match one_step(q, at) {
+        match one_step(q, at, form) {
             One::Next(step, next) => {
                 query.steps[count] = step;
                 query.count = count + 1;

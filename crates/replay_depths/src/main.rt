@@ -25,7 +25,7 @@ fn print_answer(answer: Answer) {
 // The answer to the first n bytes as a document.
 fn print_document(doc: &[u8], n: usize, table: &mut [u32]) {
     if n <= doc.len() {
-        print_answer(nbt_reader::read(&doc[..n], table));
+        print_answer(nbt_reader::read(&doc[..n], table, form::forms::JAVA));
     }
 }
 

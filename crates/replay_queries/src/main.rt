@@ -42,7 +42,7 @@ fn print_words(words: &[u32]) {
 
 // The answer to a query, and what it left.
 fn print_answers(doc: &[u8], table: &[u32], q: &[u8], list: &mut [u32]) {
-    print_found(query::query(doc, table, q, list));
+    print_found(query::query(doc, table, q, list, form::forms::JAVA));
     print_words(list);
     io::write_all(1, b"\n");
 }

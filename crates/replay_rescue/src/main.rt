@@ -33,7 +33,7 @@ fn print_answer(answer: Answer) {
 
 // The answer to a document, and what the rescue left.
 fn print_answers(doc: &[u8], table: &mut [u32], out: &mut [u8], changes: &mut [u32]) {
-    print_answer(nbt_rescue::rescue(doc, table, out, changes));
+    print_answer(nbt_rescue::rescue(doc, table, out, changes, form::forms::JAVA));
     lines::print_bytes(out);
     io::write_all(1, b";");
     lines::print_words(changes);

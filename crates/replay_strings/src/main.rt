@@ -107,7 +107,7 @@ fn print_converted(s: &[u8], out: &mut [u8]) {
 // The answers to the first n bytes.
 fn print_answers(bytes: &[u8], n: usize, out: &mut [u8]) {
     if n <= bytes.len() {
-        print_verdict(mutf8::check(&bytes[..n]));
+        print_verdict(mutf8::check(&bytes[..n], form::forms::JAVA));
         print_verdict(mutf8::check_utf8(&bytes[..n]));
         print_converted(&bytes[..n], out);
     }

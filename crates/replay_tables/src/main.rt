@@ -60,7 +60,7 @@ fn changed(bytes: &[u8], table: &[u32]) -> bool {
 // The answers to a table, and what the write left.
 fn print_answers(doc: &[u8], bytes: &[u8], table: &mut [u32], out: &mut [u8]) {
     print_verdict(table::is_table(doc.len(), table));
-    print_answer(nbt_writer::write(doc, table, out));
+    print_answer(nbt_writer::write(doc, table, out, form::forms::JAVA));
     lines::print_bytes(out);
     if changed(bytes, table) {
         io::write_all(1, b" changed");

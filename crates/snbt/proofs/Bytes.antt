@@ -10,7 +10,7 @@ use Rattle.form.specs.Numbers.{bytesOf}
 use Rattle.form.specs.Spans.{over}
 use Rattle.form.specs.Tree as tree
 use Rattle.form.specs.Tree.{Tag, Tags, Entries, nil, more, ended, entry, kindOf, many}
-use Rattle.form.specs.Layout.{payload, elementBytes, entryBytes, stringBytes}
+use Rattle.form.specs.Layout.{payload, elementBytes, entryBytes, stringBytes, elementBytesIn, entryBytesIn, payloadIn}
 use Rattle.form.proofs.Digits.{digits-length}
 use Rattle.form.proofs.Table.{over-over, over-before}
 use Rattle.snbt_entries.specs.Entries.{Entered, stops, enters}
@@ -38,12 +38,12 @@ many-then nil b = omega arith
 many-then (more t a) b = omega (arith, many-then a b)
 
 pub bytes-then : (a b : Tags) → elementBytes (_then_ a b) ≡ elementBytes a ++ elementBytes b
-unfolding _then_ elementBytes
+unfolding _then_ elementBytesIn
 bytes-then nil b = refl
 bytes-then (more t a) b = ap (λ l. payload t ++ l) (bytes-then a b) ∙ sym (append-assoc (payload t) (elementBytes a) (elementBytes b))
 
 pub bytes-one : (t : Tag) → elementBytes (more t nil) ≡ payload t
-unfolding elementBytes
+unfolding elementBytesIn
 bytes-one t = append-nil (payload t)
 
 -- ---- entries behind entries
@@ -73,7 +73,7 @@ laid-before (entry n t a) e =
     ∙ ap (λ l. kindOf t ∷ l) (sym (append-assoc (stringBytes n) (payload t ++ laid a) (enteredBytes e)))
 
 pub laid-ended : (a : Entries) → entryBytes (_and_ a ended) ≡ laid a ++ (0 ∷ [])
-unfolding _and_ laid entryBytes
+unfolding _and_ laid entryBytesIn
 laid-ended ended = refl
 laid-ended (entry n t a) =
     ap (λ l. kindOf t ∷ (stringBytes n ++ (payload t ++ l))) (laid-ended a)
@@ -90,7 +90,7 @@ name-size s = length-append (bytesOf 2 (length s)) s ∙ ap (λ n. n + length s)
 pub list-over : (o o₁ o₂ o₃ : List ℕ) (at used kind count : ℕ) (t : Tag) (ts : Tags) → at + 5 + length (payload t) ≤ length o
     → o₁ ≡ over o (at + 5) (payload t) → used ≡ at + 5 + length (payload t) → o₂ ≡ over o₁ used (elementBytes ts)
     → kind ≡ kindOf t → count ≡ many ts → o₃ ≡ over o₂ at (kind ∷ bytesOf 4 (count + 1)) → o₃ ≡ over o at (payload (tree.list (more t ts)))
-unfolding payload elementBytes many
+unfolding payloadIn elementBytesIn many
 list-over o o₁ o₂ o₃ at used kind count t ts fits e₁ u e₂ k n e₃ =
     let head = kind ∷ bytesOf 4 (count + 1) in
     let rest = payload t ++ elementBytes ts in
@@ -128,7 +128,7 @@ unfolding kindOf
 compound-kind es = refl
 
 pub list-size : (tag : Tag) (ts : Tags) → length (payload (tree.list (more tag ts))) ≡ 5 + (length (payload tag) + length (elementBytes ts))
-unfolding payload elementBytes many
+unfolding payloadIn elementBytesIn many
 list-size tag ts =
     let n = 1 + many ts in
     omega (arith, length-append (kindOf tag ∷ bytesOf 4 n) (payload tag ++ elementBytes ts), digits-length 4 n, length-append (payload tag) (elementBytes ts))
@@ -137,5 +137,5 @@ pub entry-size : (s : List ℕ) (tag : Tag) → length (kindOf tag ∷ stringByt
 entry-size s tag = omega (arith, length-append (stringBytes s) (payload tag), name-size s)
 
 pub compound-bytes : (es : Entries) → payload (tree.compound es) ≡ entryBytes es
-unfolding payload
+unfolding payloadIn
 compound-bytes es = refl

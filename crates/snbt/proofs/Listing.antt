@@ -10,7 +10,7 @@ use Rattle.form.specs.Numbers.{bytesOf}
 use Rattle.form.specs.Spans.{over}
 use Rattle.form.specs.Tree as tree
 use Rattle.form.specs.Tree.{Tag, Tags, nil, more, many}
-use Rattle.form.specs.Layout.{payload, elementBytes}
+use Rattle.form.specs.Layout.{payload, elementBytes, elementBytesIn}
 use Rattle.form.proofs.Table.{over-none, over-length, over-over}
 use Rattle.snbt_form.specs.Lexing.{first, later}
 use Rattle.snbt_form.specs.Text.{Value, Row, Reads, arrayAt, elementsBy, squareAt, valueAt}
@@ -133,7 +133,7 @@ pub record Listing (t o₀ k₀ : List ℕ) (kind start at top left : ℕ) (o k 
   pub few : count ≤ place
 
 no-bytes : elementBytes nil ≡ []
-unfolding elementBytes
+unfolding elementBytesIn
 no-bytes = refl
 
 no-many : many nil ≡ 0

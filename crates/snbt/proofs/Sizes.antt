@@ -13,7 +13,7 @@ use Rattle.form.specs.Answer.{Out, got, no, _>>=_, _>>_, outputFull, unmatchedB
 use Rattle.form.specs.Numbers.{bytesOf, bitsOf}
 use Rattle.form.specs.Tree as tree
 use Rattle.form.specs.Tree.{Tag, kindOf}
-use Rattle.form.specs.Layout.{payload}
+use Rattle.form.specs.Layout.{payload, payloadIn}
 use Rattle.form.proofs.Digits.{digits-length}
 use Rattle.snbt_form.specs.Values.{toSingle}
 use Rattle.snbt_form.specs.Numbers.{Number, byte, short, int, long, float, double}
@@ -34,7 +34,7 @@ module _ (i n : ℕ) (h : i < n) (p : ℕ) where
   bytes-size w v l = omega (arith, digits-length w v)
 
   number-size : (m : Number) → Holds (Small i n) (numberTag m p)
-  unfolding payload
+  unfolding payloadIn
   number-size (byte z) = guard-any (Small i n) (inRange 1 z) 19 p (got (tree.byte z)) (bytes-size 1 (bitsOf 1 z) (omega arith))
   number-size (short z) = guard-any (Small i n) (inRange 2 z) 19 p (got (tree.short z)) (bytes-size 2 (bitsOf 2 z) (omega arith))
   number-size (int z) = guard-any (Small i n) (inRange 4 z) 19 p (got (tree.int z)) (bytes-size 4 (bitsOf 4 z) (omega arith))
@@ -43,7 +43,7 @@ module _ (i n : ℕ) (h : i < n) (p : ℕ) where
   number-size (double x) = bytes-size 8 (toBits binary64 x) (omega arith)
 
   string-payload : (s : List ℕ) → Short i n s → Small i n (tree.string s)
-  unfolding payload
+  unfolding payloadIn
   string-payload s z = omega (arith, length-append (bytesOf 2 (length s)) s, digits-length 2 (length s), z .1)
 
   tag-size : (t : List ℕ) (room : ℕ) (tok : Token) → InToken tok i n → Holds (Small i n) (scalarTag t room tok p)

@@ -14,7 +14,7 @@ use Rattle.form.specs.Answer.{Out, got, no, unexpectedToken, textEnds, depthLim
 use Rattle.form.specs.Numbers.{digits}
 use Rattle.form.specs.Spans.{over}
 use Rattle.form.specs.Tree as tree
-use Rattle.form.specs.Layout.{payload, entryBytes, layout}
+use Rattle.form.specs.Layout.{payload, entryBytes, layout, layoutIn}
 use Rattle.form.proofs.Answer.{got-no}
 use Rattle.form.proofs.Picks.{lt-or}
 use Rattle.form.proofs.Table.{over-before}
@@ -63,7 +63,7 @@ pub not-curly : (k : Token) → OneOf allButCurly (tagOf k) → eqb (signOf (tok
 not-curly k = other-sign 123 k allButCurly (search refl)
 
 layout-is : (b : Block) → layout (documentOf b) ≡ (10 ∷ 0 ∷ 0 ∷ []) ++ entryBytes (b .entries)
-unfolding layout digits
+unfolding layoutIn digits
 layout-is b = refl
 
 -- The root's compound, behind its `{` at `brace`.

@@ -13,7 +13,7 @@ use Rattle.form.specs.Answer.{Out, got, no, _>>=_, outputFull}
 use Rattle.form.specs.Numbers.{bytesOf, bitsOf}
 use Rattle.form.specs.Spans.{over}
 use Rattle.form.specs.Tree.{kindOf}
-use Rattle.form.specs.Layout.{payload, intBytes, intsBytes, arrayBytes}
+use Rattle.form.specs.Layout.{payload, intBytes, intsBytes, arrayBytes, intsBytesIn, payloadIn}
 use Rattle.form.proofs.Digits.{digits-length}
 use Rattle.form.proofs.Table.{over-none, over-length, over-over, over-before}
 use Rattle.snbt_form.specs.Text.{Ints, Last, otherwise, afterComma, arrayTag, intsBy, arrayAt}
@@ -37,7 +37,7 @@ behind-more (no n p) zs z = refl
 
 -- The bytes of one element more.
 ints-more : (w : ℕ) (zs : List ℤ) (z : ℤ) → intsBytes w (zs ++ (z ∷ [])) ≡ intsBytes w zs ++ intBytes w z
-unfolding intsBytes
+unfolding intsBytesIn
 ints-more w [] z = append-nil (intBytes w z)
 ints-more w (y ∷ zs) z = ap (λ (l : List ℕ). intBytes w y ++ l) (ints-more w zs z) ∙ sym (append-assoc (intBytes w y) (intsBytes w zs) (intBytes w z))
 
@@ -45,12 +45,12 @@ ints-longer : (w : ℕ) (zs : List ℤ) (z : ℤ) → length (intsBytes w (zs ++
 ints-longer w zs z = ap length (ints-more w zs z) ∙ length-append (intsBytes w zs) (intBytes w z) ∙ ap (λ (n : ℕ). length (intsBytes w zs) + n) (digits-length w (bitsOf w z))
 
 ints-none : (w : ℕ) → intsBytes w [] ≡ []
-unfolding intsBytes
+unfolding intsBytesIn
 ints-none w = refl
 
 -- An array's payload.
 array-payload : {w : ℕ} → Wide w → (vs : List ℤ) → payload (arrayTag w vs) ≡ arrayBytes w vs
-unfolding payload
+unfolding payloadIn
 array-payload bytes vs = refl
 array-payload ints vs = refl
 array-payload longs vs = refl

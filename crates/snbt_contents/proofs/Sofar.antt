@@ -31,7 +31,7 @@ use Rattle.snbt_contents.specs.Puts.{Ready, PutIs, Verbatim}
 use Rattle.snbt_quotes.proofs.Parts.{part-none, part-first, part-cons, part-drop}
 use Rattle.snbt_quotes.proofs.Walks.{once}
 use Rattle.snbt_quotes.proofs.Backslashes.{EscapeFits, escape-fits}
-use Rattle.plain.proofs.Plains.{short-is}
+use Rattle.plain.proofs.Plains.{part-is}
 
 -- ---- how long a scalar value is
 
@@ -213,9 +213,9 @@ module _ (t : List ℕ) (quoted : Bool) (start e : ℕ) where
       go (no n p) q = let z : _≡_ {A = ℕ} 0 1 = cc in absurd (omega arith)
 
 -- a short span that is plain is its own content
-pub verbatim : (t : List ℕ) (start e : ℕ) → start ≤ e → e ≤ length t → shortPlain 92 t start e ≡ true → Verbatim t start e
+pub verbatim : (t : List ℕ) (start e : ℕ) → start ≤ e → e ≤ length t → shortPlain 92 (part t start (e - start)) ≡ true → Verbatim t start e
 verbatim t start e h k s =
-    let w = short-is 92 t start e h s in
+    let w = part-is 92 t start e h k s in
     record {
       short = omega (arith, w .0);
       is = λ quoted.

@@ -55,7 +55,7 @@ fn put_key(
     requires { ⌜ (start ≤ end) × (end ≤ length (now text)) × KeyRoom (length (now text)) (length (now buffer)) ⌝ }
     ensures { λ r. ⌜ ((room : ℕ) → KeyAgrees (stringOf (now (text .entry)) room quoted start end (index .0)) (now (buffer .entry)) r (now (buffer .exit))) ⌝ }
 {
-    if plain::is_plain(92, text, start, end) {
+    if plain::is_plain(92, &text[start..end]) {
         let size = end - start;
         slices::copy(text, start, size, buffer, 0);
         return KeyText::Is { bytes: size };

@@ -9,7 +9,7 @@ use Rattle.form.specs.Answer.{got}
 use Rattle.form.specs.Numbers.{bytesOf}
 use Rattle.form.specs.Spans.{over}
 use Rattle.form.specs.Tree.{kindOf, many}
-use Rattle.form.specs.Layout.{payload, elementBytes}
+use Rattle.form.specs.Layout.{elementBytesIn, payloadIn}
 use Rattle.form.proofs.Digits.{digits-length}
 use Rattle.form.proofs.Table.{sets-over, over-over}
 use Rattle.snbt_placing.specs.Done.{Did}
@@ -23,7 +23,7 @@ head-over o o′ at k ws h e =
 
 -- The head of no elements is the whole payload.
 pub empty-did : (o o′ : List ℕ) (at next : ℕ) → at + 5 ≤ length o → o′ ≡ over o at (0 ∷ bytesOf 4 0) → Did (got (emptyAt next at)) o at next (at + 5) 9 o′
-unfolding payload elementBytes kindOf many
+unfolding payloadIn elementBytesIn kindOf many
 empty-did o o′ at next h e = record {
   value = emptyAt next at;
   same = refl;

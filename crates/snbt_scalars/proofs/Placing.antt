@@ -14,7 +14,7 @@ use Rattle.form.specs.Numbers.{digits, bytesOf, bitsOf}
 use Rattle.form.specs.Spans.{part, over}
 use Rattle.form.specs.Tree as tree
 use Rattle.form.specs.Tree.{Tag, kindOf}
-use Rattle.form.specs.Layout.{payload, intBytes, stringBytes}
+use Rattle.form.specs.Layout.{payload, intBytes, stringBytes, payloadIn}
 use Rattle.form.proofs.Answer.{got-no}
 use Rattle.form.proofs.Digits.{digits-length, digits-narrow}
 use Rattle.form.proofs.Spans.{part-length}
@@ -99,7 +99,7 @@ whole-bytes w v v′ bits h l e b =
 
 -- Its payload: its length, then its content.
 string-payload : (s : List ℕ) → payload (tree.string s) ≡ stringBytes s
-unfolding payload
+unfolding payloadIn
 string-payload s = refl
 
 string-kind : (s : List ℕ) → kindOf (tree.string s) ≡ 8

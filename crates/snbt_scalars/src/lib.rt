@@ -148,7 +148,7 @@ fn put_string(
     ensures { λ r. ⌜ Puts (stringPlaced (now (text .entry)) quoted start end (length (now (out .entry))) (target .want) (target .index .0) (target .next) (target .at))
         (now (out .entry)) (target .at) r (now (out .exit)) ⌝ }
 {
-    if plain::is_plain(92, text, start, end) {
+    if plain::is_plain(92, &text[start..end]) {
         return put_plain(text, start, end, target, out);
     }
     put_measured(text, quoted, start, end, target, out)

@@ -10,14 +10,14 @@ returns c =
     let at-answer = c .before .before in
     let at-told = at-answer .before .before in
     let at-query = at-told .before .before in
-    query-matched _ _ _ _ _ (at-answer .count .given .1) (at-query .query .ensures)
+    query-matched _ _ _ _ _ _ (at-answer .count .given .1) (at-query .query .ensures)
 
 returns-2 : tie.Need-returns-2
 returns-2 c =
     let at-answer = c .before .before in
     let at-told = at-answer .before .before in
     let at-query = at-told .before .before in
-    query-refused _ _ _ _ _ (at-answer .refused .given .1) (at-query .query .ensures)
+    query-refused _ _ _ _ _ _ (at-answer .refused .given .1) (at-query .query .ensures)
 
 pub query-spec : {M : Type 1} → statement M
 query-spec =

@@ -10,14 +10,14 @@ returns c =
     let at-answer = c .before .before in
     let at-told = at-answer .before .before in
     let at-read = at-told .before .before in
-    read-accepted _ _ _ (at-answer .consumed .given .1) (at-read .read .ensures)
+    read-accepted _ _ _ _ (at-answer .consumed .given .1) (at-read .read .ensures)
 
 returns-2 : tie.Need-returns-2
 returns-2 c =
     let at-answer = c .before .before in
     let at-told = at-answer .before .before in
     let at-read = at-told .before .before in
-    read-refused _ _ _ (at-answer .number .given .1) (at-read .read .ensures)
+    read-refused _ _ _ _ (at-answer .number .given .1) (at-read .read .ensures)
 
 pub read-spec : {M : Type 1} → statement M
 read-spec =

@@ -10,14 +10,14 @@ returns c =
     let at-answer = c .before .before in
     let at-told = at-answer .before .before .before in
     let at-write = at-told .before .before .before in
-    write-accepted _ _ _ _ _ (at-answer .bytes .given .1) (at-write .write .ensures)
+    write-accepted _ _ _ _ _ _ (at-answer .bytes .given .1) (at-write .write .ensures)
 
 returns-2 : tie.Need-returns-2
 returns-2 c =
     let at-answer = c .before .before in
     let at-told = at-answer .before .before .before in
     let at-write = at-told .before .before .before in
-    write-refused _ _ _ _ _ (at-answer .refusal .given .1) (at-write .write .ensures)
+    write-refused _ _ _ _ _ _ (at-answer .refusal .given .1) (at-write .write .ensures)
 
 pub write-spec : {M : Type 1} → statement M
 write-spec =

@@ -2,10 +2,7 @@
 -- Assumes nothing.
 use borrow.Author.Needs.{needs}
 use mathlib.Core.Path.{sym, _∙_}
-use Rattle.form.specs.Answer.{badString}
-use Rattle.mutf8.specs.declared.Checked.{Checked}
-use Rattle.mutf8.specs.declared.Coding.the-variants.{Modified}
-use Rattle.mutf8.proofs.Walks.{checked-is}
+use Rattle.form.specs.Form.{formNo}
 use Rattle.mutf8.proofs.Alike.{short-good}
 use Rattle.mutf8.proofs.check.Statement.{statement}
 use Rattle.mutf8.proofs.check.Tie as tie
@@ -15,6 +12,6 @@ check-spec =
     tie.close
     (tie.spec
     (λ c κs. search needs)
-    (λ c. checked-is badString Checked.Good (short-good Modified _ (sym (c .before .is-plain .ensures) ∙ c .if1 .taken)))
+    (λ c. short-good (formNo (c .before .before .before .args .form) .strings) _ (sym (c .before .is-plain .ensures) ∙ c .if1 .taken))
     (λ c κs. search needs)
-    (λ c. checked-is badString (c .judge .result) (c .judge .ensures)))
+    (λ c. c .judge .ensures))

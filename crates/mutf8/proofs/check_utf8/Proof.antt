@@ -2,10 +2,7 @@
 -- Assumes nothing.
 use borrow.Author.Needs.{needs}
 use mathlib.Core.Path.{sym, _∙_}
-use Rattle.form.specs.Answer.{badText}
-use Rattle.mutf8.specs.declared.Checked.{Checked}
-use Rattle.mutf8.specs.declared.Coding.the-variants.{Utf8}
-use Rattle.mutf8.proofs.Walks.{checked-is}
+use Rattle.form.specs.Form.{utf8}
 use Rattle.mutf8.proofs.Alike.{short-good}
 use Rattle.mutf8.proofs.check_utf8.Statement.{statement}
 use Rattle.mutf8.proofs.check_utf8.Tie as tie
@@ -15,6 +12,6 @@ check-utf8-spec =
     tie.close
     (tie.spec
     (λ c κs. search needs)
-    (λ c. checked-is badText Checked.Good (short-good Utf8 _ (sym (c .before .is-plain .ensures) ∙ c .if1 .taken)))
+    (λ c. short-good utf8 _ (sym (c .before .is-plain .ensures) ∙ c .if1 .taken))
     (λ c κs. search needs)
-    (λ c. checked-is badText (c .judge .result) (c .judge .ensures)))
+    (λ c. c .judge .ensures))

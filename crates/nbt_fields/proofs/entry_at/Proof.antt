@@ -7,10 +7,10 @@ use Rattle.nbt_fields.proofs.entry_at.Statement.{statement}
 use Rattle.nbt_fields.proofs.entry_at.Tie as tie
 
 returns : tie.Need-returns
-returns c = sym (entry-end _ _ (c .if1 .taken))
+returns c = sym (entry-end _ _ _ (c .if1 .taken))
 
 returns-2 : tie.Need-returns-2
-returns-2 c = sym (entry-last _ _ (c .before .before .if1 .left) (c .if2 .taken))
+returns-2 c = sym (entry-last _ _ _ (c .before .before .if1 .left) (c .if2 .taken))
 
 pub entry-at-spec : {M : Type 1} → statement M
 entry-at-spec =

@@ -10,7 +10,7 @@ returns-2 : tie.Need-returns-2
 returns-2 c =
     let at-width = c .before in
     let at-rest = at-width .before in
-    c .array-at .ensures ∙ rw (at-width .width-of .ensures .0) (sym (leaf-array _ _ _ (at-rest .before .before .pre .0) (at-rest .match .rest .1)))
+    c .array-at .ensures ∙ rw (at-width .width-of .ensures .0) (sym (leaf-array _ _ _ _ (at-rest .before .before .pre .0) (at-rest .match .rest .1)))
 
 pub leaf-at-spec : {M : Type 1} → statement M
 leaf-at-spec =
@@ -19,5 +19,5 @@ leaf-at-spec =
     (λ c κs. search needs)
     (λ c κs. search needs)
     (λ c κs. search needs)
-    (λ c. c .string-at .ensures ∙ sym (leaf-string _ _ _ (c .before .match .keys1)))
+    (λ c. c .string-at .ensures ∙ sym (leaf-string _ _ _ _ (c .before .match .keys1)))
     returns-2)

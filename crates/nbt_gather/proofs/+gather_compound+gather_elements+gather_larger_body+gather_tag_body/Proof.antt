@@ -44,6 +44,7 @@ pub +gather-compound+gather-elements+gather-larger-body+gather-tag-body-spec : {
     (Compound.same-length-4 t)
     (Compound.returns-2 t)
     (λ c. search needs)
+    (Compound.add-gather-tag-body t)
     (Compound.gather-tag-body-requires t)
     (λ c. search needs)
     (Compound.with-open-requires t)

@@ -4,6 +4,7 @@
 use borrow.Author.Needs.{needs}
 use native.Mathlib.Omega.{arith}
 use mathlib.Core.Path.{_≡_, refl, sym, ap, _∙_}
+use Rattle.form.specs.Form.{formNo}
 use Rattle.form.specs.Answer.{got}
 use Rattle.form.specs.Reading.{Span, stringAt}
 use Rattle.nbt_fields.specs.Answers.{partOut}
@@ -21,7 +22,7 @@ start-of c = let at-lines = name-of c .before .before in at-lines .before .befor
 abbrev span : tie.After-start → Span
 span c = let g = c .start .given .0 in record { start = g .0; size = g .1 .0; count = g .1 .1 .0; next = g .1 .1 .1 .0 }
 
-is : (c : tie.After-start) → stringAt (start-of c .args .doc .now) 1 ≡ got (span c)
+is : (c : tie.After-start) → stringAt (formNo (start-of c .args .form)) (start-of c .args .doc .now) 1 ≡ got (span c)
 is c = sym (name-of c .string-at .ensures) ∙ ap partOut (c .start .given .1)
 
 -- the root's payload, where it is whole and where it is cut
@@ -41,7 +42,7 @@ gather-larger-body-requires : tie.Need-gather-larger-body-requires
 gather-larger-body-requires c κs =
     let at-start = c .before .before .before in
     let start = start-of at-start in
-    (root-asked (start .args .doc .now) (start .args .table .now) (start .pre .0) (is at-start) _ _ (start .pre .1), omega arith)
+    (root-asked (formNo (start .args .form)) (start .args .doc .now) (start .args .table .now) (start .pre .0) (is at-start) _ _ (start .pre .1), omega arith)
 
 returns-3 : tie.Need-returns-3
 returns-3 c =
@@ -49,7 +50,7 @@ returns-3 c =
     let at-start = root-of payload in
     let start = start-of at-start in
     absurd
-    (root-whole (start .args .doc .now) (start .args .table .now) (start .pre .0) (is at-start) _ _ _ _
+    (root-whole (formNo (start .args .form)) (start .args .doc .now) (start .args .table .now) (start .pre .0) (is at-start) _ _ _ _
     (payload .gather-larger-body .result) (payload .gather-larger-body .ensures) (c .enum-told2 .given .1))
 
 returns-4 : tie.Need-returns-4
@@ -57,14 +58,14 @@ returns-4 c =
     let payload = cut-of c in
     let at-start = root-of payload in
     let start = start-of at-start in
-    root-kept (start .args .doc .now) (start .args .table .now) (start .pre .0) (is at-start) _ _ _ _
+    root-kept (formNo (start .args .form)) (start .args .doc .now) (start .args .table .now) (start .pre .0) (is at-start) _ _ _ _
     (payload .gather-larger-body .result) (payload .gather-larger-body .ensures) (c .before .ix .given .1)
 
 pub gather-spec : {M : Type 1} → statement M
 gather-spec =
     tie.close
     (tie.spec
-    (λ c. let at-lines = c .before in (string-none (at-lines .before .before .before .args .doc .now) (c .if1 .taken), refl, refl))
+    (λ c. let at-lines = c .before in (string-none (formNo (at-lines .before .before .before .args .form)) (at-lines .before .before .before .args .doc .now) (c .if1 .taken), refl, refl))
     (λ c κs. search needs)
     (λ c. search needs)
     (λ c. search needs)

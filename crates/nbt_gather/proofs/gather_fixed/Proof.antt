@@ -13,17 +13,17 @@ abbrev start-of : tie.After-width-of → tie.Start
 start-of c = c .before .before .before
 
 returns : tie.Need-returns
-returns c =
+returns c form =
     let at-width = c .before in
     let asked = start-of at-width .pre in (
-      (_, _, leaf-one-no _ _ _ _ _ (fixed-no _ _ _ _ (asked .2) (at-width .width-of .ensures .0) (omega (arith, c .if1 .taken, asked .0 .ready .at-le)))),
+      (_, _, leaf-one-no form _ _ _ _ _ (fixed-no form _ _ _ _ (asked .2) (at-width .width-of .ensures .0) (omega (arith, c .if1 .taken, asked .0 .ready .at-le)))),
       refl,
       refl,
       refl,
     )
 
 returns-2 : tie.Need-returns-2
-returns-2 c =
+returns-2 c form =
     let at-put = c .before .before in
     let at-leaf = at-put .before in
     let at-wide = at-leaf .before in
@@ -33,7 +33,7 @@ returns-2 c =
     let ready = asked .0 .ready in
     record {
       x = _;
-      is = leaf-one-got _ _ _ _ _ (fixed-got _ _ _ _ (asked .2) (at-width .width-of .ensures .0) (omega (arith, at-else .if1 .left, ready .at-le)));
+      is = leaf-one-got form _ _ _ _ _ (fixed-got form _ _ _ _ (asked .2) (at-width .width-of .ensures .0) (omega (arith, at-else .if1 .left, ready .at-le)));
       at-is = refl;
       n-is = omega (arith, size-none);
       table = at-put .put .ensures ∙ rw (at-leaf .leaf .ensures, at-wide .wide .ensures) (wrote-leaf _ _ _ _ (omega (arith, ready, asked .1)));

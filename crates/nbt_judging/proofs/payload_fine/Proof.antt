@@ -2,6 +2,7 @@
 -- Assumes nothing.
 use borrow.Author.Needs.{needs}
 use mathlib.Core.Path.{sym, _∙_}
+use Rattle.form.specs.Form.{formNo}
 use Rattle.form.specs.Writing.{stringFine}
 use Rattle.form.proofs.Writing.{payload-string, payload-other}
 use Rattle.form.specs.Table.{headOf}
@@ -20,13 +21,13 @@ returns c =
     let at-kind = string .before in
     let a = start-of at-kind .args in
     c .string-fine .ensures
-    ∙ (λ i. stringFine (a .doc .now) (at-start .word2 .ensures i) (at-length .word3 .ensures i) (a .n))
-    ∙ sym (payload-string (a .doc .now) (headOf (a .table .now) (a .n)) (a .n) (sym (at-kind .word .ensures) ∙ string .match .keys1))
+    ∙ (λ i. stringFine (formNo (a .form)) (a .doc .now) (at-start .word2 .ensures i) (at-length .word3 .ensures i) (a .n))
+    ∙ sym (payload-string (formNo (a .form)) (a .doc .now) (headOf (a .table .now) (a .n)) (a .n) (sym (at-kind .word .ensures) ∙ string .match .keys1))
 
 returns-2 : tie.Need-returns-2
 returns-2 c =
     let a = start-of (c .before) .args in
-    sym (payload-other (a .doc .now) (headOf (a .table .now) (a .n)) (a .n) (λ q. c .match .rest .1 (c .before .word .ensures ∙ q)))
+    sym (payload-other (formNo (a .form)) (a .doc .now) (headOf (a .table .now) (a .n)) (a .n) (λ q. c .match .rest .1 (c .before .word .ensures ∙ q)))
 
 pub payload-fine-spec : {M : Type 1} → statement M
 payload-fine-spec =

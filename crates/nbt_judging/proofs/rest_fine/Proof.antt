@@ -27,14 +27,14 @@ returns-2 : tie.Need-returns-2
 returns-2 c =
     let at-mixed = c .before in
     let shallow = at-mixed .before in
-    sym (rest-mixed _ _ _ _ _ _ (told-deep (shallow .before) ∙ shallow .if1 .left) (told-mixed at-mixed ∙ c .if2 .taken))
+    sym (rest-mixed _ _ _ _ _ _ _ (told-deep (shallow .before) ∙ shallow .if1 .left) (told-mixed at-mixed ∙ c .if2 .taken))
 
 returns-3 : tie.Need-returns-3
 returns-3 c =
     let at-mixed = c .before .before in
     let shallow = at-mixed .before in
     c .payload-fine .ensures
-    ∙ sym (rest-on _ _ _ _ _ _ (told-deep (shallow .before) ∙ shallow .if1 .left) (told-mixed at-mixed ∙ c .before .if2 .left))
+    ∙ sym (rest-on _ _ _ _ _ _ _ (told-deep (shallow .before) ∙ shallow .if1 .left) (told-mixed at-mixed ∙ c .before .if2 .left))
 
 pub rest-fine-spec : {M : Type 1} → statement M
 rest-fine-spec =
@@ -42,7 +42,7 @@ rest-fine-spec =
     (tie.spec
     (λ c κs. search needs)
     (λ c κs. search needs)
-    (λ c. sym (rest-deep _ _ _ _ _ _ (told-deep (c .before) ∙ c .if1 .taken)))
+    (λ c. sym (rest-deep _ _ _ _ _ _ _ (told-deep (c .before) ∙ c .if1 .taken)))
     (λ c κs. search needs)
     returns-2
     (λ c κs. search needs)

@@ -13,13 +13,13 @@ returns c =
     let at-document = at-table .before .before in
     let at-arg = at-document .before in
     let d = at-document .document in
-    refused _ (at-arg .before .before .before .args .table .now) (d .last .1 .0) (rw (told .before .number .given .1) at (d .ensures) .0) (d .kept .1 .0)
+    refused _ _ (at-arg .before .before .before .args .table .now) (d .last .1 .0) (rw (told .before .number .given .1) at (d .ensures) .0) (d .kept .1 .0)
     (at-clear .clear .ensures)
 
 returns-2 : tie.Need-returns-2
 returns-2 c =
     let at-table = c .before .before .before in
-    accepted _ _ (rw (c .before .at .given .1) at (at-table .before .before .document .ensures))
+    accepted _ _ _ (rw (c .before .at .given .1) at (at-table .before .before .document .ensures))
 
 pub read-spec : {M : Type 1} → statement M
 read-spec =

@@ -12,7 +12,7 @@ root-spec =
     tie.close
     (tie.spec
     (λ c κs. search needs)  -- room-requires
-    (λ c. (payload-full _ _ _ _ _ _ _ _ (omega (arith, c .before .room .ensures, c .if1 .taken)), refl))  -- returns
+    (λ c. (payload-full _ _ _ _ _ _ _ _ _ (omega (arith, c .before .room .ensures, c .if1 .taken)), refl))  -- returns
     (λ c κs. search needs)  -- read-larger-body-requires
     (λ c. search needs)  -- same-length
     (λ c. let n = c .before .before in rw (n .before .before .before .room .ensures) at (n .read-larger-body .ensures)))  -- returns-2

@@ -25,8 +25,8 @@ returns : tie.Need-returns
 returns c =
     let at-records = c .before .before in
     let at-gather = gather-of (at-records .before .before) in
-    let g = kept-in _ _ _ _ _ _ (at-gather .gather .result) (at-records .records .given .1) (at-gather .gather .ensures) in
-    cut-short _ _ _ _ _ _ _ _ g _ (most-of at-gather .most .ensures) (at-gather .gather .kept .1 .1 .0) (c .if1 .taken)
+    let g = kept-in _ _ _ _ _ _ _ (at-gather .gather .result) (at-records .records .given .1) (at-gather .gather .ensures) in
+    cut-short _ _ _ _ _ _ _ _ _ g _ (most-of at-gather .most .ensures) (at-gather .gather .kept .1 .1 .0) (c .if1 .taken)
 
 tight-requires : tie.Need-tight-requires
 tight-requires c κs =
@@ -35,8 +35,8 @@ tight-requires c κs =
     let at-records = records-of at-test in
     let at-gather = gather-of (at-records .before .before) in
     let start = bytes-of (most-of at-gather) .before in
-    let g = kept-in _ _ _ _ _ _ (at-gather .gather .result) (at-records .records .given .1) (at-gather .gather .ensures) in
-    tight-asked _ _ _ _ _ _ _ _ g (start .pre) (at-test .if1 .left)
+    let g = kept-in _ _ _ _ _ _ _ (at-gather .gather .result) (at-records .records .given .1) (at-gather .gather .ensures) in
+    tight-asked _ _ _ _ _ _ _ _ _ g (start .pre) (at-test .if1 .left)
 
 -- More lines than were put.
 returns-2 : tie.Need-returns-2
@@ -48,24 +48,24 @@ returns-2 c =
     let at-more = at-arg .before .before .before in
     let at-records = records-of (at-more .before) in
     let at-gather = gather-of (at-records .before .before) in
-    let g = kept-in _ _ _ _ _ _ (at-gather .gather .result) (at-records .records .given .1) (at-gather .gather .ensures) in
-    cut-tight _ _ _ _ _ _ _ _ g _ (most-of at-gather .most .ensures) (at-more .if2 .taken) _ _ _ (at-tight .tight .ensures)
+    let g = kept-in _ _ _ _ _ _ _ (at-gather .gather .result) (at-records .records .given .1) (at-gather .gather .ensures) in
+    cut-tight _ _ _ _ _ _ _ _ _ g _ (most-of at-gather .most .ensures) (at-more .if2 .taken) _ _ _ (at-tight .tight .ensures)
 
 put-requires : tie.Need-put-requires
 put-requires c κs =
     let at-few = c .before .before in
     let at-records = records-of (at-few .before) in
     let at-gather = gather-of (at-records .before .before) in
-    let g = kept-in _ _ _ _ _ _ (at-gather .gather .result) (at-records .records .given .1) (at-gather .gather .ensures) in
-    roomy _ _ _ _ _ _ _ _ g _ (most-of at-gather .most .ensures) (at-few .if2 .left)
+    let g = kept-in _ _ _ _ _ _ _ (at-gather .gather .result) (at-records .records .given .1) (at-gather .gather .ensures) in
+    roomy _ _ _ _ _ _ _ _ _ g _ (most-of at-gather .most .ensures) (at-few .if2 .left)
 
 -- 32.
 returns-3 : tie.Need-returns-3
 returns-3 c =
     let at-gather = gather-of (c .before .before) in
     let start = bytes-of (most-of at-gather) .before in
-    let r = no-root _ _ _ _ _ _ (at-gather .gather .result) (c .enum-told .given .1) (at-gather .gather .ensures) in
-    cut-root _ _ _ _ _ (start .pre) (r .0 .2) (r .1)
+    let r = no-root _ _ _ _ _ _ _ (at-gather .gather .result) (c .enum-told .given .1) (at-gather .gather .ensures) in
+    cut-root _ _ _ _ _ _ (start .pre) (r .0 .2) (r .1)
 
 -- The document is put, and its lines stand in the list already.
 returns-4 : tie.Need-returns-4
@@ -76,8 +76,8 @@ returns-4 c =
     let at-gather = gather-of (at-records .before .before) in
     let at-most = most-of at-gather in
     let at-bytes = bytes-of at-most in
-    let g = kept-in _ _ _ _ _ _ (at-gather .gather .result) (at-records .records .given .1) (at-gather .gather .ensures) in
-    cut-put _ _ _ _ _ _ _ _ g _ (at-most .most .ensures) (at-few .if2 .left) (λ j. omega (arith, at-bytes .shared-slice-known .given j)) _ _
+    let g = kept-in _ _ _ _ _ _ _ (at-gather .gather .result) (at-records .records .given .1) (at-gather .gather .ensures) in
+    cut-put _ _ _ _ _ _ _ _ _ g _ (at-most .most .ensures) (at-few .if2 .left) (λ j. omega (arith, at-bytes .shared-slice-known .given j)) _ _
     (at-put .put .ensures)
 
 pub cut-spec : {M : Type 1} → statement M

@@ -21,7 +21,7 @@ returns c =
     let at-write = at-table .before .before in
     let at-arg = at-write .before .before in
     let at-doc = at-arg .before .before .before in
-    laid-is _ _ _ _ _ _ _ _ (λ j. omega (arith, at-doc .shared-slice-known .given j)) (at-doc .before .pre) refl (at-write .write .ensures)
+    laid-is _ _ _ _ _ _ _ _ _ (λ j. omega (arith, at-doc .shared-slice-known .given j)) (at-doc .before .pre) refl (at-write .write .ensures)
 
 pub lay-spec : {M : Type 1} → statement M
 lay-spec =

@@ -22,13 +22,13 @@ slice-aggregate-put c =
 put-requires : tie.Need-put-requires
 put-requires c κs =
     let at-bytes = bytes-of c in
-    roomy-fits _ _ _ _ _ (λ j. omega (arith, at-bytes .shared-slice-known .given j)) (at-bytes .before .pre) refl
+    roomy-fits _ _ _ _ _ _ (λ j. omega (arith, at-bytes .shared-slice-known .given j)) (at-bytes .before .pre) refl
 
 returns : tie.Need-returns
 returns c =
     let at-put = c .before .before in
     let at-bytes = bytes-of (at-put .before) in
-    put-is _ _ _ _ _ _ _ (λ j. omega (arith, at-bytes .shared-slice-known .given j)) (at-bytes .before .pre .gathered) refl (at-put .put .ensures)
+    put-is _ _ _ _ _ _ _ _ (λ j. omega (arith, at-bytes .shared-slice-known .given j)) (at-bytes .before .pre .gathered) refl (at-put .put .ensures)
 
 pub put-spec : {M : Type 1} → statement M
 put-spec =

@@ -28,7 +28,7 @@ cut-requires : tie.Need-cut-requires
 cut-requires c κs =
     let at-test = c .before .before .before in
     let at-number = at-test .before .before in
-    read-cut _ _ _ _ (ap readOut (at-number .number .given .1)) (read-of at-number .read .ensures) (at-test .if1 .taken)
+    read-cut _ _ _ _ _ (ap readOut (at-number .number .given .1)) (read-of at-number .read .ensures) (at-test .if1 .taken)
 
 -- A document that is cut.
 returns : tie.Need-returns
@@ -36,7 +36,7 @@ returns c =
     let at-clear = c .before .before in
     let at-cut = cut-of at-clear in
     let at-number = number-of at-cut in
-    rescue-cut _ _ _ _ _ _ (ap readOut (at-number .number .given .1)) (read-of at-number .read .ensures) (at-cut .cut .last .1 .1 .0) _ _ _ _ (at-cut .cut .ensures)
+    rescue-cut _ _ _ _ _ _ _ (ap readOut (at-number .number .given .1)) (read-of at-number .read .ensures) (at-cut .cut .last .1 .1 .0) _ _ _ _ (at-cut .cut .ensures)
     (at-cut .cut .kept .1 .1 .0) (at-clear .clear .ensures)
 
 -- 31.
@@ -44,13 +44,13 @@ returns-2 : tie.Need-returns-2
 returns-2 c =
     let at-match = c .before in
     let at-read = at-match .before .before .before in
-    rescue-accepted _ _ _ _ _ _ (ap readOut (c .enum-told .given .1)) (at-read .read .ensures)
+    rescue-accepted _ _ _ _ _ _ _ (ap readOut (c .enum-told .given .1)) (at-read .read .ensures)
 
 -- Another refusal.
 returns-3 : tie.Need-returns-3
 returns-3 c =
     let at-number = c .before .before in
-    rescue-other _ _ _ _ _ _ (ap readOut (at-number .number .given .1)) (read-of at-number .read .ensures) (c .if1 .left)
+    rescue-other _ _ _ _ _ _ _ (ap readOut (at-number .number .given .1)) (read-of at-number .read .ensures) (c .if1 .left)
 
 pub rescue-spec : {M : Type 1} → statement M
 rescue-spec =

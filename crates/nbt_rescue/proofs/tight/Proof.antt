@@ -24,7 +24,7 @@ gather-requires c κs =
     let at-bytes = c .before .before .before in
     let at-lay = lay-of (at-bytes .before .before) in
     let start = start-of at-lay in
-    ((_, read-again _ (start .args .table .now) (at-lay .lay .last .1 .0) (at-lay .lay .kept .1 .0) (start .pre .cut .1)), omega arith)
+    ((_, read-again _ _ (start .args .table .now) (at-lay .lay .last .1 .0) (at-lay .lay .kept .1 .0) (start .pre .cut .1)), omega arith)
 
 -- 13.
 returns : tie.Need-returns
@@ -32,7 +32,7 @@ returns c =
     let at-number = c .before in
     let at-lay = lay-of (at-number .before .before) in
     let start = start-of at-lay in
-    tight-full _ _ _ _ _ _ (start .pre) _ _ (at-lay .lay .ensures) _ _ _ (ap answerOut (at-number .number .given .1))
+    tight-full _ _ _ _ _ _ _ (start .pre) _ _ (at-lay .lay .ensures) _ _ _ (ap answerOut (at-number .number .given .1))
 
 -- The document is written, and the lines are put when all is gathered once more.
 returns-2 : tie.Need-returns-2
@@ -43,7 +43,7 @@ returns-2 c =
     let at-bytes = at-arg .before .before .before in
     let at-lay = lay-of (at-bytes .before .before) in
     let start = start-of at-lay in
-    tight-saved _ _ _ _ _ _ (start .pre) _ _ (at-lay .lay .ensures) _ (ap answerOut (at-bytes .bytes .given .1))
+    tight-saved _ _ _ _ _ _ _ (start .pre) _ _ (at-lay .lay .ensures) _ (ap answerOut (at-bytes .bytes .given .1))
     (at-lay .lay .last .1 .0) _ _ (at-lay .lay .kept .1 .0) (at-gather .gather .result) (at-gather .gather .ensures)
 
 pub tight-spec : {M : Type 1} → statement M

@@ -2,7 +2,8 @@
 -- Assumes nothing.
 use borrow.Author.Needs.{needs}
 use mathlib.Core.Path.{sym}
-use Rattle.form.specs.Decoding.{verdict}
+use Rattle.form.specs.Form.{formNo}
+use Rattle.form.specs.Decoding.{verdictIn}
 use Rattle.form.proofs.Strings.{judged-part}
 use Rattle.nbt_writer.proofs.checked.Statement.{statement}
 use Rattle.nbt_writer.proofs.checked.Tie as tie
@@ -10,7 +11,7 @@ use Rattle.nbt_writer.proofs.checked.Tie as tie
 returns : tie.Need-returns
 returns c =
     let a = c .before .before .before .args in
-    sym (judged-part verdict (a .doc .now) (a .start) (a .size) (sym (c .check .ensures .0 .is)))
+    sym (judged-part (verdictIn (formNo (a .form) .strings)) (a .doc .now) (a .start) (a .size) (sym (c .check .ensures .is)))
 
 pub checked-spec : {M : Type 1} → statement M
 checked-spec =

@@ -20,7 +20,7 @@ put-all-requires c κs =
     let at-word = c .before in
     let at-bytes = bytes-of at-word in
     let start = at-bytes .before in
-    put-room _ _ _ (start .pre) (λ k. omega (arith, at-bytes .shared-slice-known .given k)) (at-word .word .ensures) (start .pre .formed .table)
+    put-room _ _ _ _ (start .pre) (λ k. omega (arith, at-bytes .shared-slice-known .given k)) (at-word .word .ensures) (start .pre .formed .table)
 
 returns : tie.Need-returns
 returns c =
@@ -28,7 +28,7 @@ returns c =
     let at-word = at-put .before .before in
     let at-bytes = bytes-of at-word in
     let start = at-bytes .before in
-    λ i. put-done _ _ _ (start .pre) (λ k. omega (arith, at-bytes .shared-slice-known .given k)) (at-word .word .ensures) i (at-put .put-all .ensures)
+    λ i. put-done _ _ _ _ (start .pre) (λ k. omega (arith, at-bytes .shared-slice-known .given k)) (at-word .word .ensures) i (at-put .put-all .ensures)
 
 pub put-spec : {M : Type 1} → statement M
 put-spec =

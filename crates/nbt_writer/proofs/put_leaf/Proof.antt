@@ -5,6 +5,7 @@ use native.Mathlib.Omega.{arith}
 use mathlib.Core.Path.{ap}
 use Prim.Native.Nat.{_+_, _≤_}
 use lib.ListN.{length}
+use Rattle.form.specs.Form.{formNo}
 use Rattle.form.specs.Table.{Head, headOf}
 use Rattle.nbt_judging.specs.Pieces.{lengthBytes}
 use Rattle.nbt_judging.proofs.Bytes.{leaf-is, leaf-length}
@@ -29,8 +30,8 @@ abbrev head-of : tie.Start → Head
 head-of s = headOf (s .args .table .now) (s .args .n)
 
 -- There is room for all of it.
-room : (s : tie.Start) → s .args .at + (length (lengthBytes (head-of s)) + head-of s .size) ≤ length (s .args .out .now)
-room s = rw (leaf-length (s .args .doc .now) (head-of s) (s .pre .0 .body)) at (s .pre .1)
+room : (s : tie.Start) → s .args .at + (length (lengthBytes (formNo (s .args .form)) (head-of s)) + head-of s .size) ≤ length (s .args .out .now)
+room s = rw (leaf-length (formNo (s .args .form)) (s .args .doc .now) (head-of s) (s .pre .0 .body)) at (s .pre .1)
 
 put-length-requires : tie.Need-put-length-requires
 put-length-requires c κs = let s = start-of (c .before) in (s .pre .0 .room, omega (arith, room s))
@@ -62,7 +63,7 @@ returns c =
     let front = front-of size .put-length in
     let w = size .word .ensures in
     let span = puts-span (s .args .doc .now) (h .start) (h .size) _ (s .pre .0 .body) (ap (λ k. front .result + k) w) (at-start .word2 .ensures) w (copied .copy .ensures) in
-    rw (leaf-is (s .args .doc .now) h) (puts-then (front .ensures) (omega (arith, room s)) span)
+    rw (leaf-is (formNo (s .args .form)) (s .args .doc .now) h) (puts-then (front .ensures) (omega (arith, room s)) span)
 
 pub put-leaf-spec : {M : Type 1} → statement M
 put-leaf-spec =

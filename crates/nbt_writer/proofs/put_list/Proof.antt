@@ -4,7 +4,8 @@ use borrow.Author.Needs.{needs}
 use native.Mathlib.Omega.{arith}
 use mathlib.Core.Path.{refl}
 use Prim.Native.Nat.{_+_}
-use Rattle.form.proofs.Digits.{digits-length as bytes-length}
+use Rattle.form.specs.Form.{big, formNo}
+use Rattle.form.proofs.Digits.{digits-length}
 use Rattle.form.specs.Table.{headOf}
 use Rattle.nbt_judging.specs.Pieces.{listBytes}
 use Rattle.nbt_writer.proofs.Puts.{puts-number, puts-then}
@@ -16,7 +17,7 @@ abbrev start-of : tie.After-put-number-arg → tie.Start
 start-of c = c .before .before .before
 
 -- That call, from the one that puts the count.
-abbrev id-of : tie.After-put-number-arg2 → tie.After-put-number
+abbrev id-of : tie.After-put-count-arg → tie.After-put-number
 id-of c = c .before .before .before
 
 returns : tie.Need-returns
@@ -27,9 +28,9 @@ returns c =
     let id = id-of (count .before) in
     let a = start-of (id .before .before) .args in
     let h = headOf (a .table .now) (a .n) in
-    let one = puts-number 1 (h .list-kind) (a .at + 1) refl (id .before .word .ensures) (id .put-number .ensures) in
-    let two = puts-number 4 (h .count) (a .at + 5) (omega arith) (count .word2 .ensures) (put .put-number2 .ensures) in
-    puts-then one (omega (arith, bytes-length 1 (h .list-kind))) two
+    let one = puts-number big 1 (h .list-kind) (a .at + 1) refl (id .before .word .ensures) (id .put-number .ensures) in
+    let two = puts-number (formNo (a .form) .order) 4 (h .count) (a .at + 5) (omega arith) (count .word2 .ensures) (put .put-count .ensures) in
+    puts-then one (omega (arith, digits-length 1 (h .list-kind))) two
 
 pub put-list-spec : {M : Type 1} → statement M
 put-list-spec =

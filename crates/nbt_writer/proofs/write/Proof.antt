@@ -25,7 +25,7 @@ returns-3 c =
     let done = written-of (c .before .before) in
     let formed = done .before .before .before in
     let told = done .written in
-    write-fit _ _ (check-of formed .is-table .ensures .0) _ (formed .enum-told3 .given .1) (told .result) (told .ensures .0) (told .ensures .1)
+    write-fit _ _ (check-of formed .is-table .ensures .0) _ _ (formed .enum-told3 .given .1) (told .result) (told .ensures .0) (told .ensures .1)
 
 pub write-spec : {M : Type 1} → statement M
 write-spec =
@@ -37,9 +37,9 @@ write-spec =
     (λ c. search needs)
     written-requires
     (λ c. search needs)
-    (λ c. write-large _ _ (c .before .before .is-table .ensures .0) _ (c .enum-told .given .1))
+    (λ c. write-large _ _ (c .before .before .is-table .ensures .0) _ _ (c .enum-told .given .1))
     (λ c. search needs)
-    (λ c. write-unfit _ _ (c .before .before .is-table .ensures .0) _ (c .enum-told2 .given .1))
+    (λ c. write-unfit _ _ (c .before .before .is-table .ensures .0) _ _ (c .enum-told2 .given .1))
     (λ c. ap length (written-of (c .before .before) .written .ensures .1))
     (λ c. search needs)
     returns-3)

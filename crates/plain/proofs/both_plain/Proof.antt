@@ -11,13 +11,13 @@ returns : tie.Need-returns
 returns c =
     let at-first = c .before .before in
     let a = at-first .before .before .args in
-    c .all-plain2 .ensures ∙ both-in (a .p) (a .p) (a .text .now) (a .start) (a .end) (a .n) (omega arith) (omega arith) (sym (at-first .all-plain .ensures) ∙ c .before .if1 .taken)
+    c .all-plain2 .ensures ∙ both-in (a .p) (a .p) (a .text .now) (a .n) (omega arith) (omega arith) (sym (at-first .all-plain .ensures) ∙ c .before .if1 .taken)
 
 returns-2 : tie.Need-returns-2
 returns-2 c =
     let at-first = c .before in
     let a = at-first .before .before .args in
-    first-fails (a .p) (a .p) (a .text .now) (a .start) (a .end) (a .n) (omega arith) (omega arith) (sym (at-first .all-plain .ensures) ∙ c .if1 .left)
+    first-fails (a .p) (a .p) (a .text .now) (a .n) (omega arith) (omega arith) (sym (at-first .all-plain .ensures) ∙ c .if1 .left)
 
 pub both-plain-spec : {M : Type 1} → statement M
 both-plain-spec =

@@ -1,27 +1,27 @@
--- Right since the one or two blocks reach from start to end.
+-- Right since the one or two blocks cover a short slice.
 -- Assumes nothing.
-use Prim.Native.Nat.{_-_, _<_}
+use Prim.Native.Nat.{_<_}
 use mathlib.Core.Path.{_≡_, sym, ap, _∙_}
 use mathlib.Core.Bool.{Bool, _&&_}
 use native.Mathlib.Omega.{arith}
 use borrow.Author.Needs.{needs}
 use borrow.Author.Tests.{lt-ltb, le-ltb}
+use lib.ListN.{length}
 use Rattle.plain.specs.Runs.{plainIn, shortPlain}
 use Rattle.plain.proofs.is_plain.Statement.{statement}
 use Rattle.plain.proofs.is_plain.Tie as tie
 
--- a short span is asked whole
+-- a short slice is asked whole
 short : (c : tie.After-shared-slice-known) (r : Bool) → let a = c .before .args in
-    a .end - a .start < 64 → r ≡ plainIn (a .p) (a .p) (a .text .now) (a .start) (a .end - a .start) → r ≡ shortPlain (a .p) (a .text .now) (a .start) (a .end)
+    length (a .text .now) < 64 → r ≡ plainIn (a .p) (a .p) (a .text .now) 0 (length (a .text .now)) → r ≡ shortPlain (a .p) (a .text .now)
 short c r h e =
     let a = c .before .args in
-    e ∙ ap (λ (x : Bool). x && plainIn (a .p) (a .p) (a .text .now) (a .start) (a .end - a .start)) (sym (lt-ltb (a .end - a .start) 64 h))
+    e ∙ ap (λ (x : Bool). x && plainIn (a .p) (a .p) (a .text .now) 0 (length (a .text .now))) (sym (lt-ltb (length (a .text .now)) 64 h))
 
 pub is-plain-spec : {M : Type 1} → statement M
 is-plain-spec =
     tie.close
     (tie.spec
-    (λ c. search needs)  -- sub-size
     (λ c κs. search needs)  -- all-plain-requires
     (λ c. short (c .before .before) _ (omega arith) (c .all-plain .ensures))  -- returns
     (λ c κs. search needs)  -- both-plain-requires

@@ -8,6 +8,7 @@ use native.Mathlib.Omega.{arith}
 use lib.ListN.{length}
 use borrow.Author.Tests.{not-true, not-false}
 use Rattle.form.specs.Answer.{got, depthLimit}
+use Rattle.form.specs.Form.{formNo}
 use Rattle.form.specs.Table.{none, node}
 use Rattle.form.specs.Tables.{IsTable}
 use Rattle.form.specs.Query.{shallow}
@@ -49,7 +50,7 @@ returns c =
     let at-first-deep = at-n .before .before in
     let args = deep-start at-first-deep .args in
     let deep = at-first-deep .first-deep in
-    λ i. finds-deep (args .doc .now) (args .q .now) (args .table .now) i (deep .result) _ _ _ (deep .ensures _ (table-side _ _ i)) (at-n .n .given .1) (c .refused .ensures)
+    λ i. finds-deep (formNo (args .form)) (args .doc .now) (args .q .now) (args .table .now) i (deep .result) _ _ _ (deep .ensures _ (table-side _ _ i)) (at-n .n .given .1) (c .refused .ensures)
 
 returns-2 : tie.Need-returns-2
 returns-2 c =
@@ -57,7 +58,7 @@ returns-2 c =
     let at-taken = at-then1 .before .before .before in
     let args = taken-start at-taken .args in
     let taken = at-taken .take-apart in
-    λ i. finds-bad (args .doc .now) (args .q .now) (args .table .now) i (fine at-taken i) (taken .result) _ _ (taken .ensures)
+    λ i. finds-bad (formNo (args .form)) (args .doc .now) (args .q .now) (args .table .now) i (fine at-taken i) (taken .result) _ _ (taken .ensures)
     (not-true (taken .result .ok) (at-then1 .if1 .taken)) (c .refused2 .ensures)
 
 walk-requires : tie.Need-walk-requires
@@ -73,8 +74,8 @@ returns-3 c =
     let at-taken = ok-taken at-ok in
     let args = taken-start at-taken .args in
     let taken = at-taken .take-apart in
-    λ i. finds-short (args .doc .now) (args .q .now) (args .table .now) i (fine at-taken i) (taken .result) (taken .ensures) (ok at-ok) _
-    (at-walk .walk .ensures i) (c .if3 .taken)
+    λ i. finds-short (formNo (args .form)) (args .doc .now) (args .q .now) (args .table .now) i (fine at-taken i) (taken .result) (taken .ensures) (ok at-ok) _
+    (at-walk .walk .ensures _ i) (c .if3 .taken)
 
 walk-requires-2 : tie.Need-walk-requires-2
 walk-requires-2 c κs =
@@ -90,9 +91,9 @@ returns-4 c =
     let at-taken = ok-taken at-ok in
     let args = taken-start at-taken .args in
     let taken = at-taken .take-apart in
-    λ i. finds-full (args .doc .now) (args .q .now) (args .table .now) i (fine at-taken i) (taken .result) (taken .ensures) (ok at-ok) _
-    (⊎-elim (λ few. room-counted (few .2 .ensures i) (few .4 .left)) (λ each. room-each (args .doc .now) _ i _ (each .left)) (at-joined .if2 .came))
-    (at-walk2 .walk2 .ensures i)
+    λ i. finds-full (formNo (args .form)) (args .doc .now) (args .q .now) (args .table .now) i (fine at-taken i) (taken .result) (taken .ensures) (ok at-ok) _
+    (⊎-elim (λ few. room-counted (few .2 .ensures (formNo (args .form)) i) (few .4 .left)) (λ each. room-each (formNo (args .form)) (args .doc .now) _ i _ (each .left)) (at-joined .if2 .came))
+    (at-walk2 .walk2 .ensures _ i)
 
 pub ask-spec : {M : Type 1} → statement M
 ask-spec =

@@ -16,14 +16,14 @@ returns : tie.Need-returns
 returns c =
     let at-told = c .before in
     let at-check = at-told .before .before in
-    query-large _ _ _ _ (rw (at-told .enum-told .given .1) at (at-check .is-table .ensures .0)) _ (c .refused .ensures)
+    query-large _ _ _ _ _ (rw (at-told .enum-told .given .1) at (at-check .is-table .ensures .0)) _ (c .refused .ensures)
 
 returns-2 : tie.Need-returns-2
 returns-2 c =
     let at-told = c .before in
     let at-check = at-told .before .before in
     let v = rw (at-told .enum-told2 .given .1) at (at-check .is-table .ensures .0) in
-    query-unfit _ _ _ _ (v .0) (v .1) _ (c .refused2 .ensures)
+    query-unfit _ _ _ _ _ (v .0) (v .1) _ (c .refused2 .ensures)
 
 returns-3 : tie.Need-returns-3
 returns-3 c =
@@ -31,7 +31,7 @@ returns-3 c =
     let at-told = at-ask .before .before in
     let at-check = at-told .before .before in
     let v = rw (at-told .enum-told3 .given .1) at (at-check .is-table .ensures .0) in
-    query-fit _ _ _ _ (v .0) (v .1) _ _ (at-ask .ask .ensures)
+    query-fit _ _ _ _ _ (v .0) (v .1) _ _ (at-ask .ask .ensures)
 
 pub query-spec : {M : Type 1} → statement M
 query-spec =

@@ -53,7 +53,7 @@ returns c =
     let at-start = laid-start at-lay in
     let laid = at-lay .lay .ensures in
     let reaches = at-set .start .ensures _ (laid-in laid (at-start .args .q .now) (at-start .pre .2)) in
-    λ i. root-done _ _ i _ laid reaches (at-note .note .ensures) (at-visit-all .visit-all .ensures)
+    λ form i. root-done form _ _ i _ laid reaches (at-note .note .ensures) (at-visit-all .visit-all .ensures)
 
 returns-2 : tie.Need-returns-2
 returns-2 c =
@@ -65,7 +65,7 @@ returns-2 c =
     let at-start = laid-start at-lay in
     let laid = at-lay .lay .ensures in
     let reaches = at-set .start .ensures _ (laid-in laid (at-start .args .q .now) (at-start .pre .2)) in
-    λ i. root-alone (at-start .args .doc .now) _ i _ laid reaches (at-note .note .ensures) (at-word .word .ensures) (at-goes-in .goes-in .ensures) (c .if1 .left)
+    λ form i. root-alone form (at-start .args .doc .now) _ i _ laid reaches (at-note .note .ensures) (at-word .word .ensures) (at-goes-in .goes-in .ensures) (c .if1 .left)
 
 pub walk-spec : {M : Type 1} → statement M
 walk-spec =

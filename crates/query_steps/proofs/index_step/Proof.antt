@@ -7,15 +7,15 @@ use Rattle.query_steps.proofs.index_step.Statement.{statement}
 use Rattle.query_steps.proofs.index_step.Tie as tie
 
 returns : tie.Need-returns
-returns c = index-short _ _ (omega arith)
+returns c form = index-short form _ _ (omega arith)
 
 returns-2 : tie.Need-returns-2
-returns-2 c = index-below _ _ (omega arith) (omega (arith, c .before .u32-at .ensures, c .if2 .taken))
+returns-2 c form = index-below form _ _ (omega arith) (omega (arith, c .before .u32-at .ensures, c .if2 .taken))
 
 returns-3 : tie.Need-returns-3
-returns-3 c =
+returns-3 c form =
     let short = c .before .before in
-    rw (c .before .u32-at .ensures) (index-got _ _ (short .before .before .pre .2) (omega arith) (omega (arith, c .before .u32-at .ensures, c .if2 .left)))
+    rw (c .before .u32-at .ensures) (index-got form _ _ (short .before .before .pre .2) (omega arith) (omega (arith, c .before .u32-at .ensures, c .if2 .left)))
 
 pub index-step-spec : {M : Type 1} → statement M
 index-step-spec =

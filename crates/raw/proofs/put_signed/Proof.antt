@@ -2,6 +2,7 @@
 -- Assumes nothing.
 use borrow.Author.Needs.{needs}
 use mathlib.Core.Path.{ap, _∙_}
+use Rattle.form.specs.Form.{big}
 use Rattle.form.specs.Numbers.{digits, ordered, bitsOf}
 use Rattle.form.specs.Spans.{over}
 use Rattle.form.proofs.Digits.{digits-narrow}
@@ -25,7 +26,7 @@ returns c =
     let a = at-bits .before .before .before in
     let w = a .args .width in
     at-put .put-number .ensures
-    ∙ ap (λ ds. over (a .args .d .now) (a .args .at) (ordered ds)) (
+    ∙ ap (λ ds. over (a .args .d .now) (a .args .at) (ordered big ds)) (
     ap (digits w) (at-bits .bits-of .ensures)
     ∙ ap (λ z. digits w (bitsOf 8 z)) (held (a .args .v) (a .good .1 .1 .1 .0))
     ∙ digits-narrow w 8 (a .args .v) (a .pre .0) (a .pre .2)

@@ -11,9 +11,12 @@ use Rattle.snbt_key_text.proofs.Keys.{own-long, own-put, key-room, key-
 use Rattle.snbt_key_text.proofs.put_key.Statement.{statement}
 use Rattle.snbt_key_text.proofs.put_key.Tie as tie
 
--- The span was asked for at the beginning.
+-- The span was asked for at the beginning, and lent as a slice of its own.
+abbrev lent-of : tie.After-is-plain → tie.After-slice-known
+lent-of c = c .before .before
+
 abbrev start-of : tie.After-is-plain → tie.Start
-start-of c = c .before .before .before
+start-of c = lent-of c .before .before
 
 -- The span is its own content.
 plain : (c : tie.Then1) → let a = start-of (c .before) .args in Verbatim (a .text .now) (a .start) (a .end)
@@ -41,6 +44,9 @@ pub put-key-spec : {M : Type 1} → statement M
 put-key-spec =
     tie.close
     (tie.spec
+    (λ c. search needs)
+    (λ c. search needs)
+    (λ c. search needs)
     (λ c κs. search needs)
     (λ c. search needs)
     (λ c κs. let own = c .before in let p = start-of (own .before) .pre in (omega (arith, p .0, p .1), omega (arith, room own)))

@@ -6,9 +6,12 @@ use Rattle.snbt_contents.proofs.Sofar.{verbatim}
 use Rattle.snbt_scalars.proofs.put_string.Statement.{statement}
 use Rattle.snbt_scalars.proofs.put_string.Tie as tie
 
--- The span was asked for at the beginning.
+-- The span was asked for at the beginning, and lent as a slice of its own.
+abbrev lent-of : tie.After-is-plain → tie.After-slice-known
+lent-of c = c .before .before
+
 abbrev start-of : tie.After-is-plain → tie.Start
-start-of c = c .before .before .before
+start-of c = lent-of c .before .before
 
 put-plain-requires : tie.Need-put-plain-requires
 put-plain-requires c κs =
@@ -21,6 +24,9 @@ pub put-string-spec : {M : Type 1} → statement M
 put-string-spec =
     tie.close
     (tie.spec
+    (λ c. search needs)
+    (λ c. search needs)
+    (λ c. search needs)
     (λ c κs. search needs)
     put-plain-requires
     (λ c. search needs)

@@ -7,7 +7,7 @@ use lib.Ieee.{binary64, toBits}
 use Rattle.form.specs.Answer.{got}
 use Rattle.form.specs.Tree as tree
 use Rattle.form.specs.Tree.{kindOf}
-use Rattle.form.specs.Layout.{payload}
+use Rattle.form.specs.Layout.{payloadIn}
 use Rattle.raw.proofs.Signs.{held}
 use Rattle.snbt_form.specs.Numbers.{byte, short, int, long}
 use Rattle.snbt_tokens.specs.Answers.{tokenIs, dataIs}
@@ -41,7 +41,7 @@ returns-2 c =
     let r = put .put-whole in
     let v = told .token2 .given in
     whole-puts (a .text .now) (a .out .now) (a .want) (dataIs (a .«data»)) (a .next) (a .at) byte tree.byte 1 1 (v .0 .0) _ (r .result) (r .last .1 .1 .1 .1 .0)
-    (ap tokenIs (v .1)) (held (v .0 .0) (known .known-told2 .given .0 .1)) (λ p. refl) (unfold kindOf in refl) (unfold payload in refl) (r .ensures)
+    (ap tokenIs (v .1)) (held (v .0 .0) (known .known-told2 .given .0 .1)) (λ p. refl) (unfold kindOf in refl) (unfold payloadIn in refl) (r .ensures)
 
 returns-3 : tie.Need-returns-3
 returns-3 c =
@@ -52,7 +52,7 @@ returns-3 c =
     let r = put .put-whole2 in
     let v = told .token3 .given in
     whole-puts (a .text .now) (a .out .now) (a .want) (dataIs (a .«data»)) (a .next) (a .at) short tree.short 2 2 (v .0 .0) _ (r .result) (r .last .1 .1 .1 .1 .0)
-    (ap tokenIs (v .1)) (held (v .0 .0) (known .known-told3 .given .0 .1)) (λ p. refl) (unfold kindOf in refl) (unfold payload in refl) (r .ensures)
+    (ap tokenIs (v .1)) (held (v .0 .0) (known .known-told3 .given .0 .1)) (λ p. refl) (unfold kindOf in refl) (unfold payloadIn in refl) (r .ensures)
 
 returns-4 : tie.Need-returns-4
 returns-4 c =
@@ -63,7 +63,7 @@ returns-4 c =
     let r = put .put-whole3 in
     let v = told .token4 .given in
     whole-puts (a .text .now) (a .out .now) (a .want) (dataIs (a .«data»)) (a .next) (a .at) int tree.int 4 3 (v .0 .0) _ (r .result) (r .last .1 .1 .1 .1 .0)
-    (ap tokenIs (v .1)) (held (v .0 .0) (known .known-told4 .given .0 .1)) (λ p. refl) (unfold kindOf in refl) (unfold payload in refl) (r .ensures)
+    (ap tokenIs (v .1)) (held (v .0 .0) (known .known-told4 .given .0 .1)) (λ p. refl) (unfold kindOf in refl) (unfold payloadIn in refl) (r .ensures)
 
 returns-5 : tie.Need-returns-5
 returns-5 c =
@@ -74,7 +74,7 @@ returns-5 c =
     let r = put .put-whole4 in
     let v = told .token5 .given in
     whole-puts (a .text .now) (a .out .now) (a .want) (dataIs (a .«data»)) (a .next) (a .at) long tree.long 8 4 (v .0 .0) _ (r .result) (r .last .1 .1 .1 .1 .0)
-    (ap tokenIs (v .1)) (held (v .0 .0) (known .known-told5 .given .0 .1)) (λ p. refl) (unfold kindOf in refl) (unfold payload in refl) (r .ensures)
+    (ap tokenIs (v .1)) (held (v .0 .0) (known .known-told5 .given .0 .1)) (λ p. refl) (unfold kindOf in refl) (unfold payloadIn in refl) (r .ensures)
 
 -- A float, rounded to a single, and a double.
 returns-6 : tie.Need-returns-6
@@ -86,7 +86,7 @@ returns-6 c =
     let r = put .put-bits in
     let f = single .f32-bits in
     real-puts (a .text .now) (a .out .now) (a .want) (dataIs (a .«data»)) (a .next) (a .at) (tree.float (f .result)) 4 5 (f .result) (r .result) (r .last .1 .1 .1 .1 .0)
-    (ap tokenIs (told .token6 .given .1)) (λ p. ap (λ b. got (tree.float b)) (sym (f .ensures))) (unfold kindOf in refl) (unfold payload in refl) (r .ensures)
+    (ap tokenIs (told .token6 .given .1)) (λ p. ap (λ b. got (tree.float b)) (sym (f .ensures))) (unfold kindOf in refl) (unfold payloadIn in refl) (r .ensures)
 
 returns-7 : tie.Need-returns-7
 returns-7 c =
@@ -97,7 +97,7 @@ returns-7 c =
     let v = told .token7 .given in
     let b = toBits binary64 (v .0 .0) in
     real-puts (a .text .now) (a .out .now) (a .want) (dataIs (a .«data»)) (a .next) (a .at) (tree.double b) 8 6 b (r .result) (r .last .1 .1 .1 .1 .0)
-    (ap tokenIs (v .1)) (λ p. refl) (unfold kindOf in refl) (unfold payload in refl) (r .ensures)
+    (ap tokenIs (v .1)) (λ p. refl) (unfold kindOf in refl) (unfold payloadIn in refl) (r .ensures)
 
 -- A sign.
 returns-8 : tie.Need-returns-8

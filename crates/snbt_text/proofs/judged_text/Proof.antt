@@ -14,5 +14,5 @@ judged-text-spec =
     (λ c κs. search needs)  -- check-utf8-requires
     (λ c. search needs)  -- enum-told
     (λ c. search needs)  -- enum-told-2
-    (λ c. text-judged _ _ _ (omega arith) (c .before .before .check-utf8 .ensures .0) (c .enum-told .given .1))  -- returns-2
-    (λ c. text-judged _ _ _ (omega arith) (c .before .before .check-utf8 .ensures .0) (c .enum-told2 .given .1)))  -- returns-3
+    (λ c. text-judged _ _ _ (omega arith) (c .before .before .check-utf8 .ensures) (c .enum-told .given .1))  -- returns-2
+    (λ c. text-judged _ _ _ (omega arith) (c .before .before .check-utf8 .ensures) (c .enum-told2 .given .1)))  -- returns-3

@@ -3,6 +3,7 @@
 use Prim.Native.Nat.{_-_, _≤_}
 use mathlib.Core.Path.{sym, _∙_}
 use native.Mathlib.Omega.{arith}
+use borrow.Author.Needs.{needs}
 use lib.ListN.{length}
 use Rattle.plain.proofs.Plains.{run-is}
 use Rattle.mutf8.specs.Runs.{Passed}
@@ -24,7 +25,7 @@ abbrev mixed-of : tie.After-mixed Inv μ → tie.At-loop Inv μ
 mixed-of c = turn-of (c .before .before)
 
 abbrev end-of : tie.After-is-plain Inv μ → tie.At-loop Inv μ
-end-of c = c .before .before
+end-of c = c .before .before .before
 
 pub pass-spec : {M : Type 1} → statement M
 pass-spec =
@@ -44,7 +45,10 @@ pass-spec =
     (λ c. passed-join _ _ _ _ (mixed-of (c .before .before) .loop .inv .1) (blocks-passed _ _ _ (c .plain-blocks .ensures)))
     (λ c. omega (arith, c .before .mixed .ensures .within))
     (λ c. let m = c .before .mixed .ensures in (m .within, passed-join _ _ _ _ (mixed-of (c .before) .loop .inv .1) m))
-    (λ c κs. (c .before .loop .inv .0, omega arith))
+    (λ c. omega arith)
+    (λ c. omega arith)
+    (λ c. omega arith)
+    (λ c κs. search needs)
     (λ c. let v = end-of (c .before) .loop .inv in passed-join _ _ _ _ (v .1) (short-passed _ _ (v .0) (sym (c .before .is-plain .ensures) ∙ c .if3 .taken)))
     (λ c κs. (end-of (c .before) .loop .inv .0, omega arith))
     (λ c. passed-join _ _ _ _ (end-of (c .before .before) .loop .inv .1) (blocks-passed _ _ _ (c .plain-blocks2 .ensures))))

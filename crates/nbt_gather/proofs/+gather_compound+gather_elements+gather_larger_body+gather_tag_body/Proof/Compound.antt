@@ -7,6 +7,7 @@ use mathlib.Core.Path.{_≡_, refl, sym, ap, _∙_}
 use native.Mathlib.Omega.{arith}
 use borrow.Fn.Kinds.{In, Out}
 use lib.ListN.{length}
+use Rattle.form.specs.Form.{Form, formNo}
 use Rattle.form.specs.Answer.{got}
 use Rattle.form.specs.Table.{Forest, none}
 use Rattle.form.specs.Reading.{Span, end, named, roomOf, entryAt, entries as entriesOf}
@@ -26,22 +27,22 @@ use Rattle.nbt_gather.proofs.with_open.Reads as with-open
 use Rattle.nbt_gather.proofs.+gather_compound+gather_elements+gather_larger_body+gather_tag_body.Lts-gather_compound as lts
 use Rattle.nbt_gather.proofs.+gather_compound+gather_elements+gather_larger_body+gather_tag_body.Proof.Common.{gather-tag-body-below, gather-compound-at}
 
-pub record Inv (doc : List ℕ) (at depth : ℕ) (t₀ : List ℕ) (n : ℕ) (ls₀ t ls : List ℕ) (here next count : ℕ) : Type 0 where
+pub record Inv (form : Form) (doc : List ℕ) (at depth : ℕ) (t₀ : List ℕ) (n : ℕ) (ls₀ t ls : List ℕ) (here next count : ℕ) : Type 0 where
   pub fuel : ℕ
   pub acc : Forest
   pub going : Gathering
-      (entriesIn doc (length t₀) depth at (n + 1)) (entriesOf doc (readIn doc (length t₀) depth) fuel acc here next)
-      (entriesKept doc (length t₀) depth at (n + 1)) (keptEntries doc (readIn doc (length t₀) depth) (begunAt doc (roomOf (length t₀)) depth) fuel here next)
+      (entriesIn form doc (length t₀) depth at (n + 1)) (entriesOf form doc (readIn form doc (length t₀) depth) fuel acc here next)
+      (entriesKept form doc (length t₀) depth at (n + 1)) (keptEntries form doc (readIn form doc (length t₀) depth) (begunAt form doc (roomOf (length t₀)) depth) fuel here next)
       acc t₀ t ls₀ ls n (n + 1) next count
   pub on : at ≤ here
   pub at-le : here ≤ length doc
   pub n-le : next ≤ roomOf (length t₀)
 
 abbrev pub Inv-loop : lts.InvT-loop
-Inv-loop doc at depth table₀ n lines₀ most here₀ next₀ count₀ table lines here next count = Inv doc at depth table₀ n lines₀ table lines here next count
+Inv-loop doc at depth table₀ n lines₀ most form here₀ next₀ count₀ table lines here next count = Inv (formNo form) doc at depth table₀ n lines₀ table lines here next count
 
 abbrev pub μ-loop : lts.MeasureT-loop
-μ-loop doc at depth table₀ n lines₀ most here₀ next₀ count₀ table lines here next count = length doc - here
+μ-loop doc at depth table₀ n lines₀ most form here₀ next₀ count₀ table lines here next count = length doc - here
 
 abbrev On : ℕ → (lts.Claims → In 3 kinds.ps → Out 3 kinds.ps kinds.r → lts.InvT-loop → lts.MeasureT-loop → Type 0) → Type 0
 On t F = F (entry-at.Asked, entry-at.Learnt, gather-tag-body-below t, gather-tag-body.Post, with-open.Asked, with-open.Learnt) (gather-compound-at t) gather-compound.Post Inv-loop μ-loop
@@ -72,11 +73,12 @@ module _ (t : ℕ) where
   only : (c : On t lts.At-loop) →
       let s = start-of c in
       let i = c .loop .inv in
-      OnlyCut (entriesOf (s .args .doc .now) (readIn (s .args .doc .now) (length (s .args .table .now)) (s .args .depth)) (i .fuel) (i .acc) (c .loop .here) (c .loop .ix))
+      OnlyCut (entriesOf (formNo (s .args .form)) (s .args .doc .now) (readIn (formNo (s .args .form)) (s .args .doc .now) (length (s .args .table .now)) (s .args .depth))
+      (i .fuel) (i .acc) (c .loop .here) (c .loop .ix))
   only c = only-left (c .loop .inv .going) (start-of c .pre .1 .only)
 
   some : (c : On t lts.At-loop) → 0 < c .loop .inv .fuel
-  some c = entries-some _ _ _ _ _ _ (only c)
+  some c = entries-some _ _ _ _ _ _ _ (only c)
 
   -- ---- the data ends in an entry's id or name
 
@@ -93,14 +95,14 @@ module _ (t : ℕ) where
       let s = start-of l in
       let i = l .loop .inv in
       let refused = sym (e .entry-at .ensures) ∙ ap entryOut (c .enum-told .given .1) in
-      let cut = cut-of (entries-head-no _ _ _ _ _ _ (some l) refused) (only l) in
-      gathering-none (i .going) (s .args .doc .now) _ _ (s .args .at) _ _ (cut .1) (entry-none _ _ _ _ _ _ (some l) refused) (i .n-le) (omega arith)
+      let cut = cut-of (entries-head-no _ _ _ _ _ _ _ (some l) refused) (only l) in
+      gathering-none (i .going) (s .args .doc .now) _ _ (s .args .at) _ _ (cut .1) (entry-none _ _ _ _ _ _ _ (some l) refused) (i .n-le) (omega arith)
 
   -- ---- the end byte
 
   is-end : (c : On t lts.After-enum-told2) →
       let l = c .before .before .before in
-      entryAt (start-of l .args .doc .now) (l .loop .here) ≡ got end
+      entryAt (formNo (start-of l .args .form)) (start-of l .args .doc .now) (l .loop .here) ≡ got end
   is-end c = sym (c .before .before .entry-at .ensures) ∙ ap entryOut (c .enum-told2 .given .1)
 
   pub same-length-3 : On t lts.Need-same-length-3
@@ -114,8 +116,8 @@ module _ (t : ℕ) where
       let l = c .before .before .before in
       let s = start-of l in
       let i = l .loop .inv in
-      gathering-end (i .going) (s .args .doc .now) _ (512 - s .args .depth) (s .args .at) (s .args .most) _ _ (entries-end _ _ _ _ _ _ (some l) (is-end c))
-      refl (omega (arith, i .on)) (omega (arith, entry-in _ _ (is-end c))) (i .n-le)
+      gathering-end (i .going) (s .args .doc .now) _ (512 - s .args .depth) (s .args .at) (s .args .most) _ _ (entries-end _ _ _ _ _ _ _ (some l) (is-end c))
+      refl (omega (arith, i .on)) (omega (arith, entry-in _ _ _ (is-end c))) (i .n-le)
 
   -- ---- an entry with a name
 
@@ -126,13 +128,17 @@ module _ (t : ℕ) where
   kind c = c .before .kind .given .0 .0
 
   abbrev span : On t lts.After-known-told → Span
-  span c = let g = c .before .kind .given .0 in record { start = g .1 .0; size = g .1 .1 .0; count = 0; next = g .1 .1 .1 .0 }
+  span c = let g = c .before .kind .given .0 in record { start = g .1 .0; size = g .1 .1 .0; count = 0; next = g .1 .0 + g .1 .1 .0 }
 
-  is : (c : On t lts.After-known-told) → entryAt (start-of (loop-of c) .args .doc .now) (loop-of c .loop .here) ≡ got (named (kind c) (span c))
+  is : (c : On t lts.After-known-told) → entryAt (formNo (start-of (loop-of c) .args .form)) (start-of (loop-of c) .args .doc .now) (loop-of c .loop .here) ≡ got (named (kind c) (span c))
   is c = sym (c .before .before .before .entry-at .ensures) ∙ ap entryOut (c .before .kind .given .1)
 
   within : (c : On t lts.After-known-told) → (kind c ≤ 12) × Within (start-of (loop-of c) .args .doc .now) (loop-of c .loop .here + 3) 0 (span c)
-  within c = entry-within _ _ (is c)
+  within c = entry-within _ _ _ (is c)
+
+  -- the place behind the name is in the document, and so a word
+  pub add-gather-tag-body : On t lts.Need-add-gather-tag-body
+  add-gather-tag-body c = omega (arith, within c .1 .to, start-of (loop-of c) .pre .1 .ready .doc-le)
 
   pub gather-tag-body-requires : On t lts.Need-gather-tag-body-requires
   gather-tag-body-requires c κs =
@@ -141,9 +147,9 @@ module _ (t : ℕ) where
       let p = start-of l .pre .1 in
       let w = within e in (
         omega arith,
-        payload-asked _ _ _ _ _ _ _ _ _ _ _ _ (same l) (p .ready .doc-le) (w .1 .to) (l .loop .inv .n-le) (omega (arith, p .ready .above-le, l .loop .inv .going .sofar .n-is))
+        payload-asked _ _ _ _ _ _ _ _ _ _ _ _ _ (same l) (p .ready .doc-le) (w .1 .to) (l .loop .inv .n-le) (omega (arith, p .ready .above-le, l .loop .inv .going .sofar .n-is))
             (w .0) (omega (arith, w, p .ready)) (omega (arith, w, p .ready)) (omega (arith, p .deep))
-            (entry-only _ _ _ _ _ _ (is e) (only l) .1) (omega (arith, p .lines-fit, same-lines l)),
+            (entry-only _ _ _ _ _ _ _ (is e) (only l) .1) (omega (arith, p .lines-fit, same-lines l)),
       )
 
   abbrev entry-of : On t lts.After-gather-tag-body → On t lts.After-known-told
@@ -180,11 +186,11 @@ module _ (t : ℕ) where
       let l = loop-of e in
       let s = start-of l in
       let i = l .loop .inv in
-      let new = entry-only _ _ _ _ _ _ (is e) (only l) .0 in
-      let q = piece-cut (n .gather-tag-body .result) (s .args .doc .now) _ _ _ _ _ _ _ _ _ _ _ _ _ _ (same l) (n .gather-tag-body .ensures) _ _ (c .before .before .end .given .1) in
+      let new = entry-only _ _ _ _ _ _ _ (is e) (only l) .0 in
+      let q = piece-cut _ (n .gather-tag-body .result) (s .args .doc .now) _ _ _ _ _ _ _ _ _ _ _ _ _ _ (same l) (n .gather-tag-body .ensures) _ _ (c .before .before .end .given .1) in
       gathering-open (i .going) (s .args .doc .now) _ _ (s .args .at) _
-      (q .0 .0, entries-no _ _ _ _ _ _ (some l) (is e) new (q .0 .1)) (entry-begun _ _ _ _ _ (is e) _ (some l) (q .0 .1)) (q .1)
-      (begun-width _ _ _ _ _ _ _ _) (c .with-open .ensures) (omega (arith, i .n-le, s .pre .1 .ready .fits))
+      (q .0 .0, entries-no _ _ _ _ _ _ _ (some l) (is e) new (q .0 .1)) (entry-begun _ _ _ _ _ _ (is e) _ (some l) (q .0 .1)) (q .1)
+      (begun-width _ _ _ _ _ _ _ _ _) (c .with-open .ensures) (omega (arith, i .n-le, s .pre .1 .ready .fits))
 
   -- ---- it is whole
 
@@ -202,7 +208,7 @@ module _ (t : ℕ) where
       let n = whole-of c in
       let e = entry-of n in
       let l = loop-of e in
-      let q = piece-whole (n .gather-tag-body .result) (start-of l .args .doc .now) _ _ _ _ _ _ _ _ _ _ _ _ _ _ (same l) (n .gather-tag-body .ensures) _ _ (c .before .a .given .1) in
+      let q = piece-whole _ (n .gather-tag-body .result) (start-of l .args .doc .now) _ _ _ _ _ _ _ _ _ _ _ _ _ _ (same l) (n .gather-tag-body .ensures) _ _ (c .before .a .given .1) in
       omega (arith, l .loop .inv .at-le, within e .1, q .0 .on, q .0 .at-le)
 
   pub loop-again : On t lts.Need-loop-again
@@ -212,14 +218,14 @@ module _ (t : ℕ) where
       let l = loop-of e in
       let s = start-of l in
       let i = l .loop .inv in
-      let new = entry-only _ _ _ _ _ _ (is e) (only l) .0 in
-      let q = piece-whole (n .gather-tag-body .result) (s .args .doc .now) _ _ _ _ _ _ _ _ _ _ _ _ _ _ (same l) (n .gather-tag-body .ensures) _ _ (c .before .a .given .1) in
+      let new = entry-only _ _ _ _ _ _ _ (is e) (only l) .0 in
+      let q = piece-whole _ (n .gather-tag-body .result) (s .args .doc .now) _ _ _ _ _ _ _ _ _ _ _ _ _ _ (same l) (n .gather-tag-body .ensures) _ _ (c .before .a .given .1) in
       let x = q .0 in
       record {
         fuel = i .fuel - 1;
         acc = _;
         going = gathering-next (i .going) (x .x)
-            (entries-next _ _ _ _ _ _ (some l) (is e) new (x .is) (x .at-is) (x .n-is)) (entry-kept _ _ _ _ _ (is e) _ (some l) (x .is) (x .at-is) (x .n-is))
+            (entries-next _ _ _ _ _ _ _ (some l) (is e) new (x .is) (x .at-is) (x .n-is)) (entry-kept _ _ _ _ _ _ (is e) _ (some l) (x .is) (x .at-is) (x .n-is))
             (x .table) (q .1) (x .n-is) refl (omega (arith, i .n-le, s .pre .1 .ready .fits));
         on = omega (arith, i .on, within e .1, x .on);
         at-le = x .at-le;

@@ -6,6 +6,7 @@ use mathlib.Core.Path.{_≡_, refl, ap, _∙_}
 use native.Mathlib.Omega.{arith}
 use borrow.Fn.Kinds.{In, Out}
 use lib.ListN.{length}
+use Rattle.form.specs.Form.{Form, formNo}
 use Rattle.form.specs.Table.{Forest, none}
 use Rattle.form.specs.Reading.{roomOf}
 use Rattle.form.proofs.Runs.{sofar-length, elements-none, elements-no, elements-next}
@@ -20,23 +21,23 @@ use Rattle.nbt_gather.proofs.with_open.Reads as with-open
 use Rattle.nbt_gather.proofs.+gather_compound+gather_elements+gather_larger_body+gather_tag_body.Lts-gather_elements as lts
 use Rattle.nbt_gather.proofs.+gather_compound+gather_elements+gather_larger_body+gather_tag_body.Proof.Common.{gather-tag-body-below, gather-elements-at}
 
-pub record Inv (doc : List ℕ) (kind count at depth : ℕ) (t₀ : List ℕ) (n : ℕ) (ls₀ t ls : List ℕ) (here next done : ℕ) : Type 0 where
+pub record Inv (form : Form) (doc : List ℕ) (kind count at depth : ℕ) (t₀ : List ℕ) (n : ℕ) (ls₀ t ls : List ℕ) (here next done : ℕ) : Type 0 where
   pub left : ℕ
   pub left-is : done + left ≡ count
   pub acc : Forest
   pub going : Gathering
-      (elementsIn doc (length t₀) depth count kind at (n + 1)) (elementsIn doc (length t₀) depth left kind here next)
-      (elementsKept doc (length t₀) depth count kind at (n + 1)) (elementsKept doc (length t₀) depth left kind here next)
+      (elementsIn form doc (length t₀) depth count kind at (n + 1)) (elementsIn form doc (length t₀) depth left kind here next)
+      (elementsKept form doc (length t₀) depth count kind at (n + 1)) (elementsKept form doc (length t₀) depth left kind here next)
       acc t₀ t ls₀ ls n (n + 1) next done
   pub on : at ≤ here
   pub at-le : here ≤ length doc
   pub n-le : next ≤ roomOf (length t₀)
 
 abbrev pub Inv-loop : lts.InvT-loop
-Inv-loop doc kind count at depth table₀ n lines₀ most here₀ next₀ done₀ table lines here next done = Inv doc kind count at depth table₀ n lines₀ table lines here next done
+Inv-loop doc kind count at depth table₀ n lines₀ most form here₀ next₀ done₀ table lines here next done = Inv (formNo form) doc kind count at depth table₀ n lines₀ table lines here next done
 
 abbrev pub μ-loop : lts.MeasureT-loop
-μ-loop doc kind count at depth table₀ n lines₀ most here₀ next₀ done₀ table lines here next done = count - done
+μ-loop doc kind count at depth table₀ n lines₀ most form here₀ next₀ done₀ table lines here next done = count - done
 
 abbrev On : ℕ → (lts.Claims → In 3 kinds.ps → Out 3 kinds.ps kinds.r → lts.InvT-loop → lts.MeasureT-loop → Type 0) → Type 0
 On t F = F (gather-tag-body-below t, gather-tag-body.Post, with-open.Asked, with-open.Learnt) (gather-elements-at t) gather-elements.Post Inv-loop μ-loop
@@ -70,10 +71,10 @@ module _ (t : ℕ) where
   only : (c : On t lts.In-loop) →
       let l = c .before in
       let s = start-of l in
-      OnlyCut (readIn (s .args .doc .now) (length (s .args .table .now)) (s .args .depth) (s .args .kind) 0 0 (l .loop .here) (l .loop .next))
+      OnlyCut (readIn (formNo (s .args .form)) (s .args .doc .now) (length (s .args .table .now)) (s .args .depth) (s .args .kind) 0 0 (l .loop .here) (l .loop .next))
   only c =
       let l = c .before in
-      element-only _ _ _ _ _ _ (some c) (only-left (l .loop .inv .going) (start-of l .pre .1 .only))
+      element-only _ _ _ _ _ _ _ (some c) (only-left (l .loop .inv .going) (start-of l .pre .1 .only))
 
   -- ---- the data ends before the next element
 
@@ -90,9 +91,9 @@ module _ (t : ℕ) where
       let s = start-of l in
       let i = l .loop .inv in
       let kind-some = s .pre .1 .kind-some (omega (arith, turn .loop-test .taken)) in
-      let refused = at-end (s .args .doc .now) _ _ _ _ _ _ _ kind-some (c .if1 .taken) (only turn) in
+      let refused = at-end (formNo (s .args .form)) (s .args .doc .now) _ _ _ _ _ _ _ kind-some (c .if1 .taken) (only turn) in
       gathering-none (i .going) (s .args .doc .now) _ _ (s .args .at) _ _
-      (elements-no _ _ _ _ _ _ (some turn) refused) (element-none _ _ _ _ _ _ _ (some turn) refused (c .if1 .taken)) (i .n-le) (omega arith)
+      (elements-no _ _ _ _ _ _ _ (some turn) refused) (element-none _ _ _ _ _ _ _ _ (some turn) refused (c .if1 .taken)) (i .n-le) (omega arith)
 
   -- ---- the next element
 
@@ -109,7 +110,7 @@ module _ (t : ℕ) where
       let i = l .loop .inv in
       let p = start-of l .pre .1 in (
         omega arith,
-        payload-asked _ _ _ _ _ _ _ _ _ _ _ _ (same l) (p .ready .doc-le) (i .at-le) (i .n-le) (omega (arith, p .ready .above-le, i .going .sofar .n-is))
+        payload-asked _ _ _ _ _ _ _ _ _ _ _ _ _ (same l) (p .ready .doc-le) (i .at-le) (i .n-le) (omega (arith, p .ready .above-le, i .going .sofar .n-is))
             (p .kind-le) (omega arith) (omega arith) (omega (arith, p .deep)) (only turn) (omega (arith, p .lines-fit, same-lines l)),
       )
 
@@ -144,10 +145,10 @@ module _ (t : ℕ) where
       let l = loop-of n in
       let s = start-of l in
       let i = l .loop .inv in
-      let q = piece-cut (n .gather-tag-body .result) (s .args .doc .now) _ _ _ _ _ _ _ _ _ _ _ _ _ _ (same l) (n .gather-tag-body .ensures) _ _ (c .before .before .end .given .1) in
+      let q = piece-cut _ (n .gather-tag-body .result) (s .args .doc .now) _ _ _ _ _ _ _ _ _ _ _ _ _ _ (same l) (n .gather-tag-body .ensures) _ _ (c .before .before .end .given .1) in
       gathering-open (i .going) (s .args .doc .now) _ _ (s .args .at) _
-      (q .0 .0, elements-no _ _ _ _ _ _ (some turn) (q .0 .1)) (element-begun _ _ _ _ _ _ _ (some turn) (q .0 .1) (n .before .before .before .if1 .left)) (q .1)
-      (begun-width _ _ _ _ _ _ _ _) (c .with-open .ensures) (omega (arith, i .n-le, s .pre .1 .ready .fits))
+      (q .0 .0, elements-no _ _ _ _ _ _ _ (some turn) (q .0 .1)) (element-begun _ _ _ _ _ _ _ _ (some turn) (q .0 .1) (n .before .before .before .if1 .left)) (q .1)
+      (begun-width _ _ _ _ _ _ _ _ _) (c .with-open .ensures) (omega (arith, i .n-le, s .pre .1 .ready .fits))
 
   -- ---- it is whole
 
@@ -161,14 +162,14 @@ module _ (t : ℕ) where
       let l = loop-of n in
       let s = start-of l in
       let i = l .loop .inv in
-      let q = piece-whole (n .gather-tag-body .result) (s .args .doc .now) _ _ _ _ _ _ _ _ _ _ _ _ _ _ (same l) (n .gather-tag-body .ensures) _ _ (c .before .a .given .1) in
+      let q = piece-whole _ (n .gather-tag-body .result) (s .args .doc .now) _ _ _ _ _ _ _ _ _ _ _ _ _ _ (same l) (n .gather-tag-body .ensures) _ _ (c .before .a .given .1) in
       let x = q .0 in
       record {
         left = i .left - 1;
         left-is = omega (arith, i .left-is, some turn);
         acc = _;
         going = gathering-next (i .going) (x .x)
-            (elements-next _ _ _ _ _ _ (some turn) (x .is) (x .at-is) (x .n-is)) (element-kept _ _ _ _ _ _ _ (some turn) (x .is) (x .at-is) (x .n-is))
+            (elements-next _ _ _ _ _ _ _ (some turn) (x .is) (x .at-is) (x .n-is)) (element-kept _ _ _ _ _ _ _ _ (some turn) (x .is) (x .at-is) (x .n-is))
             (x .table) (q .1) (x .n-is) refl (omega (arith, i .n-le, s .pre .1 .ready .fits));
         on = omega (arith, i .on, x .on);
         at-le = x .at-le;
@@ -188,5 +189,5 @@ module _ (t : ℕ) where
       let l = c .before in
       let s = start-of l in
       let i = l .loop .inv in
-      gathering-end (i .going) (s .args .doc .now) _ (512 - s .args .depth) (s .args .at) (s .args .most) _ _ (elements-none _ _ _ _ _ _ (omega (arith, i .left-is, c .loop-test .left)))
+      gathering-end (i .going) (s .args .doc .now) _ (512 - s .args .depth) (s .args .at) (s .args .most) _ _ (elements-none _ _ _ _ _ _ _ (omega (arith, i .left-is, c .loop-test .left)))
       (omega (arith, i .left-is, c .loop-test .left)) (i .on) (i .at-le) (i .n-le)

@@ -5,6 +5,7 @@ use borrow.Fn.Kinds.{In, Out}
 use Prim.Native.Nat.{ℕ}
 use mathlib.Core.Bool.{true, false}
 use mathlib.Core.Path.{_≡_, refl, sym, ap, _∙_}
+use Rattle.form.specs.Form.{formNo}
 use Rattle.form.specs.Answer.{got}
 use Rattle.form.specs.Table.{holds}
 use Rattle.form.specs.Reading.{listHeadAt}
@@ -75,7 +76,7 @@ module _ (t : ℕ) where
   head-is : (c : On t lts.After-of) →
       let args = list-start (kind-of c) .args in
       let head = c .of .given .0 in
-      listHeadAt (args .doc .now) (args .at) ≡ got (record { kind = head .0; count = head .1 .0 })
+      listHeadAt (formNo (args .form)) (args .doc .now) (args .at) ≡ got (record { kind = head .0; count = head .1 .0 })
   head-is c = sym (c .before .before .list-head .ensures) ∙ ap listHeadOut (c .of .given .1)
 
   pub list-head-requires : On t lts.Need-list-head-requires
@@ -84,30 +85,30 @@ module _ (t : ℕ) where
   pub returns : On t lts.Need-returns
   returns c =
       let at-kind = c .before .before .before in
-      list-head-piece (list-start at-kind .pre .1 .0) (list-is at-kind) (at-kind .match .keys1) _
+      list-head-piece _ (list-start at-kind .pre .1 .0) (list-is at-kind) (at-kind .match .keys1) _
       (sym (c .before .before .list-head .ensures) ∙ ap listHeadOut (c .enum-told .given .1)) (omega arith)
 
   pub add-gather-elements : On t lts.Need-add-gather-elements
-  add-gather-elements c = omega (arith, list-head-within _ _ (head-is (c .before)))
+  add-gather-elements c = omega (arith, list-head-within _ _ _ (head-is (c .before)))
 
   pub sub-gather-elements : On t lts.Need-sub-gather-elements
   sub-gather-elements c =
       let at-kind = kind-of (c .before) in
-      positive _ (asked-deep (list-start at-kind .pre .1 .0) (list-is at-kind))
+      positive _ (asked-deep _ (list-start at-kind .pre .1 .0) (list-is at-kind))
 
   pub gather-elements-requires : On t lts.Need-gather-elements-requires
   gather-elements-requires c κs =
       let at-head = c .before .before .before in
       let at-kind = kind-of at-head in
       let asked = list-start at-kind .pre .1 .0 in
-      (omega (arith, positive _ (asked-deep asked (list-is at-kind))), elements-asked asked (list-is at-kind) (at-kind .match .keys1) (head-is at-head))
+      (omega (arith, positive _ (asked-deep _ asked (list-is at-kind))), elements-asked _ asked (list-is at-kind) (at-kind .match .keys1) (head-is at-head))
 
   pub held-requires : On t lts.Need-held-requires
   held-requires c κs =
       let at-elements = elements-of c in
       let at-head = head-of at-elements in
-      let within = list-head-within _ _ (head-is at-head) in
-      held-asked (list-start (kind-of at-head) .pre .1 .0)
+      let within = list-head-within _ _ _ (head-is at-head) in
+      held-asked _ (list-start (kind-of at-head) .pre .1 .0)
       (side-small _ _ _ _ _ _ _ _ _ _ _ _ _ (at-elements .gather-elements .result) (at-elements .gather-elements .ensures))
       (at-elements .gather-elements .kept .1 .1 .1 .1 .1 .0) (at-elements .gather-elements .kept .1 .1 .1 .1 .1 .1 .1 .0) (omega (arith, within .2)) (omega arith)
 
@@ -127,7 +128,7 @@ module _ (t : ℕ) where
       let at-elements = elements-of (at-held .before) in
       let at-head = head-of at-elements in
       let at-kind = kind-of at-head in
-      list-piece (list-start at-kind .pre .1 .0) (list-is at-kind) _ _ _ _ (at-elements .gather-elements .result) (at-held .held .result)
+      list-piece _ (list-start at-kind .pre .1 .0) (list-is at-kind) _ _ _ _ (at-elements .gather-elements .result) (at-held .held .result)
       (at-kind .match .keys1) (head-is at-head) (at-elements .gather-elements .ensures) (at-held .held .ensures)
 
   -- ---- a compound
@@ -136,18 +137,18 @@ module _ (t : ℕ) where
   compound-is c = let is : compound-start c .args .kind ≡ 10 = c .match .keys2 in rw is refl
 
   pub sub-gather-compound : On t lts.Need-sub-gather-compound
-  sub-gather-compound c = positive _ (asked-deep (compound-start c .pre .1 .0) (compound-is c))
+  sub-gather-compound c = positive _ (asked-deep _ (compound-start c .pre .1 .0) (compound-is c))
 
   pub gather-compound-requires : On t lts.Need-gather-compound-requires
   gather-compound-requires c κs =
       let at-kind = c .before .before in
       let asked = compound-start at-kind .pre .1 .0 in
-      (omega (arith, positive _ (asked-deep asked (compound-is at-kind))), entries-asked asked (compound-is at-kind) (at-kind .match .keys2))
+      (omega (arith, positive _ (asked-deep _ asked (compound-is at-kind))), entries-asked _ asked (compound-is at-kind) (at-kind .match .keys2))
 
   pub held-requires-2 : On t lts.Need-held-requires-2
   held-requires-2 c κs =
       let at-entries = entries-of c in
-      held-asked (compound-start (at-entries .before .before .before) .pre .1 .0)
+      held-asked _ (compound-start (at-entries .before .before .before) .pre .1 .0)
       (side-small _ _ _ _ _ _ _ _ _ _ _ _ _ (at-entries .gather-compound .result) (at-entries .gather-compound .ensures))
       (at-entries .gather-compound .kept .1 .1 .1 .0) (at-entries .gather-compound .kept .1 .1 .1 .1 .1 .0) (omega arith) (omega arith)
 
@@ -166,7 +167,7 @@ module _ (t : ℕ) where
       let at-held = compound-of c in
       let at-entries = entries-of (at-held .before) in
       let at-kind = at-entries .before .before .before in
-      compound-piece (compound-start at-kind .pre .1 .0) (compound-is at-kind) _ _ _ _ (at-entries .gather-compound .result) (at-held .held2 .result)
+      compound-piece _ (compound-start at-kind .pre .1 .0) (compound-is at-kind) _ _ _ _ (at-entries .gather-compound .result) (at-held .held2 .result)
       (at-kind .match .keys2) (at-entries .gather-compound .ensures) (at-held .held2 .ensures)
 
   -- ---- a leaf
@@ -177,7 +178,7 @@ module _ (t : ℕ) where
   pub gather-leaf-requires : On t lts.Need-gather-leaf-requires
   gather-leaf-requires c κs =
       let asked = leaf-start (c .before) .pre .1 in
-      (asked .0 .named, asked-room (asked .0), asked .1)
+      (asked .0 .named, asked-room _ (asked .0), asked .1)
 
   pub same-length-5 : On t lts.Need-same-length-5
   same-length-5 c = c .before .before .gather-leaf .kept .1 .1 .1 .1 .1 .0
@@ -186,4 +187,4 @@ module _ (t : ℕ) where
   returns-4 c =
       let at-leaf = c .before .before in
       let at-kind = at-leaf .before .before in
-      leaf-piece _ _ _ _ _ _ _ _ _ _ _ _ _ _ (at-leaf .gather-leaf .result) (at-leaf .gather-leaf .ensures) (leaf-is at-kind) (leaf-start at-kind .pre .1 .0 .only) (omega arith)
+      leaf-piece _ _ _ _ _ _ _ _ _ _ _ _ _ _ _ (at-leaf .gather-leaf .result) (at-leaf .gather-leaf .ensures) (leaf-is at-kind) (leaf-start at-kind .pre .1 .0 .only) (omega arith)

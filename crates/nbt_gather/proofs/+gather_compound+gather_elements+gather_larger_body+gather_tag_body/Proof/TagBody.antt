@@ -30,7 +30,7 @@ module _ (t : ℕ) where
   gather-fixed-requires c κs =
       let at-kind = c .before in
       let asked = fixed-start at-kind .pre .1 in
-      (asked .named, asked-room asked, at-kind .if1 .taken)
+      (asked .named, asked-room _ asked, at-kind .if1 .taken)
 
   pub same-length : On t lts.Need-same-length
   same-length c = c .before .before .gather-fixed .kept .1 .1 .1 .1 .1 .0
@@ -40,7 +40,7 @@ module _ (t : ℕ) where
       let at-fixed = c .before .before in
       let at-kind = at-fixed .before .before in
       let start = fixed-start at-kind in
-      leaf-piece _ _ _ _ _ _ _ _ _ _ _ _ _ _ (at-fixed .gather-fixed .result) (at-fixed .gather-fixed .ensures)
+      leaf-piece _ _ _ _ _ _ _ _ _ _ _ _ _ _ _ (at-fixed .gather-fixed .result) (at-fixed .gather-fixed .ensures _)
       (holds-below (start .args .kind) (omega (arith, at-kind .if1 .taken))) (start .pre .1 .only) (omega arith)
 
   pub gather-larger-body-requires : On t lts.Need-gather-larger-body-requires

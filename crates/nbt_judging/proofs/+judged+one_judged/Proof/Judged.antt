@@ -5,6 +5,7 @@ use mathlib.Core.Path.{_≡_, refl, sym, ap, subst, _∙_}
 use native.Mathlib.Omega.{arith}
 use borrow.Fn.Kinds.{In, Out}
 use lib.ListN.{length}
+use Rattle.form.specs.Form.{formNo}
 use Rattle.nbt_judging.specs.declared.Size.{Size}
 use Rattle.nbt_judging.specs.Pieces.{firstTwice}
 use Rattle.nbt_judging.specs.Steps.{Some}
@@ -20,11 +21,11 @@ use Rattle.nbt_judging.proofs.+judged+one_judged.Lts-judged as lts
 use Rattle.nbt_judging.proofs.+judged+one_judged.Proof.Common.{judged-at, one-judged-below}
 
 abbrev pub Inv-loop : lts.InvT-loop
-Inv-loop doc table₀ n end left list k repeat i₀ total₀ table i total =
-    (table ≡ table₀) × ((p : Some doc table₀ list n end) → Walk doc table₀ left list k n end repeat (p .forest) i total)
+Inv-loop doc table₀ n end left list k form repeat i₀ total₀ table i total =
+    (table ≡ table₀) × ((p : Some doc table₀ list n end) → Walk (formNo form) doc table₀ left list k n end repeat (p .forest) i total)
 
 abbrev pub μ-loop : lts.MeasureT-loop
-μ-loop doc table₀ n end left list k repeat i₀ total₀ table i total = end - i
+μ-loop doc table₀ n end left list k form repeat i₀ total₀ table i total = end - i
 
 -- What the calls ask and give.
 abbrev pub claims : ℕ → lts.Claims
@@ -62,7 +63,7 @@ module _ (t : ℕ) where
       let search = c .before .before in
       let f = search .first-twice .ensures in
       let a = start-of (search .before) .args in
-      (refl, λ p. walk-start _ _ _ _ _ _ _ p (f .0 ∙ ap (λ x. firstTwice (a .doc .now) x (a .n) (a .end) (a .list)) (sym (f .1))))
+      (refl, λ p. walk-start _ _ _ _ _ _ _ _ p (f .0 ∙ ap (λ x. firstTwice (a .doc .now) x (a .n) (a .end) (a .list)) (sym (f .1))))
 
   -- The records stand in the table that the search leaves.
   some : (c : On t lts.After-first-twice) → let a = start-of (c .before) .args in Some (a .doc .now) (c .first-twice .last .1 .0) (a .list) (a .n) (a .end)
@@ -93,7 +94,7 @@ module _ (t : ℕ) where
       let search = search-of (turn .before) in
       let i = turn .before .loop .inv in
       let p = some search in
-      (omega (arith, start-of (search .before) .pre .0), walk-one _ _ _ _ _ _ _ (i .1 p) (turn .loop-test .taken) (i .0) (at-word .word .ensures) (p .small))
+      (omega (arith, start-of (search .before) .pre .0), walk-one _ _ _ _ _ _ _ _ (i .1 p) (turn .loop-test .taken) (i .0) (at-word .word .ensures) (p .small))
 
   -- ---- a record is refused
 
@@ -107,8 +108,8 @@ module _ (t : ℕ) where
       let turn = turn-of at-word in
       let i = turn .before .loop .inv in
       let told = one .one-judged in
-      judged-same _ _ (Size.No _ _) (search-of (turn .before) .first-twice .ensures .1)
-      (λ p. walk-no _ _ _ _ _ _ _ (i .1 p) (turn .loop-test .taken) (i .0) (at-word .word .ensures) (p .small)
+      judged-same _ _ _ (Size.No _ _) (search-of (turn .before) .first-twice .ensures .1)
+      (λ p. walk-no _ _ _ _ _ _ _ _ (i .1 p) (turn .loop-test .taken) (i .0) (at-word .word .ensures) (p .small)
       (one .before .before .is-at .ensures) (told .result) (told .ensures .0) (c .before .number .given .1))
       (left-as one)
 
@@ -119,7 +120,7 @@ module _ (t : ℕ) where
       let at-word = word-of (one-of (c .before .before .before)) in
       let turn = turn-of at-word in
       let i = turn .before .loop .inv in
-      let on = walk-on _ _ _ _ _ _ _ (i .1 (some (search-of (turn .before)))) (turn .loop-test .taken) (i .0) (at-word .word .ensures) in
+      let on = walk-on _ _ _ _ _ _ _ _ (i .1 (some (search-of (turn .before)))) (turn .loop-test .taken) (i .0) (at-word .word .ensures) in
       omega (arith, on .0, on .1)
 
   pub loop-again : On t lts.Need-loop-again
@@ -130,7 +131,7 @@ module _ (t : ℕ) where
       let i = turn .before .loop .inv in
       let told = one .one-judged in (
         told .ensures .1 ∙ i .0,
-        λ p. walk-next _ _ _ _ _ _ _ (i .1 p) (turn .loop-test .taken) (i .0) (at-word .word .ensures) (p .small)
+        λ p. walk-next _ _ _ _ _ _ _ _ (i .1 p) (turn .loop-test .taken) (i .0) (at-word .word .ensures) (p .small)
             (one .before .before .is-at .ensures) (told .result) (told .ensures .0) (c .before .size .given .1),
       )
 
@@ -139,7 +140,7 @@ module _ (t : ℕ) where
   add-total c =
       let turn = turn-of (word-of (one-of (c .before .before .before))) in
       let p = some (search-of (turn .before)) in
-      omega (arith, walk-le _ _ _ _ _ _ _ (loop-again c .1 p), rows-bound _ _ _ _ _ (p .forest) (p .small) (p .rows))
+      omega (arith, walk-le _ _ _ _ _ _ _ _ (loop-again c .1 p), rows-bound (formNo (start-of (search-of (turn .before) .before) .args .form)) _ _ _ _ _ (p .forest) (p .small) (p .rows))
 
   -- ---- all are judged
 
@@ -149,4 +150,4 @@ module _ (t : ℕ) where
   pub returns-2 : On t lts.Need-returns-2
   returns-2 c =
       let l = c .before in
-      judged-same _ _ (Size.Is _) (search-of l .first-twice .ensures .1) (λ p. walk-end _ _ _ _ _ _ _ (l .loop .inv .1 p) (c .loop-test .left)) (same l)
+      judged-same _ _ _ (Size.Is _) (search-of l .first-twice .ensures .1) (λ p. walk-end _ _ _ _ _ _ _ _ (l .loop .inv .1 p) (c .loop-test .left)) (same l)

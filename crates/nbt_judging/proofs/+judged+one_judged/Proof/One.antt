@@ -7,6 +7,7 @@ use native.Mathlib.Omega.{arith}
 use borrow.Fn.Kinds.{In, Out}
 use lib.ListN.{length}
 use lib.Dec.{eqb}
+use Rattle.form.specs.Form.{formNo}
 use Rattle.form.specs.Answer.{got}
 use Rattle.form.specs.Table.{none, node, word as wordOf, holds, headOf}
 use Rattle.nbt_judging.specs.Pieces.{ownFine}
@@ -73,20 +74,20 @@ module _ (t : ℕ) where
   returns-2 c =
       let refused = c .before in
       let fine = refused .before .before .own-fine .ensures in
-      (λ p. one-refused _ _ _ _ _ p _ _ _ (sym fine ∙ ap fineOut (refused .number .given .1)), refl)
+      (λ p. one-refused _ _ _ _ _ p _ _ _ _ (sym fine ∙ ap fineOut (refused .number .given .1)), refl)
 
   -- ---- it passes by itself
 
   fine : (c : On t lts.After-enum-told) →
       let a = passed-start c .args in
-      ownFine (a .doc .now) (a .left) (a .list) (a .k) (a .twice) (a .n) (headOf (a .table .now) (a .n)) ≡ got tt
+      ownFine (formNo (a .form)) (a .doc .now) (a .left) (a .list) (a .k) (a .twice) (a .n) (headOf (a .table .now) (a .n)) ≡ got tt
   fine c = sym (fine-of c .own-fine .ensures) ∙ ap fineOut (c .enum-told .given .1)
 
   -- No records are in it.
   pub returns : On t lts.Need-returns
   returns c =
       let sized = c .before in
-      (λ p. one-bare _ _ _ _ _ p _ _ _ (fine (passed-of sized)) (sized .own-size .ensures) (c .if1 .taken), refl)
+      (λ p. one-bare _ _ _ _ _ p _ _ _ _ (fine (passed-of sized)) (sized .own-size .ensures) (c .if1 .taken), refl)
 
   -- ---- records are in it
 
@@ -109,7 +110,7 @@ module _ (t : ℕ) where
   deeper : (c : On t lts.After-word) → 0 < passed-start (passed-of (size-of c)) .args .left
   deeper c =
       let passed = passed-of (size-of c) in
-      one-depth _ _ _ _ _ (passed-start passed .pre .1) _ _ _ (fine passed) (held (c .before .before))
+      one-depth _ _ _ _ _ (passed-start passed .pre .1) _ _ _ _ (fine passed) (held (c .before .before))
 
   pub sub-judged : On t lts.Need-sub-judged
   sub-judged c = omega (arith, deeper (kind-of c))
@@ -133,7 +134,7 @@ module _ (t : ℕ) where
       let at-kind = kind-of (told .before) in
       let sized = size-of at-kind in
       let inner = told .before .before .word2 .ensures in (
-        λ p. one-within _ _ _ _ _ p _ _ _ (fine (passed-of sized)) (sized .own-size .ensures) (elements at-kind) inner
+        λ p. one-within _ _ _ _ _ p _ _ _ _ (fine (passed-of sized)) (sized .own-size .ensures) (elements at-kind) inner
             (told .judged .result) (told .judged .ensures .0) (c .before .number2 .given .1),
         told .judged .ensures .1,
       )
@@ -147,14 +148,14 @@ module _ (t : ℕ) where
       let at-kind = kind-of (told .before) in
       let sized = size-of at-kind in
       let inner = told .before .before .word2 .ensures in (
-        λ p. one-whole _ _ _ _ _ p _ _ _ (fine (passed-of sized)) (sized .own-size .ensures) (elements at-kind) inner
+        λ p. one-whole _ _ _ _ _ p _ _ _ _ (fine (passed-of sized)) (sized .own-size .ensures) (elements at-kind) inner
             (told .judged .result) (told .judged .ensures .0) (held (at-kind .before .before)) (c .before .size .given .1),
         told .judged .ensures .1,
       )
 
   -- The sum stays small, since it is the length of the record's bytes.
-  pub add-whole : On t lts.Need-add-t34
+  pub add-whole : On t lts.Need-add-t35
   add-whole c =
       let at-kind = kind-of (judged-of (c .before .before .before) .before) in
       let p = passed-start (passed-of (size-of at-kind)) .pre .1 in
-      omega (arith, returns-4 c .0 p .1, rows-bound _ _ _ _ _ (node (p .head) (p .inner) none) (p .small) (p .rows))
+      omega (arith, returns-4 c .0 p .1, rows-bound (formNo (passed-start (passed-of (size-of at-kind)) .args .form)) _ _ _ _ _ (node (p .head) (p .inner) none) (p .small) (p .rows))

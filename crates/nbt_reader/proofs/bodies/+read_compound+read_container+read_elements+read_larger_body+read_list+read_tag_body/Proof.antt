@@ -53,6 +53,7 @@ pub +read-compound+read-container+read-elements+read-larger-body+read-list+read-
     (Compound.same-length-2 t)
     (Compound.returns-2 t)
     (λ c. search needs)
+    (Compound.add-read-tag-body t)
     (Compound.read-tag-body-requires t)
     (λ c. search needs)
     (Compound.settle-entry-requires t)

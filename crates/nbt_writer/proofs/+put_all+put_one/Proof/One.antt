@@ -66,7 +66,7 @@ module _ (t : ℕ) where
   more c = let o = c .pre .1 .one in (omega (arith, rows-to _ _ _ _ _ (o .head) (o .inner) (o .rows)), o .rows .fits)
 
   pub put-name-requires : On t lts.Need-put-name-requires
-  put-name-requires c κs = let s = start-of (c .before) in (one-placed (s .pre .1 .one), name-room _ _ _ _ _ _ _ (s .pre .1))
+  put-name-requires c κs = let s = start-of (c .before) in (one-placed (s .pre .1 .one), name-room _ _ _ _ _ _ _ _ (s .pre .1))
 
   pub word-requires : On t lts.Need-word-requires
   word-requires c κs =
@@ -82,7 +82,7 @@ module _ (t : ℕ) where
   put-list-requires c κs =
       let list = c .before in
       let s = start-at (list .before) in
-      (one-placed (s .pre .1 .one) .room, list-room _ _ _ _ _ _ _ (s .pre .1) (name-of (list .before) .put-name .ensures) (is-list list))
+      (one-placed (s .pre .1 .one) .room, list-room _ _ _ _ _ _ _ _ (s .pre .1) (name-of (list .before) .put-name .ensures) (is-list list))
 
   pub add-put-all : On t lts.Need-add-put-all
   add-put-all c =
@@ -95,14 +95,14 @@ module _ (t : ℕ) where
       let head = head-of c in
       let list = head .before .before in
       let s = start-at (list .before) in
-      (omega (arith, s .pre .0, more s .0), list-some _ _ _ _ _ _ _ (s .pre .1) (name-of (list .before) .put-name .ensures) (is-list list) (head .put-list .ensures))
+      (omega (arith, s .pre .0, more s .0), list-some _ _ _ _ _ _ _ _ (s .pre .1) (name-of (list .before) .put-name .ensures) (is-list list) (head .put-list .ensures))
 
   pub returns : On t lts.Need-returns
   returns c =
       let all = c .before .before in
       let head = head-of (all .before) in
       let list = head .before .before in
-      λ p. list-put _ _ _ _ _ _ _ p (name-of (list .before) .put-name .ensures) (is-list list) (head .put-list .ensures) (all .put-all .ensures)
+      λ p. list-put _ _ _ _ _ _ _ _ p (name-of (list .before) .put-name .ensures) (is-list list) (head .put-list .ensures) (all .put-all .ensures)
 
   pub same-length : On t lts.Need-same-length
   same-length c =
@@ -123,21 +123,21 @@ module _ (t : ℕ) where
   put-all-requires-2 c κs =
       let compound = c .before in
       let s = start-at (compound .before) in
-      (omega (arith, s .pre .0, more s .0), compound-some _ _ _ _ _ _ _ (s .pre .1) (name-of (compound .before) .put-name .ensures) (is-compound compound))
+      (omega (arith, s .pre .0, more s .0), compound-some _ _ _ _ _ _ _ _ (s .pre .1) (name-of (compound .before) .put-name .ensures) (is-compound compound))
 
   pub put-number-requires : On t lts.Need-put-number-requires
   put-number-requires c κs =
       let entries = entries-of c in
       let compound = entries .before .before in
       let s = start-at (compound .before) in
-      (omega arith, end-room _ _ _ _ _ _ _ (s .pre .1) (name-of (compound .before) .put-name .ensures) (is-compound compound) (entries .put-all2 .ensures))
+      (omega arith, end-room _ _ _ _ _ _ _ _ (s .pre .1) (name-of (compound .before) .put-name .ensures) (is-compound compound) (entries .put-all2 .ensures))
 
   pub returns-2 : On t lts.Need-returns-2
   returns-2 c =
       let put = c .before .before in
       let entries = entries-of (put .before) in
       let compound = entries .before .before in
-      λ p. put-compound _ _ _ _ _ _ _ p (name-of (compound .before) .put-name .ensures) (is-compound compound) (entries .put-all2 .ensures) (put .put-number .ensures)
+      λ p. put-compound _ _ _ _ _ _ _ _ p (name-of (compound .before) .put-name .ensures) (is-compound compound) (entries .put-all2 .ensures) (put .put-number .ensures)
 
   pub add-result : On t lts.Need-add-result
   add-result c =
@@ -162,7 +162,7 @@ module _ (t : ℕ) where
       let at-kind = c .before .before in
       let e = at-kind .word .ensures in
       let s = start-at at-kind in
-      (one-placed (s .pre .1 .one), leaf-room _ _ _ _ _ _ _ (s .pre .1) (name-of at-kind .put-name .ensures) (λ q. other .0 .1 (e ∙ q)) (λ q. other .1 (e ∙ q)))
+      (one-placed (s .pre .1 .one), leaf-room _ _ _ _ _ _ _ _ (s .pre .1) (name-of at-kind .put-name .ensures) (λ q. other .0 .1 (e ∙ q)) (λ q. other .1 (e ∙ q)))
 
   pub returns-3 : On t lts.Need-returns-3
   returns-3 c =
@@ -171,7 +171,7 @@ module _ (t : ℕ) where
       let other = rest .match .rest in
       let at-kind = rest .before in
       let e = at-kind .word .ensures in
-      λ p. leaf-put _ _ _ _ _ _ _ p (name-of at-kind .put-name .ensures) (λ q. other .0 .1 (e ∙ q)) (λ q. other .1 (e ∙ q)) (leaf .put-leaf .ensures)
+      λ p. leaf-put _ _ _ _ _ _ _ _ p (name-of at-kind .put-name .ensures) (λ q. other .0 .1 (e ∙ q)) (λ q. other .1 (e ∙ q)) (leaf .put-leaf .ensures)
 
   pub same-length-3 : On t lts.Need-same-length-3
   same-length-3 c =

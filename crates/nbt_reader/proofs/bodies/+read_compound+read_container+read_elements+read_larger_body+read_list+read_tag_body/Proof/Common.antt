@@ -6,6 +6,7 @@ use Prim.Native.Nat.{ℕ, _<_, _+_, _*_}
 use mathlib.Core.List.{List}
 use borrow.Fn.Kinds.{In}
 use borrow.Fn.PlainCycle.{Measures, is, falls, and}
+use Rattle.form.specs.Form.{Form}
 use Rattle.form.specs.Reading.{Reader, payloadBy, insideAt}
 use Rattle.nbt_reader.proofs.bodies.read_compound.Reads as read-compound
 use Rattle.nbt_reader.proofs.bodies.read_compound.Kinds as read-compound-kinds
@@ -21,8 +22,8 @@ use Rattle.nbt_reader.proofs.bodies.read_tag_body.Reads as read-tag-bod
 use Rattle.nbt_reader.proofs.bodies.read_tag_body.Kinds as read-tag-body-kinds
 
 -- the reader of a payload, where so many containers may still stand within each other
-abbrev pub readOf : List ℕ → ℕ → ℕ → Reader
-readOf doc cap depth = payloadBy doc cap (insideAt doc cap depth)
+abbrev pub readOf : Form → List ℕ → ℕ → ℕ → Reader
+readOf form doc cap depth = payloadBy form doc cap (insideAt form doc cap depth)
 
 abbrev pub μ-read-compound : Measures 2 read-compound-kinds.ps ℕ
 μ-read-compound κs a = 5 * a .1 .1 .0 + 3

@@ -7,6 +7,7 @@ use mathlib.Core.Path.{_≡_, refl, sym, ap, _∙_}
 use native.Mathlib.Omega.{arith}
 use borrow.Fn.Kinds.{In, Out}
 use lib.ListN.{length, take}
+use Rattle.form.specs.Form.{Form, formNo}
 use Rattle.form.specs.Answer.{got, no}
 use Rattle.form.specs.Reading.{Span, end, named, entryAt, entries as entriesOf}
 use Rattle.form.proofs.Fields.{Within, entry-within, entry-in}
@@ -30,21 +31,21 @@ use Rattle.nbt_reader.proofs.bodies.read_tag_body.Reads as read-tag-bod
 use Rattle.nbt_reader.proofs.bodies.+read_compound+read_container+read_elements+read_larger_body+read_list+read_tag_body.Lts-read_compound as lts
 use Rattle.nbt_reader.proofs.bodies.+read_compound+read_container+read_elements+read_larger_body+read_list+read_tag_body.Proof.Common.{readOf, read-tag-body-below, read-compound-at}
 
-pub record Inv (doc : List ℕ) (at depth : ℕ) (t₀ : List ℕ) (cap above ix : ℕ) (t : List ℕ) (here next count : ℕ) : Type 0 where
+pub record Inv (form : Form) (doc : List ℕ) (at depth : ℕ) (t₀ : List ℕ) (cap above ix : ℕ) (t : List ℕ) (here next count : ℕ) : Type 0 where
   pub fuel : ℕ
   pub enough : length doc < fuel + here
   pub acc : Forest
-  pub going : Going doc (entriesOf doc (readOf doc cap depth) (suc (length doc)) none at ix) (entriesOf doc (readOf doc cap depth) fuel acc here next) acc t₀ t above ix next count
+  pub going : Going doc (entriesOf form doc (readOf form doc cap depth) (suc (length doc)) none at ix) (entriesOf form doc (readOf form doc cap depth) fuel acc here next) acc t₀ t above ix next count
   pub on : at ≤ here
   pub at-le : here ≤ length doc
   pub n-le : next ≤ cap
   pub count-le : count ≤ here
 
 abbrev pub Inv-loop : lts.InvT-loop
-Inv-loop doc at depth table₀ cap above ix here₀ next₀ count₀ table here next count = Inv doc at depth table₀ cap above ix table here next count
+Inv-loop doc at depth table₀ cap above ix form here₀ next₀ count₀ table here next count = Inv (formNo form) doc at depth table₀ cap above ix table here next count
 
 abbrev pub μ-loop : lts.MeasureT-loop
-μ-loop doc at depth table₀ cap above ix here₀ next₀ count₀ table here next count = length doc - here
+μ-loop doc at depth table₀ cap above ix form here₀ next₀ count₀ table here next count = length doc - here
 
 abbrev On : ℕ → (lts.Claims → In 2 kinds.ps → Out 2 kinds.ps kinds.r → lts.InvT-loop → lts.MeasureT-loop → Type 0) → Type 0
 On t F =
@@ -142,7 +143,7 @@ module _ (t : ℕ) where
       let i = l .loop .inv in
       let e = at-settle .settle in
       settled-went (e .result) (s .args .doc .now) (s .args .cap) _ (s .args .at) (s .args .above) (s .args .ix) (s .args .table .now) (e .last .1 .0) _ _ _ _ (e .ensures .0)
-      (deferred-head-no _ _ _ _ _ _ _ (i .going .deferred) (enough l) _ _ (sym (head-no told .entry-at .ensures) ∙ ap entryOut (told .before .number .given .1)))
+      (deferred-head-no _ _ _ _ _ _ _ _ (i .going .deferred) (enough l) _ _ (sym (head-no told .entry-at .ensures) ∙ ap entryOut (told .before .number .given .1)))
       (once-of _ _ _ _ (held l)) (ap (take (9 * s .args .ix)) (e .ensures .1) ∙ kept l)
 
   -- ---- the end byte
@@ -150,7 +151,7 @@ module _ (t : ℕ) where
   abbrev end-loop : On t lts.After-enum-told → On t lts.At-loop
   end-loop c = c .before .before .before
 
-  is-end : (c : On t lts.After-enum-told) → entryAt (start-of (end-loop c) .args .doc .now) (end-loop c .loop .here) ≡ got end
+  is-end : (c : On t lts.After-enum-told) → entryAt (formNo (start-of (end-loop c) .args .form)) (start-of (end-loop c) .args .doc .now) (end-loop c .loop .here) ≡ got end
   is-end c = sym (c .before .before .entry-at .ensures) ∙ ap entryOut (c .enum-told .given .1)
 
   pub add-finish : On t lts.Need-add-finish
@@ -175,9 +176,9 @@ module _ (t : ℕ) where
       let i = l .loop .inv in
       let e = at-finish .finish in
       finished-went (e .result) (s .args .doc .now) (s .args .cap) _ (s .args .at) (s .args .above) (s .args .ix) (s .args .table .now) (e .last .1 .0) _ _ _ _ _ (i .acc) (e .ensures .0)
-      (deferred-end _ _ _ _ _ _ _ (i .going .deferred) (enough l) (is-end told))
+      (deferred-end _ _ _ _ _ _ _ _ (i .going .deferred) (enough l) (is-end told))
       (once-of _ _ _ _ (held l)) (ap (take (9 * s .args .ix)) (e .ensures .1) ∙ kept l)
-      (i .going .n-is) (i .going .done-is) (e .ensures .1 ∙ i .going .table) (omega (arith, i .on)) (omega (arith, entry-in _ _ (is-end told))) (i .n-le)
+      (i .going .n-is) (i .going .done-is) (e .ensures .1 ∙ i .going .table) (omega (arith, i .on)) (omega (arith, entry-in _ _ _ (is-end told))) (i .n-le)
 
   -- ---- an entry with a name
 
@@ -188,13 +189,18 @@ module _ (t : ℕ) where
   entry-of n = n .before .before
 
   abbrev span : On t lts.After-known-told2 → Span
-  span c = let g = c .before .kind .given .0 in record { start = g .1 .0; size = g .1 .1 .0; count = 0; next = g .1 .1 .1 .0 }
+  span c = let g = c .before .kind .given .0 in record { start = g .1 .0; size = g .1 .1 .0; count = 0; next = g .1 .0 + g .1 .1 .0 }
 
-  is : (c : On t lts.After-known-told2) → entryAt (start-of (loop-of c) .args .doc .now) (loop-of c .loop .here) ≡ got (named (c .before .kind .given .0 .0) (span c))
+  is : (c : On t lts.After-known-told2) → entryAt (formNo (start-of (loop-of c) .args .form)) (start-of (loop-of c) .args .doc .now) (loop-of c .loop .here)
+      ≡ got (named (c .before .kind .given .0 .0) (span c))
   is c = sym (c .before .before .before .entry-at .ensures) ∙ ap entryOut (c .before .kind .given .1)
 
   within : (c : On t lts.After-known-told2) → (c .before .kind .given .0 .0 ≤ 12) × Within (start-of (loop-of c) .args .doc .now) (loop-of c .loop .here + 3) 0 (span c)
-  within c = entry-within _ _ (is c)
+  within c = entry-within _ _ _ (is c)
+
+  -- the place behind the name is in the document, and so a word
+  pub add-read-tag-body : On t lts.Need-add-read-tag-body
+  add-read-tag-body c = omega (arith, within c .1 .to, start-of (loop-of c) .pre .1 .doc-le)
 
   pub read-tag-body-requires : On t lts.Need-read-tag-body-requires
   read-tag-body-requires c κs =
@@ -229,7 +235,8 @@ module _ (t : ℕ) where
       let s = start-of l in
       let sp = span (entry-of n) in
       let refusal = c .before .number2 .given .0 in
-      (readOf (s .args .doc .now) (s .args .cap) (s .args .depth) (entry-of n .before .kind .given .0 .0) (sp .start) (sp .size) (sp .next) (l .loop .next) ≡ no (refusal .0) (refusal .1 .0))
+      (readOf (formNo (s .args .form)) (s .args .doc .now) (s .args .cap) (s .args .depth) (entry-of n .before .kind .given .0 .0) (sp .start) (sp .size) (sp .next) (l .loop .next)
+      ≡ no (refusal .0) (refusal .1 .0))
       × Kept (l .loop .next) (l .loop .table) (n .read-tag-body .last .1 .1 .1 .1 .1 .1 .0)
   told c = stepped-no (body-no c .read-tag-body .result) _ _ _ _ _ _ _ (c .before .number2 .given .1) (body-no c .read-tag-body .ensures)
 
@@ -283,7 +290,7 @@ module _ (t : ℕ) where
       let e = at-settle .settle-entry in
       entry-settled-went (e .result) (s .args .doc .now) (s .args .cap) _ (s .args .at) (s .args .above) (s .args .ix) (s .args .table .now) (e .last .1 .0)
       _ _ _ _ _ _ _ (e .ensures .0)
-      (deferred-no _ _ _ _ _ _ _ (i .going .deferred) (enough l) _ (span n) (is n) _ _ (told k .0))
+      (deferred-no _ _ _ _ _ _ _ _ (i .going .deferred) (enough l) _ (span n) (is n) _ _ (told k .0))
       (once-of _ _ _ _ (left k)) (sym (among-is _ _ _ _ (left k) _ _ (omega arith)))
       (ap (take (9 * s .args .ix)) (e .ensures .1)
       ∙ kept-from _ _ _ _ _ _ (i .acc) (i .going .table) (i .going .n-is) (omega (arith, s .pre .1 .n-le, s .pre .1 .fits)) (told k .1))
@@ -313,14 +320,14 @@ module _ (t : ℕ) where
       let i = loop-of e .loop .inv in
       let w = within e .1 in
       let s = stepped-next (n .read-tag-body .result) (c .before .a .given .1) (n .read-tag-body .ensures) in
-      let m = payload-name _ _ _ _ _ _ _ _ (s .is) in
+      let m = payload-name _ _ _ _ _ _ _ _ _ (s .is) in
       record {
         fuel = i .fuel - 1;
         enough = omega (arith, i .enough, w, s .on);
         acc = _;
         going = going-next (i .going) (s .x) _ _ _ _
-            (deferred-next _ _ _ _ _ _ _ (i .going .deferred) (enough (loop-of e)) _ (span e) (is e) (s .x) (s .is) (m .0) (m .1) (entry-start _ _ (is e)) _ _ (s .at-is) (s .n-is))
-            (s .table) (s .n-is) refl (omega (arith, i .n-le, start-of (loop-of e) .pre .1)) (omega (arith, m, w)) (payload-free _ _ _ _ _ _ _ _ (s .is));
+            (deferred-next _ _ _ _ _ _ _ _ (i .going .deferred) (enough (loop-of e)) _ (span e) (is e) (s .x) (s .is) (m .0) (m .1) (entry-start _ _ _ (is e)) _ _ (s .at-is) (s .n-is))
+            (s .table) (s .n-is) refl (omega (arith, i .n-le, start-of (loop-of e) .pre .1)) (omega (arith, m, w)) (payload-free _ _ _ _ _ _ _ _ _ (s .is));
         on = omega (arith, i .on, w, s .on);
         at-le = s .at-le;
         n-le = s .n-le;

@@ -22,7 +22,7 @@ module _ (t : ℕ) where
   start-of c = c .before .before .before
 
   pub returns : On t lts.Need-returns
-  returns c = (inside-deep _ _ _ _ _ _ (c .if1 .taken), refl)
+  returns c = (inside-deep _ _ _ _ _ _ _ (c .if1 .taken), refl)
 
   -- ---- a list
 
@@ -36,7 +36,7 @@ module _ (t : ℕ) where
   returns-2 c =
       let at-list = c .before .before in
       let at-kind = at-list .before .before in
-      rw (inside-list _ _ _ _ _ _ (at-kind .before .if1 .left) (at-kind .match .keys1)) (at-list .read-list .ensures)
+      rw (inside-list _ _ _ _ _ _ _ (at-kind .before .if1 .left) (at-kind .match .keys1)) (at-list .read-list .ensures)
 
   -- ---- a compound
 
@@ -60,7 +60,7 @@ module _ (t : ℕ) where
       let e = entries-no c in
       let at-kind = kind-of e in
       let s = went-no (e .read-compound .result) _ _ _ _ _ _ _ (c .before .number .given .1) (e .read-compound .ensures) in
-      (inside-compound _ _ _ _ _ _ (at-kind .before .if1 .left) (at-kind .match .rest .1) ∙ compound-no _ _ _ _ (s .0), s .1)
+      (inside-compound _ _ _ _ _ _ _ (at-kind .before .if1 .left) (at-kind .match .rest .1) ∙ compound-no _ _ _ _ _ (s .0), s .1)
 
   pub same-length-3 : On t lts.Need-same-length-3
   same-length-3 c = entries-got c .read-compound .kept .1 .1 .1 .0
@@ -73,7 +73,7 @@ module _ (t : ℕ) where
       let p = start-of (at-kind .before) .pre .1 in
       record {
         x = _;
-        is = inside-compound _ _ _ _ _ _ (at-kind .before .if1 .left) (at-kind .match .rest .1) ∙ compound-got _ _ _ _ (s .is);
+        is = inside-compound _ _ _ _ _ _ _ (at-kind .before .if1 .left) (at-kind .match .rest .1) ∙ compound-got _ _ _ _ _ (s .is);
         at-is = s .at-is;
         n-is = s .n-is;
         count-is = s .count-is;

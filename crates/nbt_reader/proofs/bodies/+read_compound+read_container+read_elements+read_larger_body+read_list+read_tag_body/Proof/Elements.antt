@@ -7,6 +7,7 @@ use mathlib.Core.Path.{_≡_, refl, _∙_}
 use native.Mathlib.Omega.{arith}
 use borrow.Fn.Kinds.{In, Out}
 use lib.ListN.{length}
+use Rattle.form.specs.Form.{Form, formNo}
 use Rattle.form.specs.Reading.{elements as elementsOf}
 use Rattle.form.specs.Table.{Forest, none}
 use Rattle.form.proofs.Runs.{Sofar, sofar-start, sofar-no, sofar-end, sofar-next, sofar-length, elements-none, elements-no, elements-next}
@@ -17,19 +18,19 @@ use Rattle.nbt_reader.proofs.bodies.read_tag_body.Reads as read-tag-bod
 use Rattle.nbt_reader.proofs.bodies.+read_compound+read_container+read_elements+read_larger_body+read_list+read_tag_body.Lts-read_elements as lts
 use Rattle.nbt_reader.proofs.bodies.+read_compound+read_container+read_elements+read_larger_body+read_list+read_tag_body.Proof.Common.{readOf, read-tag-body-below, read-elements-at}
 
-pub record Inv (doc : List ℕ) (kind count at depth : ℕ) (t₀ : List ℕ) (cap above ix : ℕ) (t : List ℕ) (here next left : ℕ) : Type 0 where
+pub record Inv (form : Form) (doc : List ℕ) (kind count at depth : ℕ) (t₀ : List ℕ) (cap above ix : ℕ) (t : List ℕ) (here next left : ℕ) : Type 0 where
   pub acc : Forest
-  pub sofar : Sofar (elementsOf doc (readOf doc cap depth) count kind at ix) (elementsOf doc (readOf doc cap depth) left kind here next) acc t₀ t above ix next (count - left)
+  pub sofar : Sofar (elementsOf form doc (readOf form doc cap depth) count kind at ix) (elementsOf form doc (readOf form doc cap depth) left kind here next) acc t₀ t above ix next (count - left)
   pub left-le : left ≤ count
   pub on : at ≤ here
   pub at-le : here ≤ length doc
   pub n-le : next ≤ cap
 
 abbrev pub Inv-loop : lts.InvT-loop
-Inv-loop doc kind count at depth table₀ cap above ix here₀ next₀ left₀ table here next left = Inv doc kind count at depth table₀ cap above ix table here next left
+Inv-loop doc kind count at depth table₀ cap above ix form here₀ next₀ left₀ table here next left = Inv (formNo form) doc kind count at depth table₀ cap above ix table here next left
 
 abbrev pub μ-loop : lts.MeasureT-loop
-μ-loop doc kind count at depth table₀ cap above ix here₀ next₀ left₀ table here next left = left
+μ-loop doc kind count at depth table₀ cap above ix form here₀ next₀ left₀ table here next left = left
 
 abbrev On : ℕ → (lts.Claims → In 2 kinds.ps → Out 2 kinds.ps kinds.r → lts.InvT-loop → lts.MeasureT-loop → Type 0) → Type 0
 On t F = F (read-tag-body-below t, read-tag-body.Post) (read-elements-at t) read-elements.Post Inv-loop μ-loop
@@ -93,7 +94,7 @@ module _ (t : ℕ) where
       let l = turn .before in
       let i = l .loop .inv in
       let s = stepped-no (n .read-tag-body .result) _ _ _ _ _ _ _ (c .before .number .given .1) (n .read-tag-body .ensures) in (
-        sofar-no (i .sofar) (elements-no _ _ _ _ _ _ (turn .loop-test .taken) (s .0)),
+        sofar-no (i .sofar) (elements-no _ _ _ _ _ _ _ (turn .loop-test .taken) (s .0)),
         kept-from _ _ _ _ _ _ (i .acc) (i .sofar .table) (i .sofar .n-is) (omega (arith, i .n-le, start-of l .pre .1 .0 .fits)) (s .1),
       )
 
@@ -106,7 +107,7 @@ module _ (t : ℕ) where
       record {
         acc = _;
         sofar =
-            sofar-next (i .sofar) (s .x) (elements-next _ _ _ _ _ _ (turn .loop-test .taken) (s .is) (s .at-is) (s .n-is))
+            sofar-next (i .sofar) (s .x) (elements-next _ _ _ _ _ _ _ (turn .loop-test .taken) (s .is) (s .at-is) (s .n-is))
             (s .table) (s .n-is) (omega (arith, i .left-le)) (omega (arith, i .n-le));
         left-le = omega (arith, i .left-le);
         on = omega (arith, i .on, s .on);
@@ -122,7 +123,7 @@ module _ (t : ℕ) where
       let i = c .before .loop .inv in
       record {
         x = _;
-        is = sofar-end (i .sofar) (elements-none _ _ _ _ _ _ (c .loop-test .left));
+        is = sofar-end (i .sofar) (elements-none _ _ _ _ _ _ _ (c .loop-test .left));
         at-is = refl;
         n-is = i .sofar .n-is;
         count-is = omega (arith, i .sofar .done-is);

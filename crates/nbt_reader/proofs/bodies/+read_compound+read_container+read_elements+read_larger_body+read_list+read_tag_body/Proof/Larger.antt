@@ -64,7 +64,7 @@ module _ (t : ℕ) where
   returns c =
       let at-leaf = c .before .before in
       let joined = at-leaf .before .before in
-      rw (payload-leaf _ _ _ _ _ _ _ _ (leaf-start joined .pre .1 .1) (holds-not joined)) (at-leaf .read-leaf .ensures)
+      rw (payload-leaf _ _ _ _ _ _ _ _ _ (leaf-start joined .pre .1 .1) (holds-not joined)) (at-leaf .read-leaf .ensures)
 
   -- ---- a container
 
@@ -102,7 +102,7 @@ module _ (t : ℕ) where
       let s = held-no (inside .read-container .result) _ _ _ _ _ _ _ (c .before .number .given .1) (inside .read-container .ensures) in
       let test = test-of inside in
       let start = start-of test in
-      (payload-no _ _ _ _ _ _ _ _ (start .pre .1 .1) (holds-is test) (s .0), kept-less _ _ (start .args .ix) (start .args .ix + 1) (omega arith) (s .1))
+      (payload-no _ _ _ _ _ _ _ _ _ (start .pre .1 .1) (holds-is test) (s .0), kept-less _ _ (start .args .ix) (start .args .ix + 1) (omega arith) (s .1))
 
   pub same-length-3 : On t lts.Need-same-length-3
   same-length-3 c =
@@ -121,7 +121,7 @@ module _ (t : ℕ) where
       let asked = start-of test .pre .1 in
       record {
         x = _;
-        is = payload-got _ _ _ _ _ _ _ _ (asked .1) (holds-is test) (s .is);
+        is = payload-got _ _ _ _ _ _ _ _ _ (asked .1) (holds-is test) (s .is);
         at-is = s .at-is;
         n-is = s .n-is;
         table =

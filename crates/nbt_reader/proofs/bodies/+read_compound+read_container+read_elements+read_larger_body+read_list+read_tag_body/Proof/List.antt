@@ -4,6 +4,7 @@ use Prim.Native.Nat.{ℕ, _-_}
 use mathlib.Core.Path.{_≡_, refl, sym, ap, _∙_}
 use native.Mathlib.Omega.{arith}
 use borrow.Fn.Kinds.{In, Out}
+use Rattle.form.specs.Form.{formNo}
 use Rattle.form.specs.Answer.{got}
 use Rattle.form.specs.Reading.{listHeadAt}
 use Rattle.form.proofs.Fields.{list-head-within}
@@ -41,24 +42,24 @@ module _ (t : ℕ) where
   list-head-requires c κs = c .before .before .pre .1 .at-le
 
   pub returns : On t lts.Need-returns
-  returns c = (list-head-no _ _ _ _ (sym (c .before .before .before .list-head .ensures) ∙ ap listHeadOut (c .before .number .given .1)), refl)
+  returns c = (list-head-no _ _ _ _ _ (sym (c .before .before .before .list-head .ensures) ∙ ap listHeadOut (c .before .number .given .1)), refl)
 
   -- the head that was read
   is : (c : On t lts.After-known-told2) →
       let args = start-of (head-of c) .args in
       let head = c .before .kind .given .0 in
-      listHeadAt (args .doc .now) (args .at) ≡ got (record { kind = head .0; count = head .1 .0 })
+      listHeadAt (formNo (args .form)) (args .doc .now) (args .at) ≡ got (record { kind = head .0; count = head .1 .0 })
   is c = sym (head-of c .list-head .ensures) ∙ ap listHeadOut (c .before .kind .given .1)
 
   -- ---- the elements
 
   pub add-read-elements : On t lts.Need-add-read-elements
-  add-read-elements c = omega (arith, list-head-within _ _ (is c))
+  add-read-elements c = omega (arith, list-head-within _ _ _ (is c))
 
   pub read-elements-requires : On t lts.Need-read-elements-requires
   read-elements-requires c κs =
       let r = start-of (head-of (c .before)) .pre .1 in
-      let w = list-head-within _ _ (is (c .before)) in
+      let w = list-head-within _ _ _ (is (c .before)) in
       (omega arith, (record { doc-le = r .doc-le; at-le = w .0; cap-le = r .cap-le; fits = r .fits; n-le = r .n-le; above-le = r .above-le }, w .1))
 
   pub same-length : On t lts.Need-same-length
@@ -68,7 +69,7 @@ module _ (t : ℕ) where
   returns-2 c =
       let e = elements-no c in
       let s = went-no (e .read-elements .result) _ _ _ _ _ _ _ (c .before .number2 .given .1) (e .read-elements .ensures) in
-      (list-no _ _ _ _ (is (e .before .before)) (s .0), s .1)
+      (list-no _ _ _ _ _ (is (e .before .before)) (s .0), s .1)
 
   pub same-length-2 : On t lts.Need-same-length-2
   same-length-2 c = elements-got c .read-elements .kept .1 .1 .1 .1 .1 .0
@@ -77,10 +78,10 @@ module _ (t : ℕ) where
   returns-3 c =
       let e = elements-got c in
       let s = went-done (e .read-elements .result) (c .before .next .given .1) (e .read-elements .ensures) in
-      let w = list-head-within _ _ (is (e .before .before)) in
+      let w = list-head-within _ _ _ (is (e .before .before)) in
       record {
         x = _;
-        is = list-got _ _ _ _ (is (e .before .before)) (s .is);
+        is = list-got _ _ _ _ _ (is (e .before .before)) (s .is);
         at-is = s .at-is;
         n-is = s .n-is;
         count-is = refl;

@@ -22,7 +22,7 @@ module _ (t : ℕ) where
   start-of c = c .before .before .before
 
   pub returns : On t lts.Need-returns
-  returns c = (payload-full _ _ _ _ _ _ _ _ (c .if1 .taken), refl)
+  returns c = (payload-full _ _ _ _ _ _ _ _ _ (c .if1 .taken), refl)
 
   pub read-fixed-requires : On t lts.Need-read-fixed-requires
   read-fixed-requires c κs =
@@ -38,7 +38,7 @@ module _ (t : ℕ) where
       let at-fixed = c .before .before in
       let at-kind = at-fixed .before .before in
       let kind = start-of (at-kind .before) .args .kind in
-      rw (payload-leaf _ _ _ _ _ _ _ _ (at-kind .before .if1 .left) (holds-below kind (omega (arith, at-kind .if2 .taken)))) (at-fixed .read-fixed .ensures)
+      rw (payload-leaf _ _ _ _ _ _ _ _ _ (at-kind .before .if1 .left) (holds-below kind (omega (arith, at-kind .if2 .taken)))) (at-fixed .read-fixed .ensures _)
 
   pub read-larger-body-requires : On t lts.Need-read-larger-body-requires
   read-larger-body-requires c κs =

@@ -1,23 +1,24 @@
--- `raw::number_at` meets its contract. The loop's invariant: n is the number that the first i digits are, and has no more of them.
+-- `raw::number_by` meets its contract. The loop's invariant: n is the number that the first i digits are, and has no more of them.
 -- Assumes nothing.
 use Prim.Native.Nat.{_+_, _-_, _*_, _^_, _≤_, _<_}
 use mathlib.Core.Path.{_≡_, subst, sym, ap, _∙_}
 use native.Mathlib.Omega.{arith}
 use native.Mathlib.Nat.{le-antisymm}
 use lib.ListN.{length, getD, take}
+use Rattle.form.specs.Form.{orderIn}
 use Rattle.form.specs.Numbers.{value, ordered}
 use Rattle.form.specs.Spans.{part}
 use Rattle.form.proofs.Numbers.{below-next}
 use Rattle.raw.proofs.Order.{place-inside}
 use Rattle.raw.proofs.Turns.{read-start, read-turn, read-end, read-room}
-use Rattle.raw.proofs.number_at.Statement.{statement}
-use Rattle.raw.proofs.number_at.Tie as tie
+use Rattle.raw.proofs.number_by.Statement.{statement}
+use Rattle.raw.proofs.number_by.Tie as tie
 
 abbrev Inv-loop : tie.InvT-loop
-Inv-loop s at width n₀ i₀ n i = (i ≤ width) × (n ≡ value (take i (ordered (part s at width)))) × (n < 256 ^ i)
+Inv-loop s at width little n₀ i₀ n i = (i ≤ width) × (n ≡ value (take i (ordered (orderIn little) (part s at width)))) × (n < 256 ^ i)
 
 abbrev μ-loop : tie.MeasureT-loop
-μ-loop s at width n₀ i₀ n i = width - i
+μ-loop s at width little n₀ i₀ n i = width - i
 
 -- ---- places
 
@@ -32,7 +33,7 @@ turn-of c = c .before .before .before
 loop-holds : tie.Need-loop-holds Inv-loop μ-loop
 loop-holds c =
     let a = c .before .args in
-    (omega arith, read-start (ordered (part (a .s .now) (a .at) (a .width))), omega arith)
+    (omega arith, read-start (ordered (orderIn (a .little)) (part (a .s .now) (a .at) (a .width))), omega arith)
 
 -- There is room for one digit more.
 room : (c : tie.In-loop Inv-loop μ-loop) → c .before .loop .n * 256 + 255 < 2 ^ 64
@@ -55,9 +56,10 @@ place-of-requires c κs = let a = start-of (c .before) in (c .loop-test .taken, 
 shared-slice-read-n : tie.Need-shared-slice-read-n Inv-loop μ-loop
 shared-slice-read-n c =
     let a = start-of (turn-of c) in
+    let o = orderIn (a .args .little) in
     let l = turn-of c .loop in
     subst (λ k. k < length (a .args .s .now)) (sym (c .before .place-of .ensures))
-    (place-inside (a .args .at) (a .args .width) (l .i) (length (a .args .s .now)) (c .before .before .loop-test .taken) (a .pre .1))
+    (place-inside o (a .args .at) (a .args .width) (l .i) (length (a .args .s .now)) (c .before .before .loop-test .taken) (a .pre .1))
 
 cast-n : tie.Need-cast-n Inv-loop μ-loop
 cast-n c = omega (arith, byte c)
@@ -74,25 +76,27 @@ loop-less c = omega arith
 loop-again : tie.Need-loop-again Inv-loop μ-loop
 loop-again c =
     let a = start-of (turn-of c) in
+    let o = orderIn (a .args .little) in
     let l = turn-of c .loop in (
       omega arith,
       ap (λ k. l .n * 256 + getD (a .args .s .now) k 0) (c .before .place-of .ensures)
-          ∙ read-turn (a .args .s .now) (a .args .at) (a .args .width) (l .i) (l .n) (c .before .before .loop-test .taken) (a .pre .1) (l .inv .1),
+          ∙ read-turn o (a .args .s .now) (a .args .at) (a .args .width) (l .i) (l .n) (c .before .before .loop-test .taken) (a .pre .1) (l .inv .1),
       below-next (l .n) _ (l .i) (l .inv .2) (byte c),
     )
 
 returns : tie.Need-returns Inv-loop μ-loop
 returns c =
     let a = start-of (c .before) in
+    let o = orderIn (a .args .little) in
     let l = c .before .loop in
     let e : l .i ≡ a .args .width = le-antisymm (l .inv .0) (c .loop-test .left) in
     record {
-      is = read-end (a .args .s .now) (a .args .at) (a .args .width) (l .i) (l .n) (c .loop-test .left) (a .pre .1) (l .inv .1);
+      is = read-end o (a .args .s .now) (a .args .at) (a .args .width) (l .i) (l .n) (c .loop-test .left) (a .pre .1) (l .inv .1);
       below = subst (λ w. l .n < 256 ^ w) e (l .inv .2);
     }
 
-pub number-at-spec : {M : Type 1} → statement M
-number-at-spec =
+pub number-by-spec : {M : Type 1} → statement M
+number-by-spec =
     tie.close
     (tie.spec
     Inv-loop
