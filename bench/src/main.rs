@@ -8,6 +8,7 @@ mod library;
 mod lines;
 mod markdown;
 mod moves;
+mod pocket;
 mod quartz;
 mod query;
 mod read;
@@ -30,10 +31,11 @@ pub struct Bench {
 
 type Section = (&'static str, fn(&mut Bench));
 
-const SECTIONS: [Section; 10] = [
+const SECTIONS: [Section; 11] = [
     ("strings", strings::section),
     ("read", read::section),
     ("write", write::section),
+    ("pocket", pocket::section),
     ("rescue", rescue::section),
     ("lines", lines::section),
     ("moves", moves::section),
