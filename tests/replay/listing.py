@@ -9,6 +9,8 @@ It is run on the marked documents first, whose answers 01 gives, and on strings 
 import random
 import sys
 
+from forms import JAVA
+
 WIDTH = {1: 1, 2: 2, 3: 4, 4: 8, 5: 4, 6: 8, 7: 1, 11: 4, 12: 8}
 ROOM, DEPTH = 512, 512
 
@@ -17,70 +19,29 @@ class Refused(Exception):
     pass
 
 
-def units(b):
-    """The 16-bit units of modified UTF-8, or None."""
-    out, i = [], 0
-    while i < len(b):
-        a = b[i]
-        rest = b[i + 1:i + 3]
-        if 1 <= a < 0x80:
-            u, n = a, 1
-        elif 0xC0 <= a < 0xE0 and len(rest) >= 1:
-            u, n = (a & 31) << 6 | rest[0] & 63, 2
-        elif 0xE0 <= a < 0xF0 and len(rest) >= 2:
-            u, n = (a & 15) << 12 | (rest[0] & 63) << 6 | rest[1] & 63, 3
-        else:
-            return None
-        if any(c >> 6 != 2 for c in b[i + 1:i + n]):
-            return None
-        if n != (1 if 1 <= u < 0x80 else 2 if u < 0x800 else 3):
-            return None
-        out.append(u)
-        i += n
-    return out
-
-
-def well_formed(b):
-    us = units(b)
-    if us is None:
-        return False
-    i = 0
-    while i < len(us):
-        if 0xD800 <= us[i] < 0xDC00:
-            if i + 1 == len(us) or not 0xDC00 <= us[i + 1] < 0xE000:
-                return False
-            i += 1
-        elif 0xDC00 <= us[i] < 0xE000:
-            return False
-        i += 1
-    return True
-
-
-def readable(b):
-    """How many bytes the longest well-formed start of a string has: where the first sequence that can't be read begins (02, [3])."""
-    return next(n for n in range(len(b), -1, -1) if well_formed(b[:n]))
-
-
 class Reader:
     room, depth = ROOM, DEPTH
 
-    def __init__(self, doc):
-        self.d, self.records = doc, []
+    def __init__(self, doc, form=JAVA):
+        self.d, self.form, self.records = doc, form, []
 
     def field(self, at, n):
         if at + n > len(self.d):
             raise Refused(1, at)
         return self.d[at:at + n]
 
+    def number(self, at, n, signed=False):
+        return self.form.number(self.field(at, n), signed)
+
     def string(self, at):
-        n = int.from_bytes(self.field(at, 2), "big")
-        good = readable(self.field(at + 2, n))
+        n = self.number(at, 2)
+        good = self.form.readable(self.field(at + 2, n))
         if good < n:
             raise Refused(4, at + 2 + good)
         return at + 2, n
 
     def count(self, at):
-        n = int.from_bytes(self.field(at, 4), "big", signed=True)
+        n = self.number(at, 4, signed=True)
         if n < 0:
             raise Refused(5, at)
         return n
@@ -108,8 +69,7 @@ class Reader:
             return at + record[2]
         if kind == 9:
             id = self.field(at, 1)[0]
-            self.field(at + 1, 4)
-            n = int.from_bytes(self.d[at + 1:at + 5], "big", signed=True)
+            n = self.number(at + 1, 4, signed=True)
             if id > 12 or id == 0 and n != 0:
                 raise Refused(3, at)
             record[3] = self.count(at + 1)
@@ -166,66 +126,58 @@ def marked():
         yield line
 
 
-def string(b):
-    return len(b).to_bytes(2, "big") + b
+string = JAVA.string
 
 
-# Good characters of one, two, three and six bytes, with U+0000 among them; and what can't be read, with the offset in it at which the first
-# such sequence begins, by 02, [3]: whatever good characters stand before it and behind it, or none.
-CHARACTERS = [b"a", b"\xC3\xA9", b"\xE2\x82\xAC", b"\xED\xA0\xBD\xED\xB8\x80", b"\xC0\x80"]
-FAULTS = [(bytes.fromhex(fault), offset) for fault, offset in [
-    ("00", 0), ("80", 0), ("BF", 0), ("F8", 0), ("FF", 0), ("C080 00", 2), ("E282AC 82", 3),  # at their own offsets
-    ("C3", 0), ("E2", 0), ("E282", 0), ("E28261", 0), ("E26182", 0), ("C2 C3A9", 0), ("E2 E282AC", 0), ("C300", 0), ("E282FF", 0),  # at the lead
-    ("C1BF", 0), ("C081", 0), ("E09FBF", 0), ("E08080", 0),  # overlong
-    ("F09F9880", 0), ("F48FBFBF", 0), ("F09F98", 0),  # four bytes
-    ("EDA0BD", 0), ("EDA0BD EDB8", 0), ("EDA0BD ED", 0), ("EDA0BD 61", 0), ("EDA0BD C080", 0), ("EDAFBF EE8080", 0),  # a high half alone
-    ("EDA0BD 00", 0), ("EDA0BD 80", 0), ("EDA0BD FF", 0), ("EDA0BD EDB861", 0), ("EDA0BD C1BF", 0), ("EDA0BD EDA0BD", 0), ("EDA0BD EDA0BDEDB880", 0),
-    ("EDB880", 0), ("EDBFBF", 0), ("EDB880 EDA0BD", 0), ("EDA0BDEDB880 EDB880", 6), ("EDA0BDEDB880 EDA0BD", 6),  # a low half, and behind a pair
-]]
+def characters(form):
+    """Good characters of each length, with U+0000 among them."""
+    return [form.text(c) for c in "aé€😀\0"]
 
 
-def broken_strings():
+def broken_strings(form=JAVA):
     """Each fault alone, and as the first, a middle and the last of good characters; with its place."""
-    every = b"".join(CHARACTERS)
-    for fault, offset in FAULTS:
+    good = characters(form)
+    every = b"".join(good)
+    for fault, offset in form.faults:
         sides = [(b"", b""), (every, every)]
-        for c, other in zip(CHARACTERS, CHARACTERS[1:] + CHARACTERS[:1]):
+        for c, other in zip(good, good[1:] + good[:1]):
             sides += [(b"", c), (c, b""), (c, other)]
         for before, after in sides:
             yield before + fault + after, len(before) + offset
 
 
-def good_bytes(n, first=0):
+def good_bytes(n, first=0, form=JAVA):
     """So many bytes of good characters of every length in turn."""
-    out = b""
+    out, good = b"", characters(form)
     while len(out) < n:
-        c = CHARACTERS[first % len(CHARACTERS)]
+        c = good[first % len(good)]
         out, first = out + (c if len(out + c) <= n else b"a"), first + 1
     return out
 
 
-def far_strings():
+def far_strings(form=JAVA):
     """Faults behind and before many good characters; with their places."""
-    for i, (fault, offset) in enumerate(FAULTS):
+    for i, (fault, offset) in enumerate(form.faults):
         for far in (14, 15, 16, 17, 62, 63, 64, 65, 127, 128, 200):
-            before = b"a" * far if (i + far) % 3 == 0 else good_bytes(far, i)
-            yield before + fault + good_bytes((i + far) % 5 * 30), far + offset
+            before = b"a" * far if (i + far) % 3 == 0 else good_bytes(far, i, form)
+            yield before + fault + good_bytes((i + far) % 5 * 30, 0, form), far + offset
 
 
-def broken_documents():
+def broken_documents(form=JAVA):
     """Documents with one broken string in each spot that a string has: the root's name, an entry's, a payload, an element; with its place."""
+    a, b, ab, x, two = (form.string(text) for text in (b"a", b"b", b"ab", b"x", b"\xC3\xA9"))
     spots = [
         (b"\x0A", b"\0"),
-        (bytes.fromhex("0A000161 01000162 07 08"), bytes.fromhex("000178 00")),
-        (bytes.fromhex("0A0000 0A000162 0800026162"), bytes.fromhex("01000162 07 00 00")),
-        (bytes.fromhex("0A0000 09000162 0800000003 0002C3A9"), bytes.fromhex("000178 00")),
+        (b"\x0A" + a + b"\1" + b + b"\7" + b"\x08", x + b"\0"),
+        (b"\x0A" + form.string(b"") + b"\x0A" + b + b"\x08" + ab, b"\1" + b + b"\7" + b"\0\0"),
+        (b"\x0A" + form.string(b"") + b"\x09" + b + b"\x08" + form.bytes(3, 4) + two, x + b"\0"),
     ]
-    for text, place in broken_strings():
+    for text, place in broken_strings(form):
         for head, tail in spots:
-            yield head + string(text) + tail, len(head) + 2 + place
-    for i, (text, place) in enumerate(far_strings()):
+            yield head + form.string(text) + tail, len(head) + 2 + place
+    for i, (text, place) in enumerate(far_strings(form)):
         head, tail = spots[i % 4]
-        yield head + string(text) + tail, len(head) + 2 + place
+        yield head + form.string(text) + tail, len(head) + 2 + place
 
 
 def of_characters():
@@ -250,27 +202,27 @@ def of_characters():
         yield line
 
 
-def random_payload(r, kind, deep):
+def random_payload(r, kind, deep, form=JAVA):
     if kind <= 6:
         return bytes(r.randrange(256) for _ in range(WIDTH[kind]))
     if kind == 8:
-        return string(r.choice([b"", b"reef", "Größe".encode(), b"\xC0\x80", b"\xED\xA0\xBD\xED\xB8\x80", "€".encode()]))
+        return form.string(form.text(r.choice(["", "reef", "Größe", "\0", "😀", "€"])))
     if kind in (7, 11, 12):
         n = r.choice([0, 1, 3])
-        return n.to_bytes(4, "big") + bytes(r.randrange(256) for _ in range(n * WIDTH[kind]))
+        return form.bytes(n, 4) + bytes(r.randrange(256) for _ in range(n * WIDTH[kind]))
     if kind == 9:
         n = r.choice([0, 1, 2, 5]) if deep else 0
         id = r.randrange(1, 13) if n else r.randrange(13)
-        return bytes([id]) + n.to_bytes(4, "big") + b"".join(random_payload(r, id, deep - 1) for _ in range(n))
-    return random_entries(r, deep - 1) if deep else b"\0"
+        return bytes([id]) + form.bytes(n, 4) + b"".join(random_payload(r, id, deep - 1, form) for _ in range(n))
+    return random_entries(r, deep - 1, form) if deep else b"\0"
 
 
-def random_entries(r, deep):
+def random_entries(r, deep, form=JAVA):
     out = b""
-    names = r.sample([b"", b"a", b"b", b"SceneId", b"OriginLon", b"OriginLat", b"\xC0\x80", "ä".encode()], r.randrange(5))
+    names = r.sample(["", "a", "b", "SceneId", "OriginLon", "OriginLat", "\0", "ä"], r.randrange(5))
     for name in names:
         kind = r.randrange(1, 13)
-        out += bytes([kind]) + string(name) + random_payload(r, kind, deep)
+        out += bytes([kind]) + form.string(form.text(name)) + random_payload(r, kind, deep, form)
     return out + b"\0"
 
 

@@ -14,15 +14,17 @@ import sys
 from functools import lru_cache
 
 import listing
-from listing import Refused, string, well_formed
+from forms import JAVA, POCKET
+from listing import Refused, string
 from tables import (CUT, END, KIND, LETTERS, NAME, NAME_LENGTH, PARENT, TREES, Reader, chain, flat, is_table, made_up, nudged, planted, rows_of,
                     some_records, with_parent, wrong_columns, wrong_parents)
 
 UNTOUCHED = 0xAAAAAAAA
 
 
-def spelt(query):
-    """A query's steps, each its first byte with the name or the index; 14 at the first byte of what is none, and why."""
+def spelt(query, form):
+    """A query's steps, each its first byte with the name or the index; 14 at the first byte of what is none, and why. Names keep the rule of the
+    document's form, while lengths and indices are big-endian in any (02, [2])."""
     steps, at = [], 0
     while at < len(query):
         kind, body = query[at], query[at + 1:]
@@ -37,7 +39,7 @@ def spelt(query):
         what = None
         if kind == 1:
             what = body[head:head + length]
-            if not well_formed(what):
+            if not form.well_formed(what):
                 raise Refused(14, at, "ill-formed")
         if kind == 2:
             what = int.from_bytes(body[:4], "big", signed=True)
@@ -83,7 +85,7 @@ def fits(steps, path):
     return fit(0, 0)
 
 
-def asked(doc, words, query):
+def asked(doc, words, query, form=JAVA):
     """The matches, by 10, 7, 14 in turn; with the steps and the paths."""
     if not is_table(len(doc), words):
         raise Refused(10, 0)
@@ -92,19 +94,19 @@ def asked(doc, words, query):
     for i, way in enumerate(ways):
         if rows[i][KIND] in (9, 10) and len(way) + 1 > 512:
             raise Refused(7, i)
-    steps = spelt(query)
+    steps = spelt(query, form)
     return [i for i, way in enumerate(ways) if fits(steps, way)], steps, ways
 
 
 class Cases:
-    def __init__(self):
-        self.lines, self.answers, self.seen, self.before = [], [], {}, set()
+    def __init__(self, form=JAVA):
+        self.form, self.lines, self.answers, self.seen, self.before = form, [], [], {}, set()
 
     def put(self, doc, words, query, room=None):
         """A case; there is just room where none is given, or what `room` makes of that."""
         found, steps, ways, no = [], None, [], None
         try:
-            found, steps, ways = asked(doc, words, query)
+            found, steps, ways = asked(doc, words, query, self.form)
         except Refused as e:
             no = e.args
         space = len(found) if room is None else max(0, room(len(found))) if callable(room) else room
@@ -156,12 +158,12 @@ def indexed(number):
 ANY, DEEP = b"\3", b"\4"
 
 
-def towards(r, way):
+def towards(r, way, form):
     """Steps that fit a path: each level by its name or number, by 03, or in what an 04 passes over."""
     steps = []
     for container, name, number in way:
         how = r.randrange(10)
-        if how < 5 and len(name) < 65536 and well_formed(name):
+        if how < 5 and len(name) < 65536 and form.well_formed(name):
             steps.append(named(name) if container == 10 else indexed(number))
         elif how < 8:
             steps.append(ANY)
@@ -172,15 +174,18 @@ def towards(r, way):
     return steps
 
 
-def at_random(r):
-    some = [DEEP, DEEP, ANY, named(b""), named(b"a"), named(b"b"), named("ä".encode()), named(b"SceneId"), named(b"\xC0\x80"), indexed(0), indexed(1), indexed(4)]
+def at_random(r, form):
+    some = [DEEP, DEEP, ANY, named(b""), named(b"a"), named(b"b"), named("ä".encode()), named(b"SceneId"), named(form.text("\0")), indexed(0), indexed(1), indexed(4)]
     return [r.choice(some) for _ in range(r.choice([0, 1, 1, 2, 2, 3, 4, 6]))]
 
 
-def spoilt(r, steps):
+ILL_FORMED = {JAVA: [b"\xFF", b"\0", b"\xED\xA0\xBD", b"\xF0\x9F\x98\x80", b"\xC1\x81"],
+              POCKET: [b"\xFF", b"\xC0\x80", b"\xED\xA0\xBD", b"\xED\xA0\xBD\xED\xB8\x80", b"\xC1\x81"]}
+
+
+def spoilt(r, steps, form):
     """A query that is mostly malformed, at any of its steps."""
-    bad = [b"\0", b"\5", b"\xFF", b"\2\x80\0\0\0", b"\2\xFF\xFF\xFF\xFF", b"\2\0\0\0", b"\2", b"\1", b"\1\0", b"\1\0\2a", named(b"\xFF"), named(b"\0"), named(b"\xED\xA0\xBD"),
-           named(b"\xF0\x9F\x98\x80"), named(b"\xC1\x81"), b"\1\xFF\xFFa"]
+    bad = [b"\0", b"\5", b"\xFF", b"\2\x80\0\0\0", b"\2\xFF\xFF\xFF\xFF", b"\2\0\0\0", b"\2", b"\1", b"\1\0", b"\1\0\2a", *map(named, ILL_FORMED[form]), b"\1\xFF\xFFa"]
     steps = list(steps)
     way = r.randrange(3)
     if way == 0:
@@ -195,12 +200,12 @@ def ask_about(r, cases, doc, words, many):
     """Queries of one table: towards its records, at random, spoilt, and with more or less room."""
     ways = paths(doc, rows_of(words))
     for _ in range(many):
-        steps = towards(r, r.choice(ways)) if r.randrange(4) else at_random(r)
+        steps = towards(r, r.choice(ways), cases.form) if r.randrange(4) else at_random(r, cases.form)
         if r.randrange(12) == 0:
             steps = (steps + [DEEP] * 16)[:16]
         cases.put(doc, words, b"".join(steps), r.choice([None, None, lambda n: n + 2, lambda n: n - 1, 0]))
         if r.randrange(4) == 0:
-            cases.put(doc, words, spoilt(r, steps), 1)
+            cases.put(doc, words, spoilt(r, steps, cases.form), 1)
 
 
 def marked(cases):
@@ -215,17 +220,17 @@ def marked(cases):
 
 def of_documents(r, cases):
     """Tables as they are read, and some that are damaged."""
-    some = 0
+    form, some = cases.form, 0
     while some < 260:
-        doc = bytes([10]) + string(r.choice([b"", b"a", "Höhe".encode()])) + listing.random_entries(r, r.randrange(1, 4))
-        reader = Reader(doc)
+        doc = bytes([10]) + form.string(r.choice([b"", b"a", "Höhe".encode()])) + listing.random_entries(r, r.randrange(1, 4), form)
+        reader = Reader(doc, form)
         reader.root()
         if not 2 <= len(reader.rows) <= 14:
             continue
         some += 1
         ask_about(r, cases, doc, flat(reader.rows), 8)
-        cases.put(doc, nudged(r, reader.rows), b"".join(at_random(r)), 3)
-        cases.put(doc, flat(reader.rows)[:-r.choice(CUT)], spoilt(r, at_random(r)), 1)
+        cases.put(doc, nudged(r, reader.rows), b"".join(at_random(r, form)), 3)
+        cases.put(doc, flat(reader.rows)[:-r.choice(CUT)], spoilt(r, at_random(r, form), form), 1)
 
 
 def of_tables(r, cases):
@@ -285,7 +290,7 @@ def of_characters(cases):
     """A name with a broken character is 14 at its step's first byte, wherever that character is (02, [3])."""
     doc, words = bytes.fromhex("0A00016101000162FF00"), [10, 3, 1, 0, 0, 1, 0, 2, 0, 1, 7, 1, 8, 1, 0, 0, 2, 0]
     before = [b"", DEEP, named(b"b") + ANY, indexed(1) + named("€".encode())]
-    for i, (text, _) in enumerate([*listing.broken_strings(), *listing.far_strings()]):
+    for i, (text, _) in enumerate([*listing.broken_strings(cases.form), *listing.far_strings(cases.form)]):
         if i % 5 == 0:
             steps = before[i % len(before)]
             cases.put(doc, words, steps + named(text) + before[i % 3], 1)

@@ -14,6 +14,7 @@ import sys
 import depths
 import listing
 import tables
+from forms import JAVA
 from listing import WIDTH, Refused, random_entries, string
 
 LIST, COMPOUND, TEXT = 9, 10, 8
@@ -23,8 +24,8 @@ BYTES, TABLE, CHANGES = 4096, 5400, 4800  # what crates/replay_rescue has room f
 class Reader(tables.Reader):
     depth = 512
 
-    def __init__(self, doc, room):
-        super().__init__(doc)
+    def __init__(self, doc, room, form):
+        super().__init__(doc, form)
         self.room = room
 
 
@@ -43,8 +44,8 @@ class Tag:
 class Salvage:
     """The tree of the tags that came before the data ends, and the containers that were open there, outermost first."""
 
-    def __init__(self, doc):
-        self.d, self.at, self.open, self.root = doc, 0, [], None
+    def __init__(self, doc, form):
+        self.d, self.form, self.at, self.open, self.root = doc, form, 0, [], None
         try:
             assert self.take(1) == b"\x0A"
             self.root = Tag(COMPOUND, self.name())
@@ -61,7 +62,7 @@ class Salvage:
         return self.d[self.at - n:self.at]
 
     def name(self):
-        return self.take(int.from_bytes(self.take(2), "big"))
+        return self.take(self.form.number(self.take(2)))
 
     def turn(self, top):
         """One tag more in the innermost open container, or its end."""
@@ -84,13 +85,13 @@ class Salvage:
                 raise Ended
         elif tag.kind == LIST:
             tag.element = self.take(1)[0]
-            tag.promised = int.from_bytes(self.take(4), "big")
+            tag.promised = self.form.number(self.take(4))
         elif tag.kind == TEXT:
             size = self.take(2)
-            tag.body = size + self.take(int.from_bytes(size, "big"))
+            tag.body = size + self.take(self.form.number(size))
         elif tag.kind in (7, 11, 12):
             many = self.take(4)
-            tag.body = many + self.take(int.from_bytes(many, "big") * WIDTH[tag.kind])
+            tag.body = many + self.take(self.form.number(many) * WIDTH[tag.kind])
         else:
             tag.body = self.take(WIDTH[tag.kind])
         parent.children.append(tag)
@@ -101,17 +102,17 @@ class Salvage:
 class Writing:
     """A tree's document, and the number of each of its tags."""
 
-    def __init__(self, root):
-        self.out, self.numbers = bytearray(), {}
+    def __init__(self, root, form):
+        self.form, self.out, self.numbers = form, bytearray(), {}
         self.put(root)
 
     def put(self, tag):
         self.numbers[tag] = len(self.numbers)
         if tag.name is not None:
-            self.out += bytes([tag.kind]) + string(tag.name)
+            self.out += bytes([tag.kind]) + self.form.string(tag.name)
         if tag.kind == LIST:
             many = len(tag.children)
-            self.out += bytes([tag.element if many else 0]) + many.to_bytes(4, "big")
+            self.out += bytes([tag.element if many else 0]) + self.form.bytes(many, 4)
         self.out += tag.body
         for child in tag.children:
             self.put(child)
@@ -122,9 +123,9 @@ class Writing:
 class Rescue:
     """The answer to a document with rooms in words, bytes and words, and what each lent memory holds after it."""
 
-    def __init__(self, doc, words, room, changes):
-        self.out, self.changes, self.table = [], [], None
-        reader = Reader(doc, words // tables.WORDS)
+    def __init__(self, doc, words, room, changes, form=JAVA):
+        self.form, self.out, self.changes, self.table = form, [], [], None
+        reader = Reader(doc, words // tables.WORDS, form)
         try:
             reader.root()
         except Refused as e:
@@ -135,11 +136,11 @@ class Rescue:
         self.refusal, self.table = (31, 0, 0), tables.flat(reader.rows)
 
     def cut(self, doc, place, room, changes):
-        salvage = Salvage(doc)
+        salvage = Salvage(doc, self.form)
         if salvage.root is None:
             self.refusal = (32, place, 0)
             return
-        writing = Writing(salvage.root)
+        writing = Writing(salvage.root, self.form)
         lines = [(writing.numbers[tag], tag.promised, len(tag.children)) for tag in salvage.open]
         if changes // 3 < len(lines):
             self.refusal = (24, 0, len(lines))
@@ -152,7 +153,7 @@ class Rescue:
 
     def look_over(self):
         """What must hold of any rescue: the new document is whole, and each line names a container with so many children."""
-        again = Reader(self.out, 1 << 20)
+        again = Reader(self.out, 1 << 20, self.form)
         assert again.root() == len(self.out)
         for at in range(0, len(self.changes), 3):
             record, promised, kept = self.changes[at:at + 3]
@@ -174,14 +175,14 @@ def listed_words(words, room):
     return "".join(f" {w}" for w in words) + " -" * (room - len(words))
 
 
-def needed(doc):
+def needed(doc, form=JAVA):
     """The rooms that are just enough: of records, bytes and words of changes."""
-    reader = Reader(doc, 1 << 20)
+    reader = Reader(doc, 1 << 20, form)
     try:
         reader.root()
     except Refused as e:
         if e.args[0] == 1:
-            rescue = Rescue(doc, tables.WORDS << 20, 1 << 20, 1 << 20)
+            rescue = Rescue(doc, tables.WORDS << 20, 1 << 20, 1 << 20, form)
             return len(reader.records), len(rescue.out), len(rescue.changes)
     return len(reader.records), 7, 5
 
@@ -199,19 +200,19 @@ def none(_):
 
 
 class Cases:
-    def __init__(self):
-        self.lines, self.answers, self.seen, self.put_already = [], [], {}, set()
+    def __init__(self, form=JAVA):
+        self.form, self.lines, self.answers, self.seen, self.put_already = form, [], [], {}, set()
 
     def put(self, doc, words=exact, room=exact, changes=exact):
         """A case: each room is what its function makes of the least one."""
-        records, size, lines = needed(doc)
+        records, size, lines = needed(doc, self.form)
         words, room, changes = words(tables.WORDS * records), room(size), changes(lines)
         line = f"{doc.hex()} {words} {room} {changes}"
         if line in self.put_already:
             return
         self.put_already.add(line)
         assert len(doc) <= BYTES and words <= TABLE and room <= BYTES and changes <= CHANGES, (len(doc), words, room, changes)
-        rescue = Rescue(doc, words, room, changes)
+        rescue = Rescue(doc, words, room, changes, self.form)
         self.lines.append(line)
         self.answers.append(rescue.line(words, room, changes))
         key = "refused %d" % rescue.refusal[0] if rescue.refusal else "saved"
@@ -454,11 +455,11 @@ def of_parents(r, cases):
 
 def of_characters(cases):
     """The reader's place of refusal 4 is handed on (02, [3]); a string that is cut is 1, whatever came of it, and vanishes."""
-    for doc, place in list(listing.broken_documents())[1::37]:
+    for doc, place in list(listing.broken_documents(cases.form))[1::37]:
         cases.put(doc, exact, none, none)
         assert cases.answers[-1] == f"refused 4 {place} 0: ;; zero", doc.hex()
-    for text, _ in list(listing.broken_strings())[3::23]:
-        cases.put(bytes.fromhex("0A0000 08000162") + string(text + b"a")[:-1])
+    for text, _ in list(listing.broken_strings(cases.form))[3::23]:
+        cases.put(b"\x0A" + cases.form.string(b"") + b"\x08" + cases.form.string(b"b") + cases.form.string(text + b"a")[:-1])
         assert cases.answers[-1] == "saved 4 1: 0A000000; 0 0 0; zero", text.hex()
 
 

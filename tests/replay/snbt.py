@@ -5,6 +5,7 @@ Written from 01 alone, over characters and not over bytes: a text is a list of c
 import re
 import struct
 
+from forms import modified
 from listing import Refused, string
 
 BLANK = set("\t\n\f\r ")
@@ -35,21 +36,6 @@ class Text:
         if place not in self.number:
             raise Refused(15, 0)
         return self.number[place]
-
-
-def modified(s):
-    """A string in rule 2's form."""
-    out = b""
-    for c in s:
-        u = ord(c)
-        if u == 0:
-            out += b"\xC0\x80"
-        elif u < 0x10000:
-            out += c.encode()
-        else:
-            for half in (0xD800 + (u - 0x10000 >> 10), 0xDC00 + (u & 0x3FF)):
-                out += bytes([0xE0 | half >> 12, 0x80 | half >> 6 & 63, 0x80 | half & 63])
-    return out
 
 
 # ---- rule 13

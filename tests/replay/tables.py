@@ -11,7 +11,8 @@ import random
 import sys
 
 import listing
-from listing import WIDTH, Refused, readable, string
+from forms import JAVA
+from listing import WIDTH, Refused
 
 KIND, NAME, NAME_LENGTH, START, LENGTH, COUNT, LIST_KIND, END, PARENT = range(9)
 WORDS = 9  # of a record, the parent's number being the last
@@ -20,8 +21,8 @@ WORDS = 9  # of a record, the parent's number being the last
 class Reader(listing.Reader):
     """The reader of the listing, with all nine words of a record."""
 
-    def __init__(self, doc):
-        super().__init__(doc)
+    def __init__(self, doc, form=JAVA):
+        super().__init__(doc, form)
         self.rows, self.within = [], []  # within: the records whose payloads are being read
 
     def payload(self, kind, name, at, deep):
@@ -87,22 +88,22 @@ def is_table(size, words):
     return [row[PARENT] for row in rows] == parents(rows)
 
 
-def fine(doc, start, length, i):
+def fine(doc, start, length, i, form):
     """A name or string of record i: 12 at the record; 4 at the document's offset, with the record beside it (02, [3])."""
     if length > 65535:
         raise Refused(12, i)
-    good = readable(doc[start:start + length])
+    good = form.readable(doc[start:start + length])
     if good < length:
         raise Refused(4, start + good, i)
 
 
-def judge(doc, rows):
+def judge(doc, rows, form):
     """Rule 8's questions, record by record; the open containers with the names seen in each."""
     opened = []
     for i, (kind, name, name_len, start, length, _, list_kind, end, _) in enumerate(rows):
         while opened and opened[-1][0] == i:
             opened.pop()
-        fine(doc, name, name_len, i)
+        fine(doc, name, name_len, i, form)
         text = doc[name:name + name_len]
         if opened and opened[-1][1] == 10:
             if text in opened[-1][3]:
@@ -113,45 +114,45 @@ def judge(doc, rows):
         if opened and opened[-1][1] == 9 and kind != opened[-1][2]:
             raise Refused(11, i)
         if kind == 8:
-            fine(doc, start, length, i)
+            fine(doc, start, length, i, form)
         if kind in (9, 10):
             opened.append((end, kind, list_kind, set()))
 
 
-def laid(doc, rows, i, named):
+def laid(doc, rows, i, named, form):
     """The bytes of record i and of those in it."""
     kind, name, name_len, start, length, count, list_kind, end, _ = rows[i]
-    out = bytes([kind]) + string(doc[name:name + name_len]) if named else b""
+    out = bytes([kind]) + form.string(doc[name:name + name_len]) if named else b""
     if kind in (9, 10):
         if kind == 9:
-            out += bytes([list_kind]) + count.to_bytes(4, "big")
+            out += bytes([list_kind]) + form.bytes(count, 4)
         j = i + 1
         while j < end:
-            out += laid(doc, rows, j, kind == 10)
+            out += laid(doc, rows, j, kind == 10, form)
             j = rows[j][END]
         return out + (b"\0" if kind == 10 else b"")
     body = doc[start:start + length]
-    return out + (string(body) if kind == 8 else count.to_bytes(4, "big") + body if kind > 6 else body)
+    return out + (form.string(body) if kind == 8 else form.bytes(count, 4) + body if kind > 6 else body)
 
 
-def written(doc, words):
+def written(doc, words, form):
     if not is_table(len(doc), words):
         raise Refused(10, 0)
     rows = rows_of(words)
-    judge(doc, rows)
-    return laid(doc, rows, 0, True)
+    judge(doc, rows, form)
+    return laid(doc, rows, 0, True, form)
 
 
 class Cases:
-    def __init__(self):
-        self.lines, self.answers, self.seen = [], [], {}
+    def __init__(self, form=JAVA):
+        self.form, self.lines, self.answers, self.seen = form, [], [], {}
 
     def put(self, doc, words, room=None, more=0):
         """A case; the room is just enough where none is given, or what `room` makes of that."""
         whole = doc + b"a" * more
         check = "table" if is_table(len(whole), words) else "none"
         try:
-            out, answer = written(whole, words), None
+            out, answer = written(whole, words, self.form), None
             size = len(out)
         except Refused as e:
             out, answer, size = b"", (*e.args, 0)[:3], 12  # beside all but 4 there is 0
@@ -235,12 +236,12 @@ def chain(deep, kind):
 CUT, ADDED = [2, 3, 4, 5, 6, 7, 8, WORDS], [1, 2, 3, 4, 5, 6, 7, WORDS]
 
 
-def tables_read(r, count, most):
+def tables_read(r, count, most, form=JAVA):
     """So many documents, each with its table as it is read, of no more records than that."""
     some = 0
     while some < count:
-        doc = bytes([10]) + string(r.choice([b"", b"root", "Höhe".encode()])) + listing.random_entries(r, r.randrange(4))
-        reader = Reader(doc)
+        doc = bytes([10]) + form.string(r.choice([b"", b"root", "Höhe".encode()])) + listing.random_entries(r, r.randrange(4), form)
+        reader = Reader(doc, form)
         reader.root()
         if len(reader.rows) <= most:
             some += 1
@@ -249,7 +250,7 @@ def tables_read(r, count, most):
 
 def from_documents(r, cases):
     """Tables as they are read, and each damaged in several ways."""
-    for some, (doc, rows) in enumerate(tables_read(r, 250, 40), 1):
+    for some, (doc, rows) in enumerate(tables_read(r, 250, 40, cases.form), 1):
         cases.put(doc, flat(rows))
         cases.put(doc, flat(rows), lambda n: n + r.randrange(5))
         cases.put(doc, flat(rows), lambda n: n - r.choice([1, 1, 2, n]))
@@ -360,7 +361,7 @@ def until(cases, number, many, make):
             return
         doc, rows, more = make()
         try:
-            written(doc + b"a" * more, flat(rows))
+            written(doc + b"a" * more, flat(rows), cases.form)
         except Refused as e:
             if e.args[0] == number:
                 cases.put(doc, flat(rows), None, more)
@@ -453,8 +454,8 @@ def of_parents(r, cases):
         cases.no_table(b"", with_parent(chain(deep, kind), i, wrong))
     some = 0
     while some < 60:
-        doc = bytes([10]) + string(b"root") + listing.random_entries(r, r.randrange(1, 4))
-        reader = Reader(doc)
+        doc = bytes([10]) + cases.form.string(b"root") + listing.random_entries(r, r.randrange(1, 4), cases.form)
+        reader = Reader(doc, cases.form)
         reader.root()
         rows = reader.rows
         if not 3 <= len(rows) <= 12:
@@ -516,11 +517,11 @@ def and_behind(rows, name, text):
 def of_characters(cases):
     """The place of refusal 4 and the record beside it, by hand (02, [3])."""
     cases.put(HEAD, flat(with_strings()))
-    for text, place in listing.broken_strings():
+    for text, place in listing.broken_strings(cases.form):
         span = len(HEAD), len(text)
         for spot, record in SPOTS:
             cases.refused(HEAD + text + b"z", with_strings(**{spot: span}), (4, len(HEAD) + place, record))
-    for i, (text, place) in enumerate(listing.far_strings()):
+    for i, (text, place) in enumerate(listing.far_strings(cases.form)):
         spot, record = SPOTS[i % 4]
         cases.refused(HEAD + text, with_strings(**{spot: (len(HEAD), len(text))}), (4, len(HEAD) + place, record))
     cases.refused(HEAD + b"a" * 32000 + b"\xE2\x82", with_strings(text=(8, 32002)), (4, 32008, 1))
@@ -542,7 +543,7 @@ def of_spans(cases):
 
 def of_order(cases):
     """What comes before refusal 4 and what does not: rule 8's order stays, whatever the places are."""
-    doc = HEAD + b"ab\xFF" + b"c\x80" + b"defg\0"
+    doc = HEAD + b"ab\xFF" + b"c\x80" + b"defg" + cases.form.faults[0][0]
     first, second, third = (8, 3), (11, 2), (13, 5)  # their faults are at 10, 12 and 17
     for spots, answer in [
         # a bad name and a bad string in one record: the name's, before or behind the string's in the document
@@ -556,7 +557,7 @@ def of_order(cases):
         cases.no_table(doc, with_parent(with_strings(**spots), 1, 1))
     for spot, record in SPOTS:  # a byte of room too few, without the fault and with it
         cases.put(doc, flat(with_strings(**{spot: (8, 2)})), lambda n: n - 1)
-        cases.refused(doc, with_strings(**{spot: first}), (4, 10, record), len(laid(doc, with_strings(**{spot: first}), 0, True)) - 1)
+        cases.refused(doc, with_strings(**{spot: first}), (4, 10, record), len(laid(doc, with_strings(**{spot: first}), 0, True, cases.form)) - 1)
     long = (8, 65536)
     for spots, answer in [
         # 12 in the same record: the name's, the string's, and that of a string which is ill-formed too
