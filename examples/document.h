@@ -12,6 +12,7 @@ enum { MOST_BYTES = 16777216, MOST_RECORDS = 1048576 };
 enum { BYTE = 1, SHORT, INT, LONG, FLOAT, DOUBLE, BYTE_ARRAY, STRING, LIST, COMPOUND, INT_ARRAY, LONG_ARRAY };
 
 struct document {
+    uint32_t form;
     uint8_t *bytes;
     uint32_t *table;
     size_t length, consumed, records;
@@ -37,10 +38,12 @@ static inline uint8_t *load(const char *name, size_t *length)
     return bytes;
 }
 
-/* Reads a file's document: 0 if it is accepted, 1 if it is refused, 2 if there is none, both of which it says. To be closed in each case. */
-static inline int open_document(const char *name, struct document *d)
+/* Reads a file's document, which is in that form: 0 if it is accepted, 1 if it is refused, 2 if there is none, both of which it says. To be closed
+ * in each case. */
+static inline int open_document(const char *name, uint32_t form, struct document *d)
 {
     uint64_t answer[8] = {0};
+    d->form = form;
     d->bytes = load(name, &d->length);
     /* a record takes a byte at the least */
     size_t room = d->length < MOST_RECORDS ? d->length + 1 : MOST_RECORDS;
@@ -49,7 +52,7 @@ static inline int open_document(const char *name, struct document *d)
         fprintf(stderr, "%s: can't be read\n", name);
         return 2;
     }
-    tikfazrul_read(d->bytes, d->length, d->table, room * TIKFAZRUL_WORDS, answer);
+    tikfazrul_read_in(form, d->bytes, d->length, d->table, room * TIKFAZRUL_WORDS, answer);
     d->consumed = answer[2];
     d->records = answer[3];
     if (answer[0] != 0)
@@ -63,7 +66,7 @@ static inline void close_document(struct document *d)
     free(d->table);
 }
 
-/* Bytes that ASCII can show as they are, others as \xNN: names and strings are modified UTF-8, which a terminal can't be asked to show. */
+/* Bytes that ASCII can show as they are, others as \xNN: names and strings may be modified UTF-8, which a terminal can't be asked to show. */
 static inline void print_bytes(const uint8_t *bytes, size_t length)
 {
     putchar('"');

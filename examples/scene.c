@@ -70,7 +70,7 @@ int main(int count, char **names)
     int status = 0;
     for (int i = 2; i < count; i++) {
         struct document d;
-        int result = open_document(names[i], &d);
+        int result = open_document(names[i], TIKFAZRUL_JAVA, &d);
         if (result == 0)
             result = ask(names[i], &d, names[1]);
         close_document(&d);

@@ -1,4 +1,5 @@
-/* tile FILE...: lists the records of documents: record, kind, name, value. From the repository's folder:
+/* tile [--pocket] FILE...: lists the records of documents, in Java's form or the pocket edition's (02, [2]): record, kind, name, value. From the
+ * repository's folder:
  *
  *   cc -Wall -Wextra -Werror -Iinclude examples/tile.c target/native/libnbt.a -o tile && ./tile samples/reef.nbt
  *
@@ -10,21 +11,22 @@
 static const char *const kind_names[] = {"",       "Byte", "Short",    "Int",      "Long",      "Float", "Double", "ByteArray",
                                          "String", "List", "Compound", "IntArray", "LongArray"};
 
-/* A number of `width` bytes, big-endian, in two's complement. */
-static int64_t whole(const uint8_t *bytes, size_t width)
+/* A number of `width` bytes in two's complement, of which the highest comes first or, in the pocket edition's form, last. */
+static int64_t whole(uint32_t form, const uint8_t *bytes, size_t width)
 {
-    uint64_t n = bytes[0] & 0x80 ? UINT64_MAX : 0;
+    int last = form == TIKFAZRUL_POCKET;
+    uint64_t n = bytes[last ? width - 1 : 0] & 0x80 ? UINT64_MAX : 0;
     for (size_t i = 0; i < width; i++)
-        n = n << 8 | bytes[i];
+        n = n << 8 | bytes[last ? width - 1 - i : i];
     int64_t value;
     memcpy(&value, &n, sizeof value);
     return value;
 }
 
 /* A float or a double, from its bits. */
-static void print_float(const uint8_t *bytes, size_t width)
+static void print_float(uint32_t form, const uint8_t *bytes, size_t width)
 {
-    uint64_t bits = (uint64_t)whole(bytes, width);
+    uint64_t bits = (uint64_t)whole(form, bytes, width);
     uint32_t low = (uint32_t)bits;
     double value;
     float single;
@@ -38,41 +40,41 @@ static void print_float(const uint8_t *bytes, size_t width)
         printf("%.9f", value);
 }
 
-static void print_array(const uint8_t *bytes, size_t count, size_t width)
+static void print_array(uint32_t form, const uint8_t *bytes, size_t count, size_t width)
 {
     putchar('[');
     for (size_t i = 0; i < count; i++)
-        printf("%s%" PRId64, i ? ", " : "", whole(bytes + i * width, width));
+        printf("%s%" PRId64, i ? ", " : "", whole(form, bytes + i * width, width));
     putchar(']');
 }
 
-static void print_value(const uint8_t *doc, const uint32_t *record)
+static void print_value(const struct document *d, const uint32_t *record)
 {
-    const uint8_t *payload = doc + record[TIKFAZRUL_START];
+    const uint8_t *payload = d->bytes + record[TIKFAZRUL_START];
     size_t length = record[TIKFAZRUL_LENGTH], count = record[TIKFAZRUL_COUNT];
     switch (record[TIKFAZRUL_KIND]) {
     case FLOAT:
     case DOUBLE:
-        print_float(payload, length);
+        print_float(d->form, payload, length);
         break;
     case STRING:
         print_bytes(payload, length);
         break;
     case BYTE_ARRAY:
-        print_array(payload, count, 1);
+        print_array(d->form, payload, count, 1);
         break;
     case INT_ARRAY:
-        print_array(payload, count, 4);
+        print_array(d->form, payload, count, 4);
         break;
     case LONG_ARRAY:
-        print_array(payload, count, 8);
+        print_array(d->form, payload, count, 8);
         break;
     case LIST:
     case COMPOUND:
         printf("%zu", count);
         break;
     default:
-        printf("%" PRId64, whole(payload, length));
+        printf("%" PRId64, whole(d->form, payload, length));
     }
 }
 
@@ -87,16 +89,16 @@ static void print_records(const struct document *d)
         else
             putchar('-');
         putchar(' ');
-        print_value(d->bytes, record);
+        print_value(d, record);
         putchar('\n');
     }
 }
 
 /* 0 if the document is accepted, 1 if it is refused, 2 if there is none. */
-static int list(const char *name)
+static int list(const char *name, uint32_t form)
 {
     struct document d;
-    int status = open_document(name, &d);
+    int status = open_document(name, form, &d);
     if (status == 0) {
         printf("%s ok %zu %zu\n", name, d.consumed, d.records);
         print_records(&d);
@@ -107,9 +109,9 @@ static int list(const char *name)
 
 int main(int count, char **names)
 {
-    int status = 0;
-    for (int i = 1; i < count; i++) {
-        int result = list(names[i]);
+    int status = 0, pocket = count > 1 && !strcmp(names[1], "--pocket");
+    for (int i = 1 + pocket; i < count; i++) {
+        int result = list(names[i], pocket ? TIKFAZRUL_POCKET : TIKFAZRUL_JAVA);
         status = result > status ? result : status;
     }
     return status;

@@ -10,14 +10,15 @@
  * every input. Slices that a function is lent to write to must not overlap the others. The stack that a function takes grows with the depth:
  * up to 0.16 MB in reading, writing and asking 512 levels, 0.17 MB in rescuing, and 2.2 MB in parsing, which says more below.
  *
- * The refusals that the functions below give:
+ * The refusals that the functions below give; what is said of a function is said of the one with _in behind its name too:
  *
  *    1  the data ends           the first byte of the field that is not whole
  *    2  the root is no compound 0
  *    3  no such tag id          the id byte
- *    4  not modified UTF-8      where the first sequence that can't be read begins (02, [3]), in tikfazrul_write too, which has the record in
- *                               [2]: a zero byte, a stray byte or a bad lead itself; the lead of a form that is cut, overlong or wrongly
- *                               continued; a high half that no low half follows, or a low half that follows none
+ *    4  a broken string         it is not modified UTF-8 or, in the pocket form, not UTF-8 (02, [2]): where the first sequence that can't be read
+ *                               begins (02, [3]), in tikfazrul_write too, which has the record in [2]: a stray byte or a bad lead itself; the
+ *                               lead of one that is cut, overlong or wrongly continued; in modified UTF-8 a zero byte, a high half that no low
+ *                               half follows, or a low half that follows none; in UTF-8 any half, and C0 80, which is overlong there
  *    5  a count below 0         its first byte
  *    6  a name twice            the id byte of the later entry (tikfazrul_write: the later record; tikfazrul_parse: the later key)
  *    7  over 512 deep           the first payload byte (tikfazrul_write, tikfazrul_query: the record; tikfazrul_parse: the opening brace)
@@ -76,6 +77,14 @@ enum {
     TIKFAZRUL_WORDS = 9
 };
 
+/* The form that a document is in (02, [2]): the same tags, laid out alike but for the bytes of numbers and of strings. Any other number means
+ * TIKFAZRUL_JAVA, which is also the form of every function that takes none. A table does not know its form, since its words count bytes: whoever
+ * writes or asks it states the form that it was read in. */
+enum {
+    TIKFAZRUL_JAVA = 0,  /* numbers, counts and lengths big-endian; strings in modified UTF-8 */
+    TIKFAZRUL_POCKET = 2 /* numbers, counts and lengths little-endian; strings in UTF-8, a zero byte being U+0000 */
+};
+
 /* The bytes of a record's line, its line feed among them. */
 enum { TIKFAZRUL_LINE = 73 };
 
@@ -86,6 +95,11 @@ enum { TIKFAZRUL_OLD_WORDS = 8, TIKFAZRUL_OLD_LINE = 65 };
  * stand from table[0] on; no other word changes. Refused (1 to 9): every word of the table is 0. The table has room for table_len / 9
  * records, 1,048,576 at the most. */
 void tikfazrul_read(const uint8_t *doc, size_t doc_len, uint32_t *table, size_t table_len, uint64_t answer[8]);
+
+/* Reads a document in a form (02, [2]); all else is as in tikfazrul_read, which is this in TIKFAZRUL_JAVA. The words of a record have the same
+ * meaning in each form: the payload's span holds the bytes as they stand in the document, so in TIKFAZRUL_POCKET the lowest of a number first. The
+ * eight bytes that level files of the pocket edition have before the document are no part of it, and are for the caller to leave out. */
+void tikfazrul_read_in(uint32_t form, const uint8_t *doc, size_t doc_len, uint32_t *table, size_t table_len, uint64_t answer[8]);
 
 /* Whether words form a table over a document of doc_len bytes: what tikfazrul_read fills in always does, and words from elsewhere may. [2] is
  * 1 if they do, with the right parent in every record, else 0. Refused: 9. The document itself is not asked for: strings are not looked into. */
@@ -98,14 +112,19 @@ void tikfazrul_is_table(size_t doc_len, const uint32_t *table, size_t table_len,
  * five zero bytes. */
 void tikfazrul_write(const uint8_t *doc, size_t doc_len, uint32_t *table, size_t table_len, uint8_t *out, size_t out_len, uint64_t answer[8]);
 
-/* Writes a whole document of one that tikfazrul_read refuses with 1, cut in transfer: with every tag that was completely read before the cut,
- * in file order and with the value it had. Containers open at the cut are closed, lists keep the elements they got, and the entry that is cut
- * vanishes with its name; an empty list is five zero bytes. Accepted: [2] is the number of bytes written, from out[0] on, and [3] the number of
- * containers that were open: for each, outermost first, three words from changes[0] on say its record in the new document, the count promised
- * (0 for a compound) and the count kept. No other byte or word of these two changes; doc_len + 512 bytes and 1,536 words are always enough.
- * Refused (what tikfazrul_read refuses with 2 to 9, as it does; 31; 32; 24, where [2] is the number of lines; 13): both are as they were. The
- * table is for the read, with room as there, and ends as the read leaves it: the records after 31, else every word 0. `form` is for what is to
- * come: any number means the one form there is. */
+/* Writes the document that a table stands for in the form that `doc` is in (02, [2]); all else is as in tikfazrul_write, which is this in
+ * TIKFAZRUL_JAVA. Names and payloads are judged by that form and copied as they stand; counts and lengths are put in it. */
+void tikfazrul_write_in(uint32_t form, const uint8_t *doc, size_t doc_len, uint32_t *table, size_t table_len, uint8_t *out, size_t out_len,
+                        uint64_t answer[8]);
+
+/* Writes a whole document of one that tikfazrul_read_in refuses with 1, cut in transfer: with every tag that was completely read before the
+ * cut, in file order and with the value it had. `form` is the one that `doc` is in, and that is written (02, [2]). Containers open at the cut are
+ * closed, lists keep the elements they got, and the entry that is cut vanishes with its name; an empty list is five zero bytes. Accepted: [2] is
+ * the number of bytes written, from out[0] on, and [3] the number of containers that were open: for each, outermost first, three words from
+ * changes[0] on say its record in the new document, the count promised (0 for a compound) and the count kept. No other byte or word of these two
+ * changes; doc_len + 512 bytes and 1,536 words are always enough. Refused (what tikfazrul_read_in refuses with 2 to 9, as it does; 31; 32; 24,
+ * where [2] is the number of lines; 13): both are as they were. The table is for the read, with room as there, and ends as the read leaves it: the
+ * records after 31, else every word 0. */
 void tikfazrul_rescue(uint32_t form, const uint8_t *doc, size_t doc_len, uint32_t *table, size_t table_len, uint8_t *out, size_t out_len,
                       uint32_t *changes, size_t changes_len, uint64_t answer[8]);
 
@@ -147,6 +166,12 @@ void tikfazrul_lines_down(size_t doc_len, const uint8_t *lines, size_t lines_len
  * matches, so that a call with no room asks how much is needed. */
 void tikfazrul_query(const uint8_t *doc, size_t doc_len, const uint32_t *table, size_t table_len, const uint8_t *query, size_t query_len,
                      uint32_t *list, size_t list_len, uint64_t answer[8]);
+
+/* Asks the table of a document in a form (02, [2]); all else is as in tikfazrul_query, which is this in TIKFAZRUL_JAVA. A name in the query is in
+ * the document's strings, so in TIKFAZRUL_POCKET in UTF-8, and is compared byte by byte; the length before it, and an index, are big-endian in
+ * each form. */
+void tikfazrul_query_in(uint32_t form, const uint8_t *doc, size_t doc_len, const uint32_t *table, size_t table_len, const uint8_t *query,
+                        size_t query_len, uint32_t *list, size_t list_len, uint64_t answer[8]);
 
 /* The sets of characters that stop an unquoted token of a text. Any other number is the default. */
 enum {
@@ -200,7 +225,11 @@ void tikfazrul_parse(const uint8_t *text, size_t text_len, uint8_t *out, size_t 
  * can't be read begins. */
 void tikfazrul_check_mutf8(const uint8_t *bytes, size_t len, uint64_t answer[8]);
 
-/* Whether bytes are UTF-8. Refused: 15, at the offset where the first sequence that can't be read begins. */
+/* Whether bytes are a string of a form (02, [2]): in TIKFAZRUL_JAVA as tikfazrul_check_mutf8 has it; in TIKFAZRUL_POCKET UTF-8. Refused: 4, at the
+ * offset where the first sequence that can't be read begins. */
+void tikfazrul_check_string(uint32_t form, const uint8_t *bytes, size_t len, uint64_t answer[8]);
+
+/* Whether bytes are UTF-8, as a text is. Refused: 15, at the offset where the first sequence that can't be read begins. */
 void tikfazrul_check_utf8(const uint8_t *bytes, size_t len, uint64_t answer[8]);
 
 #ifdef __cplusplus

@@ -1,7 +1,7 @@
-//! tile FILE…: lists the records of documents: record, kind, name, value. examples/tile.c prints the same, character by character
-//! (tests/rust/run compares them). `cargo run --example tile ../samples/reef.nbt`
+//! tile [--pocket] FILE…: lists the records of documents, in Java's form or the pocket edition's (02, [2]): record, kind, name, value.
+//! examples/tile.c prints the same, character by character (tests/rust/run compares them). `cargo run --example tile ../samples/reef.nbt`
 use std::process::ExitCode;
-use tikfazrul::{read, Kind, Node};
+use tikfazrul::{read_in, Form, Kind, Node};
 
 /// Bytes that ASCII can show as they are, others as \xNN.
 fn shown(bytes: &[u8]) -> String {
@@ -28,12 +28,12 @@ fn value(node: &Node) -> String {
 }
 
 /// 0 if the document is accepted, 1 if it is refused, 2 if there is none.
-fn list(name: &str) -> u8 {
+fn list(name: &str, form: Form) -> u8 {
     let Ok(doc) = std::fs::read(name) else {
         eprintln!("{name}: can't be read");
         return 2;
     };
-    let table = match read(&doc) {
+    let table = match read_in(form, &doc) {
         Ok(table) => table,
         Err(refusal) => {
             println!("{name} refused {} {}", refusal.number(), refusal.place().number());
@@ -49,5 +49,8 @@ fn list(name: &str) -> u8 {
 }
 
 fn main() -> ExitCode {
-    ExitCode::from(std::env::args().skip(1).map(|name| list(&name)).max().unwrap_or(0))
+    let mut names: Vec<String> = std::env::args().skip(1).collect();
+    let form = if names.first().is_some_and(|name| name == "--pocket") { Form::Pocket } else { Form::Java };
+    names.drain(..usize::from(form == Form::Pocket));
+    ExitCode::from(names.iter().map(|name| list(name, form)).max().unwrap_or(0))
 }

@@ -1,9 +1,9 @@
 //! Names and strings that can't be read: which they are, and the bytes of the sequence at fault (02, [3]).
-use crate::mutf8;
+use crate::form::{check_string, Form};
 use crate::node::Kind;
 use crate::refusal::{Place, Refusal};
-use crate::rescue::{rescue, Rescued};
-use crate::table::{read, Table};
+use crate::rescue::{rescue_in, Rescued};
+use crate::table::{read_in, Table};
 use std::fmt;
 use std::ops::Range;
 
@@ -18,7 +18,7 @@ pub enum Part {
     String,
 }
 
-/// A name or a string that is not modified UTF-8: what a refusal 4 speaks of.
+/// A name or a string that is not modified UTF-8, or in the pocket edition's form not UTF-8: what a refusal 4 speaks of.
 #[derive(Clone, Debug, PartialEq, Eq)]
 pub struct Broken {
     /// Where it is, as a path that [`Query`](crate::Query) reads: of the tag whose value it is, of the compound in which the entry stands
@@ -42,9 +42,9 @@ impl fmt::Display for Broken {
 }
 
 impl Refusal {
-    /// The name or the string that can't be read, where [`read`](crate::read) refuses `doc` so. The refusal itself does not say which it is;
-    /// it is found by rescuing what came before. `None` for every other refusal and document, and where what came before can't be rescued
-    /// within [`MAX_DOCUMENT`](crate::MAX_DOCUMENT).
+    /// The name or the string that can't be read, where [`read`](crate::read) or [`read_in`](crate::read_in) refuses `doc` so. The refusal
+    /// itself says by which form it was judged, and not which it is; that is found by rescuing what came before. `None` for every other refusal
+    /// and document, and where what came before can't be rescued within [`MAX_DOCUMENT`](crate::MAX_DOCUMENT).
     ///
     /// ```
     /// use tikfazrul::{read, Part};
@@ -61,7 +61,7 @@ impl Refusal {
     pub fn broken(&self, doc: &[u8]) -> Option<Broken> {
         let content = content(self, doc)?;
         let at = self.place().number();
-        let (path, part) = found(doc, content.start, at)?;
+        let (path, part) = found(self.broken_form()?, doc, content.start, at)?;
         Some(Broken { path, part, bytes: at..at + width(&doc[at..content.end]) })
     }
 
@@ -79,16 +79,18 @@ impl Refusal {
     /// assert_eq!((broken.path.as_str(), broken.part, broken.bytes), ("root/\"\"", Part::String, 2..3));
     /// ```
     pub fn broken_in(&self, doc: &[u8], table: &Table) -> Option<Broken> {
-        let Refusal::InvalidString(Place::In { byte, record }) = *self else {
+        let (Place::In { byte, record }, Some(form)) = (self.place(), self.broken_form()) else {
             return None;
         };
-        let node = table.root(doc).ok().filter(|_| record < table.len())?.at(record);
+        let fits = form == table.form() && record < table.len();
+        let node = table.root(doc).ok().filter(|_| fits)?.at(record);
         let (name, payload) = (node.name_range(), node.payload_range());
+        let breaks = |string: &Range<usize>| breaks(form, doc, string, byte);
         // rule 8: a name is judged before the string
         let (path, part, end) = match node.parent() {
-            None if breaks(doc, &name, byte) => (node.path(), Part::RootName, name.end),
-            Some(parent) if breaks(doc, &name, byte) => (parent.path(), Part::Name, name.end),
-            _ if node.kind() == Kind::String && breaks(doc, &payload, byte) => (node.path(), Part::String, payload.end),
+            None if breaks(&name) => (node.path(), Part::RootName, name.end),
+            Some(parent) if breaks(&name) => (parent.path(), Part::Name, name.end),
+            _ if node.kind() == Kind::String && breaks(&payload) => (node.path(), Part::String, payload.end),
             _ => return None,
         };
         Some(Broken { path, part, bytes: byte..byte + width(&doc[byte..end]) })
@@ -96,38 +98,38 @@ impl Refusal {
 }
 
 /// Whether what stands there is refused at that byte of the document.
-fn breaks(doc: &[u8], string: &Range<usize>, byte: usize) -> bool {
-    let refused = mutf8::check(&doc[string.clone()]).err();
+fn breaks(form: Form, doc: &[u8], string: &Range<usize>, byte: usize) -> bool {
+    let refused = check_string(form, &doc[string.clone()]).err();
     refused.is_some_and(|refusal| string.start + refusal.place().number() == byte)
 }
 
 /// The content of the string for which a read refuses a document so, if it does.
 fn content(refusal: &Refusal, doc: &[u8]) -> Option<Range<usize>> {
-    let Refusal::InvalidString(Place::Byte(at)) = *refusal else {
+    let (Place::Byte(at), Some(form)) = (refusal.place(), refusal.broken_form()) else {
         return None;
     };
-    if read(doc).err() != Some(*refusal) {
+    if read_in(form, doc).err() != Some(*refusal) {
         return None;
     }
     // rule 4: a string's content is one field, so a document that is cut in it is refused where it begins; its length stands before it
-    let Err(Refusal::DataEnds(Place::Byte(start))) = read(&doc[..at]) else {
+    let Err(Refusal::DataEnds(Place::Byte(start))) = read_in(form, &doc[..at]) else {
         return None;
     };
-    let length = doc[..start].last_chunk().map(|&length| u16::from_be_bytes(length))?;
+    let length = doc[..start].last_chunk().map(|&length| u16::from_be_bytes(form.ordered(length)))?;
     Some(start..start + usize::from(length))
 }
 
 /// Which string of a document begins at `start` and can't be read from `at` on. Everything before it is lawful.
-fn found(doc: &[u8], start: usize, at: usize) -> Option<(String, Part)> {
-    let before = match rescue(&doc[..at]) {
+fn found(form: Form, doc: &[u8], start: usize, at: usize) -> Option<(String, Part)> {
+    let before = match rescue_in(form, &doc[..at]) {
         Ok(before) => before,
         Err(Refusal::RootCut(_)) => return Some(("root".to_owned(), Part::RootName)),
         Err(_) => return None,
     };
     // 02, [11]: made no longer than what can be read of it, a value is whole and its tag kept; after a name, which may then be refused itself,
     // no string is
-    let length = u16::try_from(at - start).ok()?.to_be_bytes();
-    let value = match rescue(&[&doc[..start - length.len()], &length, &doc[start..at]].concat()) {
+    let length = form.ordered(u16::try_from(at - start).ok()?.to_be_bytes());
+    let value = match rescue_in(form, &[&doc[..start - length.len()], &length, &doc[start..at]].concat()) {
         Err(Refusal::OutputFull(_)) => return None,
         after => after.ok().and_then(|after| new_string(&before, &after)),
     };

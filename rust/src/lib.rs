@@ -77,6 +77,19 @@
 //! # Ok::<(), tikfazrul::Refusal>(())
 //! ```
 //!
+//! Documents of the pocket edition, with little-endian numbers and strings in UTF-8, are read by [`read_in`] with their [`Form`]; the table
+//! remembers it, and what is written, asked and walked follows:
+//!
+//! ```
+//! use tikfazrul::{read_in, write, Form};
+//!
+//! let doc = b"\x0A\x04\0tile\x03\x09\0OriginLon\xC0\xF2\xEA\x02\0";
+//! let mut table = read_in(Form::Pocket, doc)?;
+//! assert_eq!(table.root(doc)?.get("OriginLon").unwrap().as_i32(), Some(48_952_000));
+//! assert_eq!(write(doc, &mut table)?, doc);
+//! # Ok::<(), tikfazrul::Refusal>(())
+//! ```
+//!
 //! # Coming from quartz_nbt
 //!
 //! | there | here |
@@ -93,6 +106,7 @@
 
 mod broken;
 mod ffi;
+mod form;
 pub mod hex;
 mod lines;
 mod moves;
@@ -105,11 +119,14 @@ mod table;
 mod text;
 
 pub use broken::{Broken, Part};
+pub use form::{check_string, Form};
 pub use lines::{lines_into, read_lines_into, LINE};
 pub use moves::{lines_down, lines_down_into, lines_up, lines_up_into, OLD_LINE};
 pub use node::{Children, Kind, Link, Node, Trail, Walk};
 pub use path::{quoted, Fault, PathError, Query, MAX_NAME, MAX_STEPS};
 pub use refusal::{Place, Refusal};
-pub use rescue::{rescue, rescue_into, Change, Rescued, Saved, CHANGE, MAX_DEPTH};
-pub use table::{query, query_into, read, read_into, write, write_into, Read, Table, MAX_DOCUMENT, MAX_RECORDS, WORDS};
+pub use rescue::{rescue, rescue_in, rescue_in_into, rescue_into, Change, Rescued, Saved, CHANGE, MAX_DEPTH};
+pub use table::{
+    query, query_into, read, read_in, read_in_into, read_into, write, write_into, Read, Table, MAX_DOCUMENT, MAX_RECORDS, WORDS,
+};
 pub use text::{content, parse, token, Parsed, Stops, Token, TokenData, MAX_TEXT};

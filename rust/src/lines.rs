@@ -1,5 +1,6 @@
 //! Tables kept as lines of hexadecimal, one record a line.
 use crate::ffi;
+use crate::form::Form;
 use crate::hex;
 use crate::refusal::{Place, Refusal};
 use crate::table::{Table, MAX_RECORDS, WORDS};
@@ -46,11 +47,25 @@ impl Table {
     /// # Ok::<(), Refusal>(())
     /// ```
     pub fn from_lines(lines: &[u8], doc_len: usize) -> Result<Table, Refusal> {
+        Table::from_lines_in(Form::Java, lines, doc_len)
+    }
+
+    /// The same, of a document in that form: lines don't tell it.
+    ///
+    /// ```
+    /// use tikfazrul::{read_in, Form, Table};
+    /// let doc = b"\x0A\0\0\x02\x01\0s\x02\x01\0";
+    /// let lines = read_in(Form::Pocket, doc)?.to_lines(doc.len())?;
+    /// let table = Table::from_lines_in(Form::Pocket, &lines, doc.len())?;
+    /// assert_eq!(table.root(doc)?.get("s").unwrap().as_i16(), Some(258));
+    /// # Ok::<(), tikfazrul::Refusal>(())
+    /// ```
+    pub fn from_lines_in(form: Form, lines: &[u8], doc_len: usize) -> Result<Table, Refusal> {
         // never full (8): a line that wants room has LINE bytes, as has each before it, and above MAX_RECORDS lines 9 comes first
         let mut words = vec![0; (lines.len() / LINE).min(MAX_RECORDS) * WORDS];
         let records = read_lines_into(lines, &mut words)?;
         words.truncate(records * WORDS);
-        Table::judged(words, doc_len)
+        Table::judged(form, words, doc_len)
     }
 }
 

@@ -1,5 +1,5 @@
 //! Views of the tags of a table.
-use crate::mutf8;
+use crate::form::Form;
 use crate::path;
 use crate::table::{word, WORDS};
 use std::borrow::Cow;
@@ -99,6 +99,7 @@ pub enum Link {
 pub struct Node<'a> {
     doc: &'a [u8],
     words: &'a [u32],
+    form: Form,
     record: usize,
     /// Its index in a list, where it is known: it stands in no word, and is counted where it is asked for.
     index: Option<usize>,
@@ -106,8 +107,8 @@ pub struct Node<'a> {
 
 impl<'a> Node<'a> {
     /// The words must form a table over the document.
-    pub(crate) fn root(doc: &'a [u8], words: &'a [u32]) -> Node<'a> {
-        Node { doc, words, record: 0, index: None }
+    pub(crate) fn root(doc: &'a [u8], words: &'a [u32], form: Form) -> Node<'a> {
+        Node { doc, words, form, record: 0, index: None }
     }
 
     /// The tag of another record, which must be one of the table.
@@ -132,6 +133,11 @@ impl<'a> Node<'a> {
     /// What it holds.
     pub fn kind(&self) -> Kind {
         Kind::from_id(self.word(word::KIND) as u8).expect("rule 7: kinds are 1 to 12")
+    }
+
+    /// The form of the document that it is in.
+    pub fn form(&self) -> Form {
+        self.form
     }
 
     /// How it hangs on the tag above it. An element that was climbed to, or found by a query, counts those before it to know its index;
@@ -187,18 +193,18 @@ impl<'a> Node<'a> {
         &self.doc[self.name_range()]
     }
 
-    /// The name's bytes, in modified UTF-8. `None` for a list's element.
+    /// The name's bytes as they stand in the document: in modified UTF-8, in the pocket edition's form in UTF-8. `None` for a list's element.
     pub fn name_bytes(&self) -> Option<&'a [u8]> {
         self.list().is_none().then(|| self.name_span())
     }
 
-    /// The name as text, borrowed where UTF-8 writes it the same. `None` for a list's element, and for a name that is not modified UTF-8,
+    /// The name as text, borrowed where UTF-8 writes it the same. `None` for a list's element, and for a name that is no string of its form,
     /// which no read table has.
     pub fn name(&self) -> Option<Cow<'a, str>> {
-        mutf8::decode(self.name_bytes()?).ok()
+        self.form.decode(self.name_bytes()?).ok()
     }
 
-    /// The payload's bytes, without a length or a count. Empty for a list or a compound.
+    /// The payload's bytes as they stand in the document, without a length or a count. Empty for a list or a compound.
     pub fn payload(&self) -> &'a [u8] {
         &self.doc[self.payload_range()]
     }
@@ -218,12 +224,12 @@ impl<'a> Node<'a> {
         Kind::from_id(self.word(word::LIST_KIND) as u8)
     }
 
-    /// The payload, if the tag is of that kind and its bytes are so many.
+    /// The payload, the highest byte first, if the tag is of that kind and its bytes are so many.
     fn fixed<const N: usize>(&self, kind: Kind) -> Option<[u8; N]> {
         if self.kind() != kind {
             return None;
         }
-        self.payload().try_into().ok()
+        self.payload().try_into().ok().map(|bytes| self.form.ordered(bytes))
     }
 
     /// The value of a byte.
@@ -266,18 +272,19 @@ impl<'a> Node<'a> {
         }
     }
 
-    /// The text of a string, borrowed where UTF-8 writes it the same. `None` too for one that is not modified UTF-8, which no read table has.
+    /// The text of a string, borrowed where UTF-8 writes it the same. `None` too for one that is no string of its form, which no read table
+    /// has.
     pub fn as_str(&self) -> Option<Cow<'a, str>> {
         if self.kind() != Kind::String {
             return None;
         }
-        mutf8::decode(self.payload()).ok()
+        self.form.decode(self.payload()).ok()
     }
 
-    /// An array's elements of `N` bytes each, if the tag is an array of that kind.
+    /// An array's elements of `N` bytes each, the highest first, if the tag is an array of that kind.
     fn array<const N: usize>(&self, kind: Kind) -> Option<impl ExactSizeIterator<Item = [u8; N]> + 'a> {
-        let of_kind = self.kind() == kind;
-        of_kind.then(|| self.payload().chunks_exact(N).map(|chunk| chunk.try_into().expect("a chunk has N bytes")))
+        let (of_kind, form) = (self.kind() == kind, self.form);
+        of_kind.then(|| self.payload().chunks_exact(N).map(move |chunk| form.ordered(chunk.try_into().expect("a chunk has N bytes"))))
     }
 
     /// The elements of a byte array.
@@ -314,7 +321,7 @@ impl<'a> Node<'a> {
         if self.kind() != Kind::Compound {
             return None;
         }
-        let wanted = mutf8::encode(name);
+        let wanted = self.form.encode(name);
         self.children().find(|child| child.name_span() == &*wanted)
     }
 
@@ -377,7 +384,7 @@ impl<'a> Node<'a> {
     }
 
     /// Where it is, as a path that [`Query`](crate::Query) reads: `root/Tiles[3]/SceneId`. It is found by climbing to the root; on the way
-    /// an index is counted as [`Node::link`] does. A name that is not modified UTF-8, which no read table has, is shown as far as it can be.
+    /// an index is counted as [`Node::link`] does. A name that is no string of its form, which no read table has, is shown as far as it can be.
     pub fn path(&self) -> String {
         let mut trail = Trail::new();
         trail.step(self);
@@ -390,7 +397,7 @@ impl<'a> Node<'a> {
             Link::Root => path.push_str("root"),
             Link::Element(index) => path.push_str(&format!("[{index}]")),
             Link::Entry => {
-                let name = mutf8::decode(self.name_span()).unwrap_or_else(|_| String::from_utf8_lossy(self.name_span()));
+                let name = self.form.decode(self.name_span()).unwrap_or_else(|_| String::from_utf8_lossy(self.name_span()));
                 path.push('/');
                 path.push_str(&path::quoted(&name));
             }

@@ -1,13 +1,21 @@
 //! Queries, and the readable paths that they are made from.
-use crate::mutf8;
+use crate::form::Form;
 use std::borrow::Cow;
 use std::fmt;
 use std::str::FromStr;
 
 /// The most steps that a query has.
 pub const MAX_STEPS: usize = 16;
-/// The most bytes that a name has, in modified UTF-8.
+/// The most bytes that a name has, in the strings of its form.
 pub const MAX_NAME: usize = 65_535;
+
+/// The first byte of a step: which one it is.
+mod sort {
+    pub const NAME: u8 = 1;
+    pub const INDEX: u8 = 2;
+    pub const ANY: u8 = 3;
+    pub const DEEP: u8 = 4;
+}
 
 /// How to come from the root to tags, step by step, in the library's bytes.
 ///
@@ -32,6 +40,19 @@ pub const MAX_NAME: usize = 65_535;
 /// # Ok::<(), tikfazrul::PathError>(())
 /// ```
 ///
+/// Its bytes have names in the strings of a form, Java's unless another is asked for. [`Table::find`](crate::Table::find) takes a query of
+/// either form for a table of either:
+///
+/// ```
+/// use tikfazrul::{Form, Query};
+/// let query: Query = "reef\u{1F600}".parse()?;
+/// assert_eq!(query.as_bytes(), b"\x01\0\x0Areef\xED\xA0\xBD\xED\xB8\x80");
+/// let pocket = Query::parse_in(Form::Pocket, "reef\u{1F600}")?;
+/// assert_eq!(pocket.as_bytes(), b"\x01\0\x08reef\xF0\x9F\x98\x80");
+/// assert_eq!(query.in_form(Form::Pocket)?.as_ref(), &pocket);
+/// # Ok::<(), tikfazrul::PathError>(())
+/// ```
+///
 /// An error points at the character:
 ///
 /// ```
@@ -45,6 +66,7 @@ pub const MAX_NAME: usize = 65_535;
 pub struct Query {
     bytes: Vec<u8>,
     steps: usize,
+    form: Form,
 }
 
 impl Query {
@@ -53,11 +75,44 @@ impl Query {
         Query::default()
     }
 
+    /// No step, and names in the strings of that form.
+    pub fn new_in(form: Form) -> Query {
+        Query { form, ..Query::default() }
+    }
+
+    /// The query that a path makes, with names in the strings of that form.
+    pub fn parse_in(form: Form, path: &str) -> Result<Query, PathError> {
+        Scan { path, at: 0 }.query(Query::new_in(form))
+    }
+
+    /// The same steps with names in the strings of that form, of which one may have more bytes there than a name has.
+    pub fn in_form(&self, form: Form) -> Result<Cow<'_, Query>, PathError> {
+        if form == self.form {
+            return Ok(Cow::Borrowed(self));
+        }
+        let mut query = Query::new_in(form);
+        let mut rest = &self.bytes[..];
+        while let Some((&sort, more)) = rest.split_first() {
+            (query, rest) = match (sort, more) {
+                (sort::NAME, [high, low, more @ ..]) => {
+                    let (name, more) = more.split_at(usize::from(u16::from_be_bytes([*high, *low])));
+                    (query.name(&self.form.decode(name).expect("a name is made of a text"))?, more)
+                }
+                _ => {
+                    let (index, more) = more.split_at(if sort == sort::INDEX { 4 } else { 0 });
+                    (query.step(sort, &[index])?, more)
+                }
+            };
+        }
+        Ok(Cow::Owned(query))
+    }
+
     /// Then to the entry of a compound so named.
     pub fn name(self, name: &str) -> Result<Query, PathError> {
-        let name = mutf8::encode(name);
+        let name = self.form.encode(name);
         match u16::try_from(name.len()) {
-            Ok(length) => self.step(1, &[&length.to_be_bytes(), &*name]),
+            // 02, [2]: lengths and indices of a query are big-endian in each form
+            Ok(length) => self.step(sort::NAME, &[&length.to_be_bytes(), &*name]),
             Err(_) => Err(PathError::bare(Fault::LongName)),
         }
     }
@@ -65,19 +120,19 @@ impl Query {
     /// Then to this element of a list, from 0.
     pub fn index(self, index: u32) -> Result<Query, PathError> {
         match i32::try_from(index) {
-            Ok(index) => self.step(2, &[&index.to_be_bytes()]),
+            Ok(index) => self.step(sort::INDEX, &[&index.to_be_bytes()]),
             Err(_) => Err(PathError::bare(Fault::Index)),
         }
     }
 
     /// Then to any one child.
     pub fn any(self) -> Result<Query, PathError> {
-        self.step(3, &[])
+        self.step(sort::ANY, &[])
     }
 
     /// Then down zero or more levels.
     pub fn deep(self) -> Result<Query, PathError> {
-        self.step(4, &[])
+        self.step(sort::DEEP, &[])
     }
 
     fn step(mut self, sort: u8, parts: &[&[u8]]) -> Result<Query, PathError> {
@@ -99,13 +154,18 @@ impl Query {
     pub fn steps(&self) -> usize {
         self.steps
     }
+
+    /// The form whose strings its names are in.
+    pub fn form(&self) -> Form {
+        self.form
+    }
 }
 
 impl FromStr for Query {
     type Err = PathError;
 
     fn from_str(path: &str) -> Result<Query, PathError> {
-        Scan { path, at: 0 }.query()
+        Query::parse_in(Form::Java, path)
     }
 }
 
@@ -247,8 +307,7 @@ impl<'a> Scan<'a> {
         found
     }
 
-    fn query(mut self) -> Result<Query, PathError> {
-        let mut query = Query::new();
+    fn query(mut self, mut query: Query) -> Result<Query, PathError> {
         if self.rest().is_empty() {
             return Ok(query);
         }

@@ -1,7 +1,9 @@
 //! Why something is refused, and where.
 use crate::ffi::Answer;
+use crate::form::Form;
 use crate::{broken, hex, lines};
 use std::fmt;
+use std::ops::Range;
 
 /// What a place counts.
 #[derive(Clone, Copy, Debug, PartialEq, Eq, Hash)]
@@ -34,6 +36,15 @@ impl Place {
             Place::Byte(n) | Place::Record(n) | Place::Query(n) | Place::Text(n) | Place::Line(n) => n,
             Place::In { byte, .. } => byte,
             Place::Whole => 0,
+        }
+    }
+
+    /// The same place where so many other bytes stand before the document: a byte of it is counted from the first of those on.
+    fn behind(self, bytes: usize) -> Place {
+        match self {
+            Place::Byte(n) => Place::Byte(n + bytes),
+            Place::In { byte, record } => Place::In { byte: byte + bytes, record },
+            other => other,
         }
     }
 
@@ -78,6 +89,8 @@ macro_rules! refusals {
             MoreMatches(usize),
             /// 24: more containers are open than the list of changes has room for. The true number of them.
             MoreChanges(usize),
+            /// 4 in the pocket edition's form: a string is not UTF-8.
+            InvalidPocketString(Place),
             /// 29 where lines of eight words are asked for: a line is not 64 digits (0 to 9, a to f) and a line feed.
             BadOldLine(Place),
             /// A number that the library does not give.
@@ -90,6 +103,7 @@ macro_rules! refusals {
                 match self {
                     $(Refusal::$case(_) => $number,)*
                     Refusal::MoreMatches(_) | Refusal::MoreChanges(_) => 24,
+                    Refusal::InvalidPocketString(_) => 4,
                     Refusal::BadOldLine(_) => 29,
                     Refusal::Unknown(number, _) => *number,
                 }
@@ -100,7 +114,7 @@ macro_rules! refusals {
                 match self {
                     $(Refusal::$case(place) => *place,)*
                     Refusal::MoreMatches(_) | Refusal::MoreChanges(_) => Place::Whole,
-                    Refusal::BadOldLine(place) | Refusal::Unknown(_, place) => *place,
+                    Refusal::InvalidPocketString(place) | Refusal::BadOldLine(place) | Refusal::Unknown(_, place) => *place,
                 }
             }
 
@@ -110,6 +124,7 @@ macro_rules! refusals {
                     $(Refusal::$case(_) => $what,)*
                     Refusal::MoreMatches(_) => "there are more matches than the list has room for",
                     Refusal::MoreChanges(_) => "more containers are open than the list of changes has room for",
+                    Refusal::InvalidPocketString(_) => "a string is not UTF-8",
                     Refusal::BadOldLine(_) => "a line is not 64 digits (0 to 9, a to f) and a line feed",
                     Refusal::Unknown(..) => "the library gave a number that this wrapper does not know",
                 }
@@ -119,7 +134,23 @@ macro_rules! refusals {
             fn at_byte(&self) -> &'static str {
                 match self {
                     $(Refusal::$case(_) => $byte,)*
+                    Refusal::InvalidPocketString(place) => Refusal::InvalidString(*place).at_byte(),
                     _ => "",
+                }
+            }
+
+            /// The same refusal of a document that stands in a file with so many other bytes before it: its place, where that is a byte, is
+            /// counted from the file's first byte on.
+            ///
+            /// ```
+            /// use tikfazrul::{Place, Refusal};
+            /// assert_eq!(Refusal::DataEnds(Place::Byte(3)).behind(8), Refusal::DataEnds(Place::Byte(11)));
+            /// ```
+            pub fn behind(self, bytes: usize) -> Refusal {
+                match self {
+                    $(Refusal::$case(place) => Refusal::$case(place.behind(bytes)),)*
+                    Refusal::InvalidPocketString(place) => Refusal::InvalidPocketString(place.behind(bytes)),
+                    other => other,
                 }
             }
 
@@ -173,6 +204,23 @@ impl Refusal {
         }
     }
 
+    /// The same where a document, or a string, is in a form: of a string, 4 says by which rule it was judged.
+    pub(crate) fn check_in(form: Form, answer: &Answer, place: impl Fn(usize) -> Place) -> Result<(), Refusal> {
+        match (form, Refusal::check(answer, place)) {
+            (Form::Pocket, Err(Refusal::InvalidString(place))) => Err(Refusal::InvalidPocketString(place)),
+            (_, checked) => checked,
+        }
+    }
+
+    /// The form whose rule a string breaks, where that is what is refused.
+    pub(crate) fn broken_form(&self) -> Option<Form> {
+        match self {
+            Refusal::InvalidString(_) => Some(Form::Java),
+            Refusal::InvalidPocketString(_) => Some(Form::Pocket),
+            _ => None,
+        }
+    }
+
     /// The bytes around the place, in hexadecimal with a mark below the place, where the place is a byte of `bytes`: of the document, the
     /// query or the text that was refused. Where it is a line of `bytes`, that line, with a mark below what is wrong with it and words that
     /// say what. `None` where the place is a record or the whole, and where nothing is wrong with the line.
@@ -185,8 +233,8 @@ impl Refusal {
     /// ```
     ///
     /// Of a string that can't be read (4) the whole sequence is marked: its lead and the continuation bytes that belong to it. Where `bytes`
-    /// is the document that [`read`](crate::read) refused, it ends with the string at the latest; elsewhere with `bytes`, for a refusal does
-    /// not know the string's length: [`Refusal::broken_in`] finds it in a table.
+    /// is the document that [`read`](crate::read) or [`read_in`](crate::read_in) refused, it ends with the string at the latest; elsewhere
+    /// with `bytes`, for a refusal does not know the string's length: [`Refusal::broken_in`] finds it in a table.
     ///
     /// ```
     /// let doc = b"\x0A\0\x08S2B \xE2\x82 x\0";
@@ -197,12 +245,26 @@ impl Refusal {
     /// ```
     pub fn window(&self, bytes: &[u8]) -> Option<String> {
         match self.place() {
-            Place::Byte(at) | Place::In { byte: at, .. } if matches!(self, Refusal::InvalidString(_)) => {
-                Some(hex::window_of(bytes, broken::sequence(self, bytes, at)))
-            }
-            Place::Byte(at) | Place::In { byte: at, .. } | Place::Query(at) | Place::Text(at) => Some(hex::window(bytes, at)),
             Place::Line(number) => lines::window(bytes, number, self.digits()),
-            Place::Record(_) | Place::Whole => None,
+            _ => self.marked(bytes).map(|marked| hex::window_of(bytes, marked)),
+        }
+    }
+
+    /// The bytes that [`Refusal::window`] marks, for whoever shows them otherwise: one, but of a string that can't be read the whole sequence.
+    /// It may be the one behind the last. `None` where the place is no byte.
+    ///
+    /// ```
+    /// let doc = b"\x0A\0\x08S2B \xE2\x82 x\0";
+    /// assert_eq!(tikfazrul::read(doc).unwrap_err().marked(doc), Some(7..9));
+    /// ```
+    pub fn marked(&self, bytes: &[u8]) -> Option<Range<usize>> {
+        match self.place() {
+            Place::Byte(at) | Place::In { byte: at, .. } if self.broken_form().is_some() => Some(broken::sequence(self, bytes, at)),
+            Place::Byte(at) | Place::In { byte: at, .. } | Place::Query(at) | Place::Text(at) => {
+                let at = at.min(bytes.len());
+                Some(at..at + 1)
+            }
+            Place::Line(_) | Place::Record(_) | Place::Whole => None,
         }
     }
 
@@ -296,6 +358,33 @@ mod tests {
         assert_eq!(Refusal::NoTable(Place::Whole).to_string(), "the words form no table over this document (refusal 10)");
         assert!(Refusal::MoreMatches(3).to_string().contains("3 in all"));
         assert!(Refusal::MoreChanges(3).to_string().contains("3 in all"));
+    }
+
+    #[test]
+    fn a_string_says_by_which_form_it_was_judged() {
+        let place = Place::In { byte: 23, record: 1 };
+        let mut answer = [0; 8];
+        (answer[0], answer[1]) = (4, 23);
+        for (form, refusal) in [(Form::Java, Refusal::InvalidString(place)), (Form::Pocket, Refusal::InvalidPocketString(place))] {
+            assert_eq!(Refusal::check_in(form, &answer, |byte| Place::In { byte, record: 1 }), Err(refusal));
+            assert_eq!((refusal.number(), refusal.place(), refusal.broken_form()), (4, place, Some(form)));
+            let words = "at byte 31, in record 1, where the first sequence that can't be read begins (refusal 4)";
+            assert_eq!(refusal.behind(8).to_string(), format!("{}, {words}", refusal.what()));
+        }
+        // every other is the same in each form
+        answer[0] = 6;
+        assert_eq!(Refusal::check_in(Form::Pocket, &answer, Place::Byte), Err(Refusal::RepeatedName(Place::Byte(23))));
+        assert_eq!(Refusal::RepeatedName(place).broken_form(), None);
+    }
+
+    #[test]
+    fn only_bytes_of_the_document_are_counted_from_elsewhere() {
+        for place in [Place::Record(3), Place::Query(3), Place::Text(3), Place::Line(3), Place::Whole] {
+            assert_eq!(Refusal::RepeatedName(place).behind(8), Refusal::RepeatedName(place));
+        }
+        assert_eq!(Refusal::RepeatedName(Place::Byte(3)).behind(8), Refusal::RepeatedName(Place::Byte(11)));
+        assert_eq!(Refusal::MoreMatches(3).behind(8), Refusal::MoreMatches(3));
+        assert_eq!(Refusal::BadOldLine(Place::Line(3)).behind(8), Refusal::BadOldLine(Place::Line(3)));
     }
 
     #[test]

@@ -1,8 +1,9 @@
 //! What is saved of documents that were cut in transfer.
 use crate::ffi;
+use crate::form::Form;
 use crate::node::{Kind, Trail};
 use crate::refusal::{Place, Refusal};
-use crate::table::{Table, MAX_DOCUMENT, MAX_RECORDS, WORDS};
+use crate::table::{read_in, Table, MAX_DOCUMENT, MAX_RECORDS, WORDS};
 
 /// The most lists and compounds in each other, the root among them.
 pub const MAX_DEPTH: usize = 512;
@@ -83,22 +84,35 @@ pub struct Saved {
 /// # Ok::<(), tikfazrul::Refusal>(())
 /// ```
 pub fn rescue(doc: &[u8]) -> Result<Rescued, Refusal> {
+    rescue_in(Form::Java, doc)
+}
+
+/// Makes a whole document, in the same form, of one in a form that [`read_in`](crate::read_in) refuses with 1. All else is as in [`rescue`].
+///
+/// ```
+/// use tikfazrul::{rescue_in, Form};
+/// // a list of three shorts, cut in the second
+/// let rescued = rescue_in(Form::Pocket, b"\x0A\0\0\x09\x01\0l\x02\x03\0\0\0\x07\0\x08")?;
+/// assert_eq!(rescued.document, b"\x0A\0\0\x09\x01\0l\x02\x01\0\0\0\x07\0\0");
+/// assert_eq!(rescued.table.form(), Form::Pocket);
+/// # Ok::<(), tikfazrul::Refusal>(())
+/// ```
+pub fn rescue_in(form: Form, doc: &[u8]) -> Result<Rescued, Refusal> {
     // closing takes a byte for each container at the most
     let mut document = vec![0; doc.len().saturating_add(MAX_DEPTH).min(MAX_DOCUMENT)];
     let mut changes = [0; CHANGE * MAX_DEPTH];
-    let saved = growing(doc, &mut document, &mut changes)?;
+    let saved = growing(form, doc, &mut document, &mut changes)?;
     document.truncate(saved.bytes);
-    let mut table = Table::new();
-    table.read(&document)?;
+    let table = read_in(form, &document)?;
     let (lines, path) = lines(&document, &table, &changes[..CHANGE * saved.changes])?;
     Ok(Rescued { document, table, lines, path })
 }
 
 /// Rescues with a table of its own: where it is full (8) the rescue is tried again with more room, up to [`MAX_RECORDS`].
-fn growing(doc: &[u8], out: &mut [u8], changes: &mut [u32]) -> Result<Saved, Refusal> {
+fn growing(form: Form, doc: &[u8], out: &mut [u8], changes: &mut [u32]) -> Result<Saved, Refusal> {
     let mut room = (doc.len() / 16).clamp(16, MAX_RECORDS);
     loop {
-        match rescue_into(doc, &mut vec![0; room * WORDS], out, changes) {
+        match rescue_in_into(form, doc, &mut vec![0; room * WORDS], out, changes) {
             Err(Refusal::TableFull(_)) if room < MAX_RECORDS => room = (room * 4).min(MAX_RECORDS),
             answer => return answer,
         }
@@ -132,9 +146,14 @@ fn lines(doc: &[u8], table: &Table, changes: &[u32]) -> Result<(Vec<Line>, Strin
 /// # Ok::<(), tikfazrul::Refusal>(())
 /// ```
 pub fn rescue_into(doc: &[u8], words: &mut [u32], out: &mut [u8], changes: &mut [u32]) -> Result<Saved, Refusal> {
-    let answer = ffi::rescue(doc, words, out, changes);
+    rescue_in_into(Form::Java, doc, words, out, changes)
+}
+
+/// The same of a document in a form.
+pub fn rescue_in_into(form: Form, doc: &[u8], words: &mut [u32], out: &mut [u8], changes: &mut [u32]) -> Result<Saved, Refusal> {
+    let answer = ffi::rescue_in(form.number(), doc, words, out, changes);
     let place: fn(usize) -> Place = if matches!(answer[0], 13 | 31) { |_| Place::Whole } else { Place::Byte };
-    match Refusal::check(&answer, place) {
+    match Refusal::check_in(form, &answer, place) {
         Ok(()) => Ok(Saved { bytes: answer[2] as usize, changes: answer[3] as usize }),
         Err(Refusal::MoreMatches(count)) => Err(Refusal::MoreChanges(count)),
         Err(refusal) => Err(refusal),

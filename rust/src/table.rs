@@ -1,5 +1,6 @@
 //! Tables of records: read from a document, written as one, asked.
 use crate::ffi::{self, Answer};
+use crate::form::Form;
 use crate::node::Node;
 use crate::path::Query;
 use crate::refusal::{Place, Refusal};
@@ -27,13 +28,15 @@ pub(crate) mod word {
 
 /// A table that owns its words, nine for each record, in file order.
 ///
-/// It holds spans of the document that it was read from, not the bytes: whoever walks or writes it hands the document in again.
+/// It holds spans of the document that it was read from, not the bytes: whoever walks or writes it hands the document in again. It remembers
+/// the form of that document.
 #[derive(Clone, Debug, Default, PartialEq, Eq)]
 pub struct Table {
     words: Vec<u32>,
     consumed: usize,
     /// The length of a document over which the words are known to form a table; rule 7 asks for nothing else of it.
     over: Option<usize>,
+    form: Form,
 }
 
 impl Table {
@@ -45,12 +48,25 @@ impl Table {
     /// A table of words from elsewhere. They may form none: then [`write()`], [`query`], [`Table::root`] and [`Table::to_lines`] refuse them
     /// with 10.
     pub fn from_words(words: Vec<u32>) -> Table {
-        Table { words, consumed: 0, over: None }
+        Table::from_words_in(Form::Java, words)
+    }
+
+    /// The same, of a document in that form: words don't tell it.
+    ///
+    /// ```
+    /// use tikfazrul::{write, Form, Table};
+    /// // a root without a name, and in it a list of which nothing came, called by the first byte of the document
+    /// let words = [[10, 0, 0, 0, 0, 1, 0, 2, 0], [9, 0, 1, 0, 0, 0, 0, 2, 0]].concat();
+    /// assert_eq!(write(b"l", &mut Table::from_words_in(Form::Pocket, words))?, b"\x0A\0\0\x09\x01\0l\0\0\0\0\0\0");
+    /// # Ok::<(), tikfazrul::Refusal>(())
+    /// ```
+    pub fn from_words_in(form: Form, words: Vec<u32>) -> Table {
+        Table { words, consumed: 0, over: None, form }
     }
 
     /// A table of words from elsewhere that are judged here: refused with 10 where they form none over a document of so many bytes.
-    pub(crate) fn judged(words: Vec<u32>, doc_len: usize) -> Result<Table, Refusal> {
-        let mut table = Table::from_words(words);
+    pub(crate) fn judged(form: Form, words: Vec<u32>, doc_len: usize) -> Result<Table, Refusal> {
+        let mut table = Table::from_words_in(form, words);
         table.judge(doc_len)?;
         table.over = Some(doc_len);
         Ok(table)
@@ -66,13 +82,19 @@ impl Table {
     /// Reads a document, and uses the memory of what was read before. After a refusal the table is empty. The table grows by itself: a read
     /// that finds it full (8) is tried again with more room, up to [`MAX_RECORDS`].
     pub fn read(&mut self, doc: &[u8]) -> Result<(), Refusal> {
+        self.read_in(Form::Java, doc)
+    }
+
+    /// The same of a document in that form.
+    pub fn read_in(&mut self, form: Form, doc: &[u8]) -> Result<(), Refusal> {
         self.consumed = 0;
         self.over = None;
+        self.form = form;
         let mut room = (self.words.capacity() / WORDS).max(doc.len() / 16).clamp(16, MAX_RECORDS);
         loop {
             self.words.clear();
             self.words.resize(room * WORDS, 0);
-            match read_into(doc, &mut self.words) {
+            match read_in_into(form, doc, &mut self.words) {
                 Ok(read) => {
                     self.words.truncate(read.records * WORDS);
                     self.consumed = read.consumed;
@@ -113,6 +135,11 @@ impl Table {
         self.consumed
     }
 
+    /// The form of the document that it is of.
+    pub fn form(&self) -> Form {
+        self.form
+    }
+
     /// Whether the words form a table over a document of so many bytes, by rule 7. What a read fills in always does. Refused with 9 where
     /// there are more than nine words for each of [`MAX_RECORDS`], or the document is over [`MAX_DOCUMENT`].
     pub fn is_table(&self, doc_len: usize) -> Result<bool, Refusal> {
@@ -135,11 +162,11 @@ impl Table {
         if self.over != Some(doc.len()) {
             self.judge(doc.len())?;
         }
-        Ok(Node::root(doc, &self.words))
+        Ok(Node::root(doc, &self.words, self.form))
     }
 
     /// The tags that match a query, in file order. Each says where it is: [`Node::parent`], [`Node::path`], and for many a
-    /// [`Trail`](crate::Trail).
+    /// [`Trail`](crate::Trail). Names of the query are looked for in the table's form, whatever form it was made for.
     ///
     /// ```
     /// use tikfazrul::Query;
@@ -150,7 +177,11 @@ impl Table {
     /// # Ok::<(), Box<dyn std::error::Error>>(())
     /// ```
     pub fn find<'a>(&'a self, doc: &'a [u8], query: &Query) -> Result<Vec<Node<'a>>, Refusal> {
-        let records = self::query(doc, self, query.as_bytes())?;
+        let records = match query.in_form(self.form) {
+            Ok(query) => self::query(doc, self, query.as_bytes())?,
+            // no name of this form is so long; what else is wrong is asked all the same
+            Err(_) => self::query(doc, self, &[]).map(|_| Vec::new())?,
+        };
         let root = self.root(doc)?;
         Ok(records.into_iter().map(|record| root.at(record as usize)).collect())
     }
@@ -175,8 +206,23 @@ pub struct Read {
 /// # Ok::<(), Refusal>(())
 /// ```
 pub fn read(doc: &[u8]) -> Result<Table, Refusal> {
+    read_in(Form::Java, doc)
+}
+
+/// Reads a document in a form into a table of its own, which remembers the form.
+///
+/// ```
+/// use tikfazrul::{read_in, Form, Place, Refusal};
+/// // a short of 258, in the root tile
+/// let doc = b"\x0A\x04\0tile\x02\x01\0s\x02\x01\0";
+/// let table = read_in(Form::Pocket, doc)?;
+/// assert_eq!(table.root(doc)?.get("s").unwrap().as_i16(), Some(258));
+/// assert_eq!(read_in(Form::Java, doc), Err(Refusal::DataEnds(Place::Byte(3))));
+/// # Ok::<(), Refusal>(())
+/// ```
+pub fn read_in(form: Form, doc: &[u8]) -> Result<Table, Refusal> {
     let mut table = Table::new();
-    table.read(doc)?;
+    table.read_in(form, doc)?;
     Ok(table)
 }
 
@@ -191,14 +237,20 @@ pub fn read(doc: &[u8]) -> Result<Table, Refusal> {
 /// # Ok::<(), tikfazrul::Refusal>(())
 /// ```
 pub fn read_into(doc: &[u8], words: &mut [u32]) -> Result<Read, Refusal> {
-    let answer = ffi::read(doc, words);
-    Refusal::check(&answer, Place::Byte)?;
+    read_in_into(Form::Java, doc, words)
+}
+
+/// The same of a document in a form.
+pub fn read_in_into(form: Form, doc: &[u8], words: &mut [u32]) -> Result<Read, Refusal> {
+    let answer = ffi::read_in(form.number(), doc, words);
+    Refusal::check_in(form, &answer, Place::Byte)?;
     Ok(Read { consumed: answer[2] as usize, records: answer[3] as usize })
 }
 
-/// Writes the document that a table stands for, whose names and payloads lie in `doc`. A document that would be over [`MAX_DOCUMENT`], and so
-/// could not be read again, is refused with 13; [`write_into`] writes longer ones. A name or string that can't be read is refused with 4, at
-/// its broken character and with its record ([`Place::In`]). The table is used while the call lasts and comes back as it was.
+/// Writes the document that a table stands for, whose names and payloads lie in `doc`, in the form that the table has. A document that would
+/// be over [`MAX_DOCUMENT`], and so could not be read again, is refused with 13; [`write_into`] writes longer ones. A name or string that
+/// can't be read is refused with 4, at its broken character and with its record ([`Place::In`]). The table is used while the call lasts and
+/// comes back as it was.
 ///
 /// ```
 /// let doc = b"\x0A\0\0\x09\0\x01l\x05\0\0\0\0\0";
@@ -216,8 +268,8 @@ pub fn write(doc: &[u8], table: &mut Table) -> Result<Vec<u8>, Refusal> {
 
 /// Writes into bytes that the caller lends, and says how many. Refused: the output is as it was.
 pub fn write_into(doc: &[u8], table: &mut Table, out: &mut [u8]) -> Result<usize, Refusal> {
-    let answer = ffi::write(doc, &mut table.words, out);
-    Refusal::check(&answer, |place| written_place(&answer, place))?;
+    let answer = ffi::write_in(table.form.number(), doc, &mut table.words, out);
+    Refusal::check_in(table.form, &answer, |place| written_place(&answer, place))?;
     Ok(answer[2] as usize)
 }
 
@@ -236,8 +288,8 @@ fn bound(words: &[u32]) -> usize {
     words.chunks_exact(WORDS).map(most).fold(0, usize::saturating_add)
 }
 
-/// The records that match a query, by number, in file order and none twice. The query is given as the library's bytes: [`Query`] makes them
-/// from a readable path.
+/// The records that match a query, by number, in file order and none twice. The query is given as the library's bytes, its names in the strings
+/// of the table's form: [`Query`] makes them from a readable path.
 ///
 /// ```
 /// let doc = b"\x0A\0\x01a\x01\0\x01b\xFF\0";
@@ -257,7 +309,7 @@ pub fn query(doc: &[u8], table: &Table, query: &[u8]) -> Result<Vec<u32>, Refusa
 
 /// Asks into a list that the caller lends, and says how many match. Refused: the list is as it was, and 24 says how many there are.
 pub fn query_into(doc: &[u8], table: &Table, query: &[u8], list: &mut [u32]) -> Result<usize, Refusal> {
-    let answer = ffi::query(doc, &table.words, query, list);
+    let answer = ffi::query_in(table.form.number(), doc, &table.words, query, list);
     let place = if answer[0] == 14 { Place::Query } else { Place::Record };
     Refusal::check(&answer, place)?;
     Ok(answer[2] as usize)

@@ -1,6 +1,6 @@
 //! The answers that samples/README.md tells are the library's.
 use std::path::PathBuf;
-use tikfazrul::{read, Refusal, Table};
+use tikfazrul::{read, read_in, Form, Refusal, Table};
 
 fn samples() -> PathBuf {
     PathBuf::from(env!("CARGO_MANIFEST_DIR")).join("../samples")
@@ -17,28 +17,63 @@ fn rows() -> Vec<(String, String)> {
     text.lines().filter(|line| line.starts_with("| `")).map(row).collect()
 }
 
-fn answer(file: &str, document: impl Fn(Vec<u8>) -> Result<Vec<u8>, Refusal>) -> String {
+fn answer(file: &str, form: Form, document: impl Fn(Vec<u8>) -> Result<Vec<u8>, Refusal>) -> String {
     let bytes = std::fs::read(samples().join(file)).expect(file);
-    match document(bytes).and_then(|bytes| read(&bytes)) {
+    match document(bytes).and_then(|bytes| read_in(form, &bytes)) {
         Ok(table) => format!("accepted: {} bytes, {} records", table.consumed(), table.len()),
         Err(refusal) => format!("refused with {} at {}", refusal.number(), refusal.place().number()),
     }
 }
 
+/// Whether the file is answered so.
+fn is_answered(file: &str, told: &str, form: Form, document: impl Fn(Vec<u8>) -> Result<Vec<u8>, Refusal>) {
+    let told = told.replace("1 record", "1 records").replace(',', "");
+    let answer = answer(file, form, document).replace(',', "");
+    assert!(told.starts_with(&answer), "{file}: told {told}, answered {answer}");
+}
+
+const POCKET: &str = "pocket-";
+
 /// Whether every file whose name has this ending is answered as told, and there are so many.
 fn as_told(ending: &str, count: usize, document: impl Fn(Vec<u8>) -> Result<Vec<u8>, Refusal>) {
-    let rows: Vec<_> = rows().into_iter().filter(|(file, _)| file.contains(ending) && !file.ends_with(".lines")).collect();
+    let of_java = |file: &str| file.contains(ending) && !file.ends_with(".lines") && !file.starts_with(POCKET);
+    let rows: Vec<_> = rows().into_iter().filter(|(file, _)| of_java(file)).collect();
     assert_eq!(rows.len(), count);
     for (file, told) in rows {
-        let told = told.replace("1 record", "1 records").replace(',', "");
-        let answer = answer(&file, &document).replace(',', "");
-        assert!(told.starts_with(&answer), "{file}: told {told}, answered {answer}");
+        is_answered(&file, &told, Form::Java, &document);
     }
 }
 
 #[test]
 fn every_document_is_answered_as_told() {
     as_told(".nbt", 15, Ok);
+}
+
+/// Of a document in the pocket edition's form it is told how it is answered in both.
+#[test]
+fn every_pocket_document_is_answered_as_told() {
+    let rows: Vec<_> = rows().into_iter().filter(|(file, _)| file.starts_with(POCKET)).collect();
+    assert_eq!(rows.len(), 3);
+    for (file, told) in rows {
+        for (form, label) in [(Form::Pocket, "pocket: "), (Form::Java, "Java: ")] {
+            let told = told.split("; ").find_map(|part| part.strip_prefix(label)).expect(&file);
+            is_answered(&file, told, form, Ok);
+        }
+    }
+}
+
+#[test]
+fn the_pocket_reef_is_the_reef() {
+    let sample = |name: &str| std::fs::read(samples().join(name)).expect(name);
+    let (reef, pocket, level) = (sample("reef.nbt"), sample("pocket-reef.nbt"), sample("pocket-level.nbt"));
+    let tree = |form, doc: &[u8]| -> Vec<String> {
+        let table = read_in(form, doc).unwrap();
+        let value =
+            |node: tikfazrul::Node| (node.as_str().map(|text| text.into_owned()), node.as_whole(), node.wholes().map(Vec::from_iter));
+        table.root(doc).unwrap().walk().map(|(_, node)| format!("{node:?} {:?} {:?}", node.name(), value(node))).collect()
+    };
+    assert_eq!(tree(Form::Pocket, &pocket), tree(Form::Java, &reef));
+    assert_eq!(level, [&[10, 0, 0, 0, pocket.len() as u8, 0, 0, 0], &pocket[..]].concat());
 }
 
 #[test]

@@ -2,7 +2,7 @@
 use std::collections::HashSet;
 use std::ffi::{OsStr, OsString};
 use std::path::{Path, PathBuf};
-use tikfazrul::Query;
+use tikfazrul::{Form, Query};
 
 #[derive(Clone, Copy, PartialEq, Eq)]
 pub enum Command {
@@ -32,6 +32,8 @@ pub struct Args {
     way: Option<Way>,
     length: Option<usize>,
     pub in_place: bool,
+    /// The form that documents are in.
+    pub form: Form,
     pub json: bool,
     pub full: bool,
     pub line: bool,
@@ -59,6 +61,8 @@ tile: looks into NBT documents, with every answer from a proved library.
   -o FILE       where to write; - is standard output; a folder holds what is rescued, and lines, under the names of the files
   --lines FILE  lines that were kept, taken in place of reading the document (list, query, write, lines), or compared with it (check);
                 of a folder, its NAME.lines
+  --pocket      documents are in the pocket edition's form: numbers little-endian, strings in UTF-8 (list, check, query, write, rescue,
+                lines); a level file's eight bytes before the document are passed over
   --length N    how many bytes the document has that the lines to be moved are of (lines --up and --down)
   --in-place    the moved lines take the place of the old ones, in the same file (lines --up and --down)
   --json        one JSON object for each file, on a line of its own (list, check, query, rescue)
@@ -74,10 +78,11 @@ Try, on the samples:
   tile list samples/reef.nbt
   tile check samples/*.nbt
   tile query 'root/Tiles[3]/**/SceneId' samples/mosaic.nbt
+  tile list --pocket samples/pocket-reef.nbt
 ";
 
 const ABOUT_LIST: &str = "\
-tile list [--json] [--full] [--lines FILE] FILE…
+tile list [--pocket] [--json] [--full] [--lines FILE] FILE…
 
 Lists every tag in file order: its record in the table, its kind, its name (indented by level; [n] for a list's elements) and its value.
 Names with blanks or other odd characters stand in quotes, as a path wants them. Long strings and arrays are cut unless --full is given.
@@ -89,21 +94,29 @@ With --lines the table is not read but taken from lines, which must be the docum
 ";
 
 const ABOUT_CHECK: &str = "\
-tile check [--json] [--lines FILE] FILE…
+tile check [--pocket] [--json] [--lines FILE] FILE…
 
-Says of each file whether it is a lawful document. A refusal has a number, words, a place, and the bytes around the place with a mark below
-it. Of a name or a string that can't be read, all bytes of the broken character are marked, and the path tells which it is; with --json,
-path, part (string, name or root name; a name has the path of the compound that its entry stands in) and length. Places in gzip'd files
-count inflated bytes. Where the data ends too soon, tile rescue saves what came. With --lines the document is read all the same, and
-refused too if the lines are not exactly those of its own table. Exit status 1 if any file is refused.
+Says of each file whether it is a lawful document, in Java's form or, with --pocket, in the pocket edition's: numbers, counts and lengths
+little-endian, strings in UTF-8. Where it is refused in that form and accepted in the other, this is said too; with --json, accepted_in.
+
+A refusal has a number, words, a place, and the bytes around the place with a mark below it. Of a name or a string that can't be read, all
+bytes of the broken character are marked, and the path tells which it is; with --json, path, part (string, name or root name; a name has
+the path of the compound that its entry stands in) and length. Places in gzip'd files count inflated bytes. Where the data ends too soon,
+tile rescue saves what came. With --lines the document is read all the same, and refused too if the lines are not exactly those of its own
+table. Exit status 1 if any file is refused.
+
+Level files of the pocket edition have eight bytes before the document: a version and a length, both little-endian. With --pocket they are
+passed over by each command, which says so, where the length is that of the rest, or more and the rest is cut. Places of refusals count
+them: they are places in the file.
 
   tile check samples/second-origin.nbt
   tile check samples/broken-character.nbt
+  tile check --pocket samples/pocket-*.nbt
   find world -name '*.dat' -print0 | xargs -0 tile check >report.txt
 ";
 
 const ABOUT_QUERY: &str = "\
-tile query [--json] [--full] [--lines FILE] PATH FILE…
+tile query [--pocket] [--json] [--full] [--lines FILE] PATH FILE…
 
 Shows the tags that a path leads to, in file order, each with its own path, which tells what it sits in. A path begins at the root; its
 steps are parted by /:
@@ -133,34 +146,37 @@ Makes a document of a text (SNBT), with an empty root name. Nothing is written i
 ";
 
 const ABOUT_WRITE: &str = "\
-tile write [--lines FILE] FILE -o FILE
+tile write [--pocket] [--lines FILE] FILE -o FILE
 
-Reads a document and writes it again: inflated, without bytes that follow the root, with the id of empty lists 0. Nothing is written if the
-document is refused. With --lines the table is not read but taken from lines, which must be the document's own: tile lines --help tells
-more.
+Reads a document and writes it again, in the form that it is in: inflated, without bytes that follow the root or, in a level file, that
+stand before it, with the id of empty lists 0. Nothing is written if the document is refused. With --lines the table is not read but taken
+from lines, which must be the document's own: tile lines --help tells more.
 
   tile write samples/reef.nbt.gz -o reef.nbt
 ";
 
 const ABOUT_RESCUE: &str = "\
-tile rescue [--json] FILE… -o FILE
+tile rescue [--pocket] [--json] FILE… -o FILE
 
-Makes a whole document of one that was cut in transfer: with every tag that came whole, in file order and with the value it had. Says which
-lists and compounds were open where the data ends, how many elements a list promised, and how many children each has kept. Of a gzip'd
-file that is cut, what can be inflated is taken. Nothing is written of a document that is whole, that is refused for anything else, or that
-ends before the root's name does: exit status 1. Several files are saved in a folder, under their own names without .gz.
+Makes a whole document of one that was cut in transfer, in the form that it is in and without a level file's eight bytes before it: with
+every tag that came whole, in file order and with the value it had. Says which lists and compounds were open where the data ends, how many
+elements a list promised, and how many children each has kept. Of a gzip'd file that is cut, what can be inflated is taken. Nothing is
+written of a document that is whole, that is refused for anything else, or that ends before the root's name does: exit status 1. Several
+files are saved in a folder, under their own names without .gz.
 
   tile rescue samples/cut-list.nbt -o saved.nbt
   tile rescue inbox/*.nbt.gz -o saved/
 ";
 
 const ABOUT_LINES: &str = "\
-tile lines [--lines FILE] FILE… [-o FILE]
+tile lines [--pocket] [--lines FILE] FILE… [-o FILE]
 tile lines --up|--down --length N FILE… [-o FILE | --in-place]
 
 Writes a document's table as lines, to be kept: for each tag the nine words of its record, each as eight digits 0 to 9 and a to f, and a
 line feed. They go to standard output unless -o says where. A folder holds them as NAME.lines, NAME being the file's own name without .gz;
-several files want one. Nothing is written of a document that is refused, and nothing over the document itself.
+several files want one. Nothing is written of a document that is refused, and nothing over the document itself. Lines don't tell the
+document's form: where it is the pocket edition's, --pocket goes with them too. They count bytes of the document, so not a level file's
+eight bytes before it.
 
 With --lines, list, query, write and lines take the table from such lines and do not read the document; of a folder, from its NAME.lines.
 Lines that are bad, or that form no table over a document of this length, are refused: exit status 1. No more than that is asked of them
@@ -229,6 +245,11 @@ impl Command {
         matches!(self, Command::Rescue | Command::Lines)
     }
 
+    /// Whether it takes documents.
+    fn takes_documents(self) -> bool {
+        !matches!(self, Command::Text | Command::Hex)
+    }
+
     /// Whether it can do with a table from lines.
     fn takes_lines(self) -> bool {
         !matches!(self, Command::Text | Command::Rescue | Command::Hex)
@@ -261,6 +282,7 @@ pub fn parse(words: impl Iterator<Item = OsString>) -> Result<Args, Instead> {
         way: None,
         length: None,
         in_place: false,
+        form: Form::Java,
         json: false,
         full: false,
         line: false,
@@ -279,6 +301,7 @@ fn options(args: &mut Args, mut words: impl Iterator<Item = OsString>) -> Result
             Some("--json") => args.json = true,
             Some("--full") => args.full = true,
             Some("--line") => args.line = true,
+            Some("--pocket") => args.form = Form::Pocket,
             Some("-o" | "--output") => args.out = Some(given(words.next(), "-o wants a file")?),
             Some("--up") => way(args, Way::Up)?,
             Some("--down") => way(args, Way::Down)?,
@@ -324,7 +347,7 @@ fn path(args: &mut Args) -> Result<(), Instead> {
     let Some(path) = path.to_str() else {
         return fault("the path is not UTF-8".to_owned());
     };
-    match path.parse() {
+    match Query::parse_in(args.form, path) {
         Ok(query) => args.query = query,
         Err(error) => return Err(Instead::Fault(format!("the path can't be read: {error}"))),
     }
@@ -448,6 +471,9 @@ fn moves(args: &Args) -> Result<(), Instead> {
     if args.lines.is_some() {
         return fault(format!("{way} takes each file itself as lines, so --lines has no place beside it"));
     }
+    if args.form != Form::Java {
+        return fault(format!("{way} takes lines, which are the same in each form, so --pocket has no place beside it"));
+    }
     if args.length.is_none() {
         return fault(format!("{way} wants to know how many bytes the document has: --length N"));
     }
@@ -483,6 +509,9 @@ fn output(args: &Args) -> Result<(), Instead> {
 fn complete(args: Args) -> Result<Args, Instead> {
     if args.lines.is_some() && !args.command.takes_lines() {
         return fault("--lines goes with list, check, query, write and lines".to_owned());
+    }
+    if args.form != Form::Java && !args.command.takes_documents() {
+        return fault("--pocket goes with list, check, query, write, rescue and lines".to_owned());
     }
     moves(&args)?;
     if args.files.is_empty() {

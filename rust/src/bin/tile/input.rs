@@ -1,9 +1,10 @@
 //! Files and standard input, inflated where they are gzip'd.
+use crate::head::{Head, HEAD};
 use std::ffi::OsStr;
 use std::fs::File;
 use std::io::{self, Read, Write};
 use std::process::{Child, Command, Stdio};
-use tikfazrul::{Broken, Refusal, LINE, MAX_DOCUMENT, MAX_RECORDS};
+use tikfazrul::{read_in, Broken, Form, Refusal, LINE, MAX_DOCUMENT, MAX_RECORDS};
 
 /// Why there is no document to be had from a file.
 pub enum Trouble {
@@ -11,11 +12,13 @@ pub enum Trouble {
     Io(String),
     /// It is compressed, and can't be inflated here: the words that say what to do.
     Packed(String),
-    /// The library refuses it; with the bytes that the place counts.
-    Refused(Refusal, Vec<u8>),
+    /// The library refuses the document in it; the place counts the document's bytes.
+    Refused(Refusal, Input),
+    /// The library refuses it as a text; with the bytes that the place counts.
+    Text(Refusal, Vec<u8>),
     /// The library refuses these lines, or what is done with their table; with the bytes that the place counts.
     Lines(String, Refusal, Vec<u8>),
-    /// The table of these lines has a name or a string that can't be read; with the document's bytes, and which it is.
+    /// The table of these lines has a name or a string that can't be read; with the file's bytes, which the place counts, and which it is.
     Unreadable(String, Refusal, Vec<u8>, Box<Broken>),
     /// These lines have eight words each, and the library can move them to nine; with the bytes that the place counts, and the command.
     OldLines(String, Refusal, Vec<u8>, String),
@@ -33,19 +36,73 @@ impl Trouble {
     pub fn unwritten(error: io::Error) -> Trouble {
         Trouble::Io(format!("can't be written: {error}"))
     }
+
+    /// The other form, if the document that is refused is accepted in that.
+    pub fn other_form(&self) -> Option<Form> {
+        match self {
+            // whole in one form, there is nothing to rescue in the other
+            Trouble::Refused(Refusal::NotCut(_), _) => None,
+            Trouble::Refused(_, input) => input.other_form(),
+            _ => None,
+        }
+    }
 }
 
 /// What stands in a file.
+#[derive(Clone)]
 pub struct Input {
     pub bytes: Vec<u8>,
     pub inflated: bool,
     /// What gzip says where its bytes end too soon, and these are what came before.
     pub cut: Option<String>,
+    /// The form that its document is in.
+    pub form: Form,
+    /// What stands before the document in a level file.
+    pub head: Option<Head>,
 }
 
 impl Input {
     pub fn plain(bytes: Vec<u8>) -> Input {
-        Input { bytes, inflated: false, cut: None }
+        Input { bytes, inflated: false, cut: None, form: Form::Java, head: None }
+    }
+
+    fn unpacked(bytes: Vec<u8>, cut: Option<String>) -> Input {
+        Input { inflated: true, cut, ..Input::plain(bytes) }
+    }
+
+    /// The same, with a document in that form.
+    pub fn in_form(self, form: Form) -> Input {
+        let head = self.head_in(form);
+        Input { form, head, ..self }
+    }
+
+    fn head_in(&self, form: Form) -> Option<Head> {
+        Some(form).filter(|&form| form == Form::Pocket).and_then(|_| Head::of(&self.bytes))
+    }
+
+    /// How many bytes stand before the document.
+    pub fn before(&self) -> usize {
+        self.head.map_or(0, |_| HEAD)
+    }
+
+    pub fn document(&self) -> &[u8] {
+        &self.bytes[self.before()..]
+    }
+
+    /// The other form, if a document in that is accepted.
+    pub fn other_form(&self) -> Option<Form> {
+        // of a level file Java's form takes the version 10 alone, as a root without a tag
+        if self.head.is_some() {
+            return None;
+        }
+        let other = if self.form == Form::Java { Form::Pocket } else { Form::Java };
+        let before = self.head_in(other).map_or(0, |_| HEAD);
+        read_in(other, &self.bytes[before..]).is_ok().then_some(other)
+    }
+
+    /// Whether it is taken for one of Java's form, and begins as a level file of the pocket edition does.
+    pub fn is_level_file(&self) -> bool {
+        self.form == Form::Java && self.head_in(Form::Pocket).is_some()
     }
 }
 
@@ -136,19 +193,19 @@ fn collect(gzip: &mut Child) -> Result<Input, Trouble> {
     out.take(ENOUGH).read_to_end(&mut bytes).map_err(Trouble::unread)?;
     if bytes.len() as u64 == ENOUGH {
         // too long for any document: there is no need for the rest
-        return Ok(Input { bytes, inflated: true, cut: None });
+        return Ok(Input::unpacked(bytes, None));
     }
     let mut said = String::new();
     let _ = gzip.stderr.take().expect("it is piped").take(4096).read_to_string(&mut said);
     let status = gzip.wait().map_err(Trouble::unread)?;
     // 2 is a warning: bytes that follow the gzip'd ones
     if matches!(status.code(), Some(0 | 2)) {
-        return Ok(Input { bytes, inflated: true, cut: None });
+        return Ok(Input::unpacked(bytes, None));
     }
     let why = said.lines().map(str::trim).find(|line| !line.is_empty()).unwrap_or("no reason given").to_owned();
     // then gzip has put out all that it could inflate
     if why.ends_with("unexpected end of file") {
-        return Ok(Input { bytes, inflated: true, cut: Some(why) });
+        return Ok(Input::unpacked(bytes, Some(why)));
     }
     Err(Trouble::Packed(not_whole(&why)))
 }

@@ -1,8 +1,9 @@
 //! The same for machines: one JSON object for each file.
-use crate::input::Trouble;
+use crate::head::Head;
+use crate::input::{Input, Trouble};
 use crate::show;
 use std::fmt::Write;
-use tikfazrul::{Broken, Change, Kind, Node, Part, Place, Refusal, Rescued, Trail};
+use tikfazrul::{Broken, Change, Form, Kind, Node, Part, Place, Refusal, Rescued, Trail};
 
 pub fn string(text: &str) -> String {
     let mut json = String::from("\"");
@@ -17,7 +18,7 @@ pub fn string(text: &str) -> String {
     json
 }
 
-/// What a string or a name is that is not modified UTF-8, as only tables from lines have.
+/// What a string or a name is that can't be read, as only tables from lines have.
 const UNREADABLE: &str = "null";
 
 /// JSON has no NaN and no infinities: they are strings.
@@ -85,15 +86,36 @@ pub fn file(name: &str, ok: bool, more: &str) -> String {
     format!("{{\"file\":{},\"ok\":{ok}{comma}{more}}}", string(name))
 }
 
+/// The form of a document that is not in Java's, and what stands before it in a level file; a comma behind each.
+pub fn form(input: &Input) -> String {
+    let form = match input.form {
+        Form::Java => "",
+        Form::Pocket => "\"form\":\"pocket\",",
+    };
+    let head = |head: Head| format!("\"level_file\":{{\"version\":{},\"length\":{}}},", head.version, head.length);
+    form.to_owned() + &input.head.map_or(String::new(), head)
+}
+
+/// The form in which a document is accepted that is refused in another.
+pub fn accepted_in(form: Option<Form>) -> &'static str {
+    match form {
+        None => "",
+        Some(Form::Java) => ",\"accepted_in\":\"java\"",
+        Some(Form::Pocket) => ",\"accepted_in\":\"pocket\"",
+    }
+}
+
 pub fn trouble(trouble: &Trouble) -> String {
     match trouble {
         Trouble::Io(words) => format!("\"error\":{}", string(words)),
         Trouble::Packed(words) => format!("\"message\":{}", string(words)),
-        Trouble::Refused(refusal, bytes) => {
-            let broken = refusal.broken(bytes).map_or(String::new(), |broken| unreadable(&broken));
-            format!("{}{broken}", refused(refusal, &refusal.to_string()))
+        Trouble::Refused(refusal, input) => {
+            let broken = refusal.broken(input.document()).map_or(String::new(), |broken| unreadable(&broken));
+            // places are the file's, whatever stands before the document
+            let refusal = refusal.behind(input.before());
+            format!("{}{}{broken}{}", form(input), refused(&refusal, &refusal.to_string()), accepted_in(trouble.other_form()))
         }
-        Trouble::Unmoved(refusal, ..) => refused(refusal, &refusal.to_string()),
+        Trouble::Text(refusal, _) | Trouble::Unmoved(refusal, ..) => refused(refusal, &refusal.to_string()),
         Trouble::Unreadable(lines, refusal, _, broken) => {
             format!("\"lines\":true,{}{}", refused(refusal, &show::unfit(lines, refusal)), unreadable(broken))
         }

@@ -3,7 +3,7 @@ use crate::args::{Args, Command};
 use crate::input::{self, Input, Trouble};
 use crate::show;
 use std::ffi::OsStr;
-use tikfazrul::{lines_up, read, Refusal, Table, WORDS};
+use tikfazrul::{lines_up, read_in, Broken, Form, Refusal, Table, WORDS};
 
 /// A document with its table.
 pub struct Loaded {
@@ -15,26 +15,29 @@ pub struct Loaded {
 
 impl Loaded {
     pub fn read(input: Input) -> Result<Loaded, Trouble> {
-        match read(&input.bytes) {
+        match read_in(input.form, input.document()) {
             Ok(table) => Ok(Loaded { input, table, lines: None }),
-            Err(refusal) => Err(Trouble::Refused(refusal, input.bytes)),
+            Err(refusal) => Err(Trouble::Refused(refusal, input)),
         }
     }
 
     /// What is refused of a table that was taken from lines is the lines' fault.
     pub fn refused(&self, refusal: Refusal) -> Trouble {
-        let bytes = &self.input.bytes;
-        match (&self.lines, refusal.broken_in(bytes, &self.table)) {
-            (Some(lines), Some(broken)) => Trouble::Unreadable(lines.clone(), refusal, bytes.clone(), Box::new(broken)),
+        let before = self.input.before();
+        match (&self.lines, refusal.broken_in(self.input.document(), &self.table)) {
+            (Some(lines), Some(broken)) => {
+                let broken = Broken { bytes: broken.bytes.start + before..broken.bytes.end + before, ..broken };
+                Trouble::Unreadable(lines.clone(), refusal.behind(before), self.input.bytes.clone(), Box::new(broken))
+            }
             (Some(lines), None) => Trouble::Lines(lines.clone(), refusal, Vec::new()),
-            (None, _) => Trouble::Refused(refusal, bytes.clone()),
+            (None, _) => Trouble::Refused(refusal, self.input.clone()),
         }
     }
 }
 
 /// The document in a file with its table, from lines where these are to be taken. A check reads the document, and compares.
 pub fn load(args: &Args, file: &OsStr) -> Result<Loaded, Trouble> {
-    let input = document(file)?;
+    let input = document(args, file)?;
     let Some(kept) = args.lines_of(file) else {
         return Loaded::read(input);
     };
@@ -48,25 +51,29 @@ pub fn load(args: &Args, file: &OsStr) -> Result<Loaded, Trouble> {
     Ok(Loaded { input, table, lines })
 }
 
-/// A name that ends in .snbt is a text's.
-fn document(file: &OsStr) -> Result<Input, Trouble> {
-    match file.to_string_lossy().to_lowercase().ends_with(".snbt") {
-        true => Ok(Input::plain(input::raw(file).and_then(parsed)?)),
-        false => input::document(file),
+/// A name that ends in .snbt is a text's, which makes a document in Java's form.
+fn document(args: &Args, file: &OsStr) -> Result<Input, Trouble> {
+    if !file.to_string_lossy().to_lowercase().ends_with(".snbt") {
+        return Ok(input::document(file)?.in_form(args.form));
     }
+    if args.command == Command::Write && args.form != Form::Java {
+        return Err(Trouble::Io("is a text, which makes a document in Java's form: --pocket has no place beside it".to_owned()));
+    }
+    Ok(Input::plain(input::raw(file).and_then(parsed)?))
 }
 
 pub fn parsed(text: Vec<u8>) -> Result<Vec<u8>, Trouble> {
     match tikfazrul::parse(&text) {
         Ok(parsed) => Ok(parsed.document),
-        Err(refusal) => Err(Trouble::Refused(refusal, text)),
+        Err(refusal) => Err(Trouble::Text(refusal, text)),
     }
 }
 
 /// The table that was kept in a file of lines.
 fn table(kept: &OsStr, input: &Input) -> Result<Table, Trouble> {
     let lines = input::lines(kept).map_err(|error| Trouble::Io(format!("{} can't be read: {error}", show::lines(kept))))?;
-    Table::from_lines(&lines, input.bytes.len()).map_err(|refusal| unfit(kept, refusal, lines, input.bytes.len()))
+    let length = input.document().len();
+    Table::from_lines_in(input.form, &lines, length).map_err(|refusal| unfit(kept, refusal, lines, length))
 }
 
 /// Lines that are of no use for a document of so many bytes. Where a move of old ones would help, it is named.

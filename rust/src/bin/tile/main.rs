@@ -1,5 +1,6 @@
 //! tile: looks into NBT documents. `tile --help` teaches it.
 mod args;
+mod head;
 mod input;
 mod json;
 mod load;
@@ -15,7 +16,7 @@ use std::ffi::OsStr;
 use std::io::{self, BufWriter, Write};
 use std::path::Path;
 use std::process::ExitCode;
-use tikfazrul::{hex, Node, Refusal, Rescued, Trail};
+use tikfazrul::{hex, rescue_in, Form, Node, Refusal, Rescued, Trail};
 
 fn main() -> ExitCode {
     let args = match args::parse(std::env::args_os().skip(1)) {
@@ -82,12 +83,15 @@ fn complaint(args: &Args, file: &OsStr, trouble: &Trouble, said: &mut Vec<u8>) -
         writeln!(said, "{}", json::file(&file.to_string_lossy(), false, &json::trouble(trouble)))?;
         return Ok(None);
     }
-    let words = format!("{}: {}", name(file), show::trouble(trouble)).replace('\n', "\n  ");
+    let other = trouble.other_form();
+    let hint = other.map_or(String::new(), |form| format!("\n{}", show::accepted_in(form)));
+    let words = format!("{}: {}{hint}", name(file), show::trouble(trouble)).replace('\n', "\n  ");
     if args.command == Command::Check && !matches!(trouble, Trouble::Io(_)) {
         writeln!(said, "{words}")?;
-        if can_be_rescued(trouble) {
+        if other.is_none() && can_be_rescued(trouble) {
             let file = if file == "-" { "-".to_owned() } else { name(file) };
-            writeln!(said, "  tile rescue {file} -o … saves the tags that came whole")?;
+            let pocket = if args.form == Form::Pocket { "--pocket " } else { "" };
+            writeln!(said, "  tile rescue {pocket}{file} -o … saves the tags that came whole")?;
         }
         return Ok(None);
     }
@@ -95,7 +99,7 @@ fn complaint(args: &Args, file: &OsStr, trouble: &Trouble, said: &mut Vec<u8>) -
 }
 
 fn can_be_rescued(trouble: &Trouble) -> bool {
-    matches!(trouble, Trouble::Refused(Refusal::DataEnds(_), bytes) if tikfazrul::rescue(bytes).is_ok())
+    matches!(trouble, Trouble::Refused(Refusal::DataEnds(_), input) if rescue_in(input.form, input.document()).is_ok())
 }
 
 /// Does what is asked to one file.
@@ -104,23 +108,43 @@ fn one(args: &Args, file: &OsStr, said: &mut Vec<u8>) -> Result<(), Trouble> {
     match args.command {
         Command::Hex => dump(args, &input::shown(file)?, said),
         Command::Text => save(args, file, &load::parsed(input::raw(file)?)?, said)?,
-        Command::Write => save(args, file, &again(load(args, file)?)?, said)?,
-        Command::Rescue => salvage(args, file, input::arrived(file)?, said)?,
+        Command::Write => make(args, file, again, said)?,
+        Command::Rescue => salvage(args, file, input::arrived(file)?.in_form(args.form), said)?,
         Command::Lines => match args.moving() {
             Some((way, length)) => moves::bring(args, file, way, length, said)?,
-            None => save(args, file, &lines(&load(args, file)?)?, said)?,
+            None => make(args, file, lines, said)?,
         },
         Command::List | Command::Check | Command::Query => answer(args, file, &load(args, file)?, said)?,
     }
     Ok(())
 }
 
-fn again(mut loaded: Loaded) -> Result<Vec<u8>, Trouble> {
-    tikfazrul::write(&loaded.input.bytes, &mut loaded.table).map_err(|refusal| loaded.refused(refusal))
+/// Saves what is made of a document.
+fn make(args: &Args, file: &OsStr, made: fn(&mut Loaded) -> Result<Vec<u8>, Trouble>, said: &mut Vec<u8>) -> Result<(), Trouble> {
+    let mut loaded = load(args, file)?;
+    save(args, file, &made(&mut loaded)?, said)?;
+    passed_over(args, file, &loaded.input);
+    Ok(())
 }
 
-fn lines(loaded: &Loaded) -> Result<Vec<u8>, Trouble> {
-    loaded.table.to_lines(loaded.input.bytes.len()).map_err(|refusal| loaded.refused(refusal))
+fn again(loaded: &mut Loaded) -> Result<Vec<u8>, Trouble> {
+    tikfazrul::write(loaded.input.document(), &mut loaded.table).map_err(|refusal| loaded.refused(refusal))
+}
+
+fn lines(loaded: &mut Loaded) -> Result<Vec<u8>, Trouble> {
+    loaded.table.to_lines(loaded.input.document().len()).map_err(|refusal| loaded.refused(refusal))
+}
+
+/// Says on standard error that a level file's head was passed over, where no line about the file says so.
+fn passed_over(args: &Args, file: &OsStr, input: &Input) {
+    let more = match args.command {
+        Command::Write => ", and not written",
+        Command::Lines => ", and the lines count bytes from behind them on",
+        _ => "",
+    };
+    if let Some(head) = input.head {
+        grumble(&format!("{}: {}{more}", name(file), show::passed_over(head)));
+    }
 }
 
 fn save(args: &Args, file: &OsStr, made: &[u8], said: &mut Vec<u8>) -> Result<(), Trouble> {
@@ -134,20 +158,18 @@ fn save(args: &Args, file: &OsStr, made: &[u8], said: &mut Vec<u8>) -> Result<()
 /// Saves what came of a document that is cut, and says what was open. Of a whole one there is nothing to rescue, but where the gzip'd bytes
 /// around it are cut.
 fn salvage(args: &Args, file: &OsStr, input: Input, said: &mut Vec<u8>) -> Result<(), Trouble> {
-    let inflated = input.inflated;
-    match tikfazrul::rescue(&input.bytes) {
+    match rescue_in(input.form, input.document()) {
         Ok(rescued) => {
             save(args, file, &rescued.document, said)?;
-            report(args, file, inflated, rescued.document.len(), rescued.table.len(), Some(&rescued), said)
+            report(args, file, &input, (rescued.document.len(), rescued.table.len()), Some(&rescued), said)
         }
         Err(Refusal::NotCut(_)) if input.cut.is_some() => {
-            let loaded = Loaded::read(input)?;
-            let records = loaded.table.len();
-            let document = again(loaded)?;
+            let mut loaded = Loaded::read(input)?;
+            let document = again(&mut loaded)?;
             save(args, file, &document, said)?;
-            report(args, file, inflated, document.len(), records, None, said)
+            report(args, file, &loaded.input, (document.len(), loaded.table.len()), None, said)
         }
-        Err(refusal) => Err(Trouble::Refused(refusal, input.bytes)),
+        Err(refusal) => Err(Trouble::Refused(refusal, input)),
     }
 }
 
@@ -167,22 +189,26 @@ fn over_itself(args: &Args, file: &OsStr) -> Result<(), Trouble> {
     }
 }
 
-/// Says what was saved: on standard error where the document itself is on standard output.
+/// Says what was saved, so many bytes and records: on standard error where the document itself is on standard output.
 fn report(
     args: &Args,
     file: &OsStr,
-    inflated: bool,
-    bytes: usize,
-    records: usize,
+    input: &Input,
+    (bytes, records): (usize, usize),
     rescued: Option<&Rescued>,
     said: &mut Vec<u8>,
 ) -> Result<(), Trouble> {
+    // what is whole in the other form was not cut
+    let other = rescued.and_then(|_| input.other_form());
     if args.json {
-        let more = format!("\"bytes\":{bytes},\"count\":{records},\"inflated\":{inflated},{}", json::open(rescued));
+        let size = format!("\"bytes\":{bytes},\"count\":{records},\"inflated\":{}", input.inflated);
+        let more = format!("{}{size},{}{}", json::form(input), json::open(rescued), json::accepted_in(other));
         return writeln!(said, "{}", json::file(&file.to_string_lossy(), true, &more)).map_err(Trouble::unwritten);
     }
-    let gzip = if inflated { ", inflated from gzip" } else { "" };
-    let words = format!("{}: saved {}{gzip}; {}", name(file), show::size(bytes, records), show::open(rescued));
+    let hint = other.map_or(String::new(), |form| format!("\n  {}", show::accepted_in(form)));
+    let head = input.head.map_or(String::new(), |head| format!("; {}, and not written", show::passed_over(head)));
+    let size = format!("{}{}{head}", show::size(bytes, records), show::gzip(input));
+    let words = format!("{}: saved {size}; {}{hint}", name(file), show::open(rescued));
     match args.target(file) {
         Some(_) => writeln!(said, "{words}").map_err(Trouble::unwritten)?,
         None => grumble(&words),
@@ -212,6 +238,9 @@ struct Accepted<'a> {
 /// Says what is asked of a document that is accepted.
 fn answer(args: &Args, file: &OsStr, loaded: &Loaded, said: &mut Vec<u8>) -> Result<(), Trouble> {
     let accepted = accepted(args, loaded).map_err(|refusal| loaded.refused(refusal))?;
+    if args.command == Command::Query && !args.json {
+        passed_over(args, file, &loaded.input);
+    }
     let written = match args.json {
         true => writeln!(said, "{}", json::file(&file.to_string_lossy(), true, &object(args, &accepted))),
         false => words(args, file, &accepted, said),
@@ -221,7 +250,7 @@ fn answer(args: &Args, file: &OsStr, loaded: &Loaded, said: &mut Vec<u8>) -> Res
 
 /// The root, and for a query the tags that match, with their paths.
 fn accepted<'a>(args: &Args, loaded: &'a Loaded) -> Result<Accepted<'a>, Refusal> {
-    let (bytes, table) = (&loaded.input.bytes, &loaded.table);
+    let (bytes, table) = (loaded.input.document(), &loaded.table);
     let root = table.root(bytes)?;
     let found = if args.command == Command::Query { table.find(bytes, &args.query)? } else { Vec::new() };
     let mut trail = Trail::new();
@@ -231,7 +260,7 @@ fn accepted<'a>(args: &Args, loaded: &'a Loaded) -> Result<Accepted<'a>, Refusal
 
 fn object(args: &Args, a: &Accepted) -> String {
     let Loaded { input, table, lines } = a.loaded;
-    let from = if lines.is_some() { "\"lines\":true," } else { "" };
+    let from = format!("{}{}", json::form(input), if lines.is_some() { "\"lines\":true," } else { "" });
     // a root takes four bytes or more where it is read; lines don't say how many
     let bytes = if table.consumed() > 0 { format!("\"bytes\":{},", table.consumed()) } else { String::new() };
     let size = format!("{from}{bytes}\"count\":{},\"inflated\":{}", table.len(), input.inflated);
@@ -248,17 +277,19 @@ fn object(args: &Args, a: &Accepted) -> String {
 /// How large a document is, and where its table comes from.
 fn size(loaded: &Loaded) -> String {
     let Loaded { input, table, lines } = loaded;
-    let gzip = if input.inflated { ", inflated from gzip" } else { "" };
+    let head = input.head.map_or(String::new(), |head| format!("; {}", show::passed_over(head)));
+    let gzip = show::gzip(input);
     // only a table that was read knows where the root ends, four bytes from the start or more
     if table.consumed() == 0 {
-        return format!("{}, from lines{gzip}", show::count(table.len()));
+        return format!("{}, from lines{gzip}{head}", show::count(table.len()));
     }
-    let more = match input.bytes.len() - table.consumed() {
+    let more = match input.document().len() - table.consumed() {
         0 => String::new(),
+        more if input.is_level_file() => format!("; {more} more after the root's end: with --pocket it is a level file"),
         more => format!("; {more} more after the root's end"),
     };
     let compared = if lines.is_some() { "; the lines are its own" } else { "" };
-    format!("{}{gzip}{more}{compared}", show::size(table.consumed(), table.len()))
+    format!("{}{gzip}{head}{more}{compared}", show::size(table.consumed(), table.len()))
 }
 
 fn words(args: &Args, file: &OsStr, a: &Accepted, said: &mut Vec<u8>) -> io::Result<()> {

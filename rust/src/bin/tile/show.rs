@@ -1,8 +1,9 @@
 //! Tags and refusals in words for people.
-use crate::input::Trouble;
+use crate::head::Head;
+use crate::input::{Input, Trouble};
 use std::ffi::OsStr;
 use std::io::{self, Write};
-use tikfazrul::{hex, quoted, Change, Kind, Link, Node, Place, Refusal, Rescued};
+use tikfazrul::{hex, quoted, Change, Form, Kind, Link, Node, Place, Refusal, Rescued};
 
 /// How many characters of a string, and elements of an array, are shown unless all are asked for.
 const CHARACTERS: usize = 60;
@@ -11,8 +12,12 @@ const ELEMENTS: usize = 8;
 const WIDEST: usize = 48;
 /// The deepest that names are indented.
 const INDENTED: usize = 16;
+
 /// What is shown of a string or a name that can't be, as only tables from lines have.
-const UNREADABLE: &str = "(not modified UTF-8)";
+fn unreadable(node: &Node) -> String {
+    let rule = if node.form() == Form::Java { "modified UTF-8" } else { "UTF-8" };
+    format!("(not {rule})")
+}
 
 /// A file by its name.
 pub fn name(file: &OsStr) -> String {
@@ -40,6 +45,27 @@ pub fn count(records: usize) -> String {
     plural(records, "record", "records")
 }
 
+pub fn gzip(input: &Input) -> &'static str {
+    if input.inflated {
+        ", inflated from gzip"
+    } else {
+        ""
+    }
+}
+
+/// That a level file's head was passed over.
+pub fn passed_over(head: Head) -> String {
+    format!("the {head} before the document are passed over")
+}
+
+/// What to do where a document is refused in one form and accepted in this.
+pub fn accepted_in(form: Form) -> &'static str {
+    match form {
+        Form::Java => "the file is accepted in Java's form, without --pocket",
+        Form::Pocket => "the file is accepted in the pocket edition's form, with --pocket",
+    }
+}
+
 /// A tag's value on one line.
 pub fn value(node: &Node, full: bool) -> String {
     match node.kind() {
@@ -48,7 +74,7 @@ pub fn value(node: &Node, full: bool) -> String {
             Some(kind) => format!("{} of {kind}", plural(node.len(), "element", "elements")),
             None => "0 elements".to_owned(),
         },
-        Kind::String => node.as_str().map_or(UNREADABLE.to_owned(), |text| string(&text, full)),
+        Kind::String => node.as_str().map_or_else(|| unreadable(node), |text| string(&text, full)),
         Kind::Float => format!("{:?}", node.as_f32().unwrap_or_default()),
         Kind::Double => format!("{:?}", node.as_f64().unwrap_or_default()),
         Kind::ByteArray | Kind::IntArray | Kind::LongArray => array(node, full),
@@ -78,7 +104,7 @@ fn label(depth: usize, node: &Node) -> String {
     let deep = if depth > INDENTED { format!("({depth}) ") } else { String::new() };
     match node.link() {
         Link::Element(index) => format!("{indent}{deep}[{index}]"),
-        _ => format!("{indent}{deep}{}", node.name().map_or(UNREADABLE.to_owned(), |name| quoted(&name).into_owned())),
+        _ => format!("{indent}{deep}{}", node.name().map_or_else(|| unreadable(node), |name| quoted(&name).into_owned())),
     }
 }
 
@@ -135,19 +161,29 @@ pub fn trouble(trouble: &Trouble) -> String {
         }
         Trouble::Unmoved(refusal, bytes, length) => format!("refused: {refusal}{}{}", said(refusal, *length), window(refusal, bytes)),
         Trouble::Foreign(lines, first) => format!("refused: {}", foreign(lines, *first)),
-        Trouble::Refused(refusal, bytes) => format!("refused: {refusal}{}{}", whereabouts(refusal, bytes), window(refusal, bytes)),
+        Trouble::Text(refusal, bytes) => format!("refused: {refusal}{}{}", whereabouts(refusal, bytes), window(refusal, bytes)),
+        Trouble::Refused(refusal, input) => format!("refused: {}", refused(refusal, input)),
     }
 }
 
-/// What the bytes tell beside the refusal: where in a text it is and what would be taken there, or which name or string can't be read.
-fn whereabouts(refusal: &Refusal, bytes: &[u8]) -> String {
+/// What the text tells beside the refusal: where it is in lines, and what would be taken there.
+fn whereabouts(refusal: &Refusal, text: &[u8]) -> String {
     let position = match refusal.place() {
-        Place::Text(at) => position(bytes, at),
+        Place::Text(at) => position(text, at),
         _ => String::new(),
     };
-    let hint = refusal.hint(bytes).map_or(String::new(), |hint| format!("; {hint}"));
-    let broken = refusal.broken(bytes).map_or(String::new(), |broken| format!(", {broken}"));
-    format!("{position}{hint}{broken}")
+    let hint = refusal.hint(text).map_or(String::new(), |hint| format!("; {hint}"));
+    format!("{position}{hint}")
+}
+
+/// Why a document is refused, which name or string can't be read, and the bytes. Places are the file's, whatever stands before the document.
+fn refused(refusal: &Refusal, input: &Input) -> String {
+    let (document, before) = (input.document(), input.before());
+    let broken = refusal.broken(document).map_or(String::new(), |broken| format!(", {broken}"));
+    let head = input.head.map_or(String::new(), |head| format!("; {}", passed_over(head)));
+    let window = refusal.marked(document).map(|bytes| hex::window_of(&input.bytes, bytes.start + before..bytes.end + before));
+    let window = window.map_or(String::new(), |window| format!("\n{window}"));
+    format!("{}{broken}{head}{window}", refusal.behind(before))
 }
 
 /// What to look at where lines form no table: the length that they were judged by.
