@@ -106,4 +106,18 @@ static inline struct broken broken_utf8(size_t which)
     return broken_by(&utf8_sequences[which / (AROUND * AROUND)], &utf8_around[which / AROUND % AROUND], &utf8_around[which % AROUND]);
 }
 
+/* A document of "nop", a string and bytes that would go on with it, and a table over it: the root, n, o and p, the last a list of two strings. */
+static inline void nop(const struct broken *b, uint8_t *doc, uint32_t *t)
+{
+    memcpy(doc, "nop", 3);
+    memcpy(doc + 3, b->bytes, b->n);
+    memset(doc + 3 + b->n, 0x80, 2);
+    put(t, 0, 10, 0, 0, 0, 0, 3, 0, 6, 0);
+    put(t, 1, 8, 0, 1, 1, 2, 0, 0, 2, 0);
+    put(t, 2, 1, 1, 1, 0, 1, 0, 0, 3, 0);
+    put(t, 3, 9, 2, 1, 0, 0, 2, 8, 6, 0);
+    put(t, 4, 8, 0, 0, 0, 2, 0, 0, 5, 3);
+    put(t, 5, 8, 0, 0, 0, 3, 0, 0, 6, 3);
+}
+
 #endif

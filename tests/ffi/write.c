@@ -192,16 +192,9 @@ static void characters(void)
                   {"a list's name", 3, TIKFAZRUL_NAME},   {"an element", 5, TIKFAZRUL_START}};
         const uint32_t record = in[i / STRINGS].record, span = in[i / STRINGS].span;
         struct broken b = broken_string(i % STRINGS);
-        uint8_t doc[128] = "nop";
+        uint8_t doc[128];
         uint32_t t[6 * TIKFAZRUL_WORDS];
-        memcpy(doc + 3, b.bytes, b.n);
-        memset(doc + 3 + b.n, 0x80, 2);
-        put(t, 0, 10, 0, 0, 0, 0, 3, 0, 6, 0);
-        put(t, 1, 8, 0, 1, 1, 2, 0, 0, 2, 0);
-        put(t, 2, 1, 1, 1, 0, 1, 0, 0, 3, 0);
-        put(t, 3, 9, 2, 1, 0, 0, 2, 8, 6, 0);
-        put(t, 4, 8, 0, 0, 0, 2, 0, 0, 5, 3);
-        put(t, 5, 8, 0, 0, 0, 3, 0, 0, 6, 3);
+        nop(&b, doc, t);
         write_is("without such a string the table is written", doc, b.n + 5, t, 54, 99, 0, 0, 35, NULL);
         t[TIKFAZRUL_WORDS * record + span] = 3;
         t[TIKFAZRUL_WORDS * record + span + 1] = b.n;

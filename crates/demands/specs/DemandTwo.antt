@@ -1,6 +1,7 @@
 -- Demand 2, said of the calls that people link, against the tag layout (form/specs/Layout.antt) of documents that keep the rules
--- (`Lawful`, form/specs/Tree.antt): reading accepts the layouts and nothing else, writing gives them back, and what was written, from a
--- table, from a text or from a cut document, is read as what was meant. That the crate does the same is shown by runs (docs/DIFFERENCES.md).
+-- (`LawfulIn`, form/specs/Tree.antt), in every form ([2]): reading accepts the layouts and nothing else, writing gives them back, and what
+-- was written, from a table, from a text or from a cut document, is read as what was meant. That the crate does the same in Java's form is
+-- shown by runs (docs/DIFFERENCES.md).
 -- The proof is in proofs/DemandTwo.antt.
 -- Assumes nothing.
 use Prim.Native.Nat.{ℕ, _+_, _*_, _≤_, _<_}

@@ -147,7 +147,7 @@ laidIn form doc lines-room out-room (got k) =
     (refused moreMatches 0 (length (k .lines)))
 laidIn form doc lines-room out-room (no m p) = refused m p 0
 
--- What rescuing form doc gives, with room for so many records, lines and bytes.
+-- What rescuing doc, in that form, gives, with room for so many records, lines and bytes.
 unfoldable pub rescued : Form → List ℕ → ℕ → ℕ → ℕ → Rescue
 rescued form doc room lines-room out-room = laidIn form doc lines-room out-room (keptOf form doc room)
 

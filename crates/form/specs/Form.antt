@@ -32,7 +32,7 @@ pocket = record { order = little; strings = utf8 }
 abbrev pub asks : Form → Form
 asks form = record { order = big; strings = form .strings }
 
--- The order that a test of the code means.
+-- The order of a number whose lowest byte does, or does not, come first.
 abbrev pub orderIn : Bool → Order
 orderIn lowest = pick lowest little big
 

@@ -96,6 +96,3 @@ FirstBad l k = FirstBadIn modified l k
 -- Refusal 15: ordinary UTF-8.
 abbrev pub WellFormedUtf8 : List ℕ → Type 0
 WellFormedUtf8 l = WellFormedIn utf8 l
-
-abbrev pub FirstBadUtf8 : List ℕ → ℕ → Type 0
-FirstBadUtf8 l k = FirstBadIn utf8 l k

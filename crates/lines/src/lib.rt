@@ -407,3 +407,22 @@ pub fn print_table(table: &[u32]) {
         print_words(table);
     }
 }
+
+// Whether a word of the table is not the one that the bytes make.
+fn changed(bytes: &[u8], table: &[u32]) -> bool {
+    let mut i: usize = 0;
+    while i < table.len() {
+        if table[i] != word_of(bytes, i) {
+            return true;
+        }
+        i += 1;
+    }
+    false
+}
+
+// That a table's words are no longer those that the bytes make, or nothing.
+pub fn print_changed(bytes: &[u8], table: &[u32]) {
+    if changed(bytes, table) {
+        io::write_all(1, b" changed");
+    }
+}

@@ -51,7 +51,7 @@ pub fn wide(x: u8) -> usize
     x as usize
 }
 
-// The number in the n bytes at `at`.
+// The number in the n bytes at `at`, in the order of the form (rule 1; 02, [2]).
 fn number(doc: &[u8], n: usize, at: usize, form: u32) -> Num
     requires { ⌜ (n ≤ 4) × (at ≤ length (now doc)) ⌝ }
     ensures { λ r. ⌜ numOut r ≡ numberAt (formNo form) (now (doc .entry)) n at ⌝ }

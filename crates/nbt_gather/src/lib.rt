@@ -39,7 +39,7 @@ pub enum Gathered {
     NoRoot,
 }
 
-// A payload of kinds 1 to 6: a record, or nothing.
+// A payload of kinds 1 to 6, which has its length in every form: a record, or nothing.
 fn gather_fixed(
     doc: &[u8],
     kind: u8,

@@ -35,7 +35,7 @@ enum Kids {
     },
 }
 
-// A payload of kinds 1 to 6, read and written as record ix.
+// A payload of kinds 1 to 6, which has its length in every form, read and written as record ix.
 fn read_fixed(
     doc: &[u8],
     kind: u8,

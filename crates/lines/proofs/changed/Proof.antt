@@ -1,10 +1,10 @@
--- `replay_tables::changed` is safe and ends: i rises to the number of words.
+-- `lines::changed` is safe and ends: i rises to the number of words.
 -- Assumes nothing.
 use borrow.Author.Needs.{needs}
 use Prim.Native.Nat.{_-_, _≤_}
 use lib.ListN.{length}
-use Rattle.replay_tables.proofs.changed.Statement.{statement}
-use Rattle.replay_tables.proofs.changed.Tie as tie
+use Rattle.lines.proofs.changed.Statement.{statement}
+use Rattle.lines.proofs.changed.Tie as tie
 
 abbrev Inv-loop : tie.InvT-loop
 Inv-loop bytes table i₀ i = i ≤ length table
