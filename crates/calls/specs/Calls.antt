@@ -8,7 +8,7 @@ use mathlib.Core.Bool.{not}
 use lib.Dec.{eqb}
 use lib.ListN.{length}
 use Rattle.form.specs.Answer.{Out, overLimit, Count}
-use Rattle.form.specs.Form.{Form, Rule}
+use Rattle.form.specs.Form.{Form, Way, Rule}
 use Rattle.form.specs.Strings.{encOf}
 use Rattle.form.specs.Decoding.{Verdict, oneOf, Judged}
 use Rattle.form.specs.Tables.{IsTable, Within}
@@ -42,10 +42,10 @@ pub record TableCalled (d : ℕ) (t answer : List ℕ) : Type 0 where
   pub unfit : Within d t → (IsTable d t → ⊥) → answer ≡ accepted
   pub fit : Within d t → IsTable d t → answer ≡ 0 ∷ 0 ∷ 1 ∷ 0 ∷ 0 ∷ 0 ∷ 0 ∷ 0 ∷ []
 
--- A write in a form: rule 8's answer in the words, every byte of the output, and the table as it was.
-pub record WriteCalled (form : Form) (doc t t′ o o′ answer : List ℕ) : Type 0 where
+-- A write in the form of the document or in another ([2]): rule 8's answer in the words, every byte of the output, and the table as it was.
+pub record WriteCalled (way : Way) (doc t t′ o o′ answer : List ℕ) : Type 0 where
   pub result : Count
-  pub is : WriteIs form doc t o result o′
+  pub is : WriteIs way doc t o result o′
   pub words-are : answer ≡ besideWords result
   pub kept : t′ ≡ t
 

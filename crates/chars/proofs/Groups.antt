@@ -19,3 +19,6 @@ lead-two x h = or-shifted-r 6 5 x h
 
 pub lead-three : (x : ℕ) → x < 16 → bitOr x 224 ≡ 224 + x
 lead-three x h = or-shifted-r 14 4 x h
+
+pub lead-four : (x : ℕ) → x < 8 → bitOr x 240 ≡ 240 + x
+lead-four x h = or-shifted-r 30 3 x h

@@ -1,16 +1,20 @@
 -- Laws of bytes written at a place: what stores leave, and how many bytes a scalar value takes.
 -- Assumes nothing.
-use Prim.Native.Nat.{ℕ, _+_, _≤_}
+use Prim.Native.Nat.{ℕ, _+_, _≤_, _<_}
 use mathlib.Core.Path.{_≡_, refl, _∙_}
 use mathlib.Core.List.{List, [], _∷_, _++_}
-use native.Mathlib.Numerals.{add-one, add-two}
+use native.Mathlib.Numerals.{add-one, add-two, add-three}
 use native.Mathlib.Omega.{arith}
+use borrow.Author.Tests.{lt-ltb, le-ltb}
 use lib.ListN.{length, set, length-append}
 use Rattle.form.specs.Spans.{over}
-use Rattle.form.specs.Strings.{unitBytes, highHalf, lowHalf, scalarBytes}
+use Rattle.form.specs.Strings.{twoBytes, threeBytes, unitBytes, highHalf, lowHalf, scalarBytes, utf8Bytes}
 use Rattle.form.proofs.Table.{sets-over, over-over}
 use Rattle.form.proofs.Units.{ub-three}
 use Rattle.form.proofs.Scalars.{sb-high}
+use Rattle.chars.specs.declared.Put.{Put}
+use Rattle.chars.specs.declared.Put.the-variants.{To, Full}
+use Rattle.chars.specs.Answers.{Wrote}
 
 -- ---- stores
 
@@ -23,6 +27,29 @@ two-put o at x y a b h p q = rw (p, q, add-one) (sets-over (a ∷ b ∷ []) o at
 pub three-put : (o : List ℕ) (at x y z a b c : ℕ) → at + 3 ≤ length o → x ≡ a → y ≡ b → z ≡ c
     → set (set (set o at x) (at + 1) y) (at + 2) z ≡ over o at (a ∷ b ∷ c ∷ [])
 three-put o at x y z a b c h p q r = rw (p, q, r, add-one, add-two) (sets-over (a ∷ b ∷ c ∷ []) o at h)
+
+pub four-put : (o : List ℕ) (at x y z w a b c d : ℕ) → at + 4 ≤ length o → x ≡ a → y ≡ b → z ≡ c → w ≡ d
+    → set (set (set (set o at x) (at + 1) y) (at + 2) z) (at + 3) w ≡ over o at (a ∷ b ∷ c ∷ d ∷ [])
+four-put o at x y z w a b c d h p q r s = rw (p, q, r, s, add-one, add-two, add-three) (sets-over (a ∷ b ∷ c ∷ d ∷ []) o at h)
+
+-- where there is room they were written
+pub wrote-room : (o o′ bs : List ℕ) (at : ℕ) (r : Put) → at + length bs ≤ length o → Wrote o at bs r o′ → o′ ≡ over o at bs
+wrote-room o o′ bs at (To n) h w = w .2
+wrote-room o o′ bs at Full h w = absurd (omega (arith, w .0))
+
+-- ---- which form a scalar value takes in UTF-8
+
+pub u8-one : (c : ℕ) → c < 128 → utf8Bytes c ≡ c ∷ []
+unfolding utf8Bytes
+u8-one c h = simp (lt-ltb c 128 h)
+
+pub u8-two : (c : ℕ) → 128 ≤ c → c < 2048 → utf8Bytes c ≡ twoBytes c
+unfolding utf8Bytes
+u8-two c h k = simp (le-ltb c 128 h, lt-ltb c 2048 k)
+
+pub u8-three : (c : ℕ) → 2048 ≤ c → c < 65536 → utf8Bytes c ≡ threeBytes c
+unfolding utf8Bytes
+u8-three c h k = simp (le-ltb c 128 (omega arith), le-ltb c 2048 h, lt-ltb c 65536 k)
 
 -- ---- lengths
 

@@ -1,11 +1,13 @@
-// One character of modified UTF-8 (rule 2) or UTF-8: the value at a place, and one value written.
+// One character of modified UTF-8 (rule 2) or UTF-8: the value at a place, and one value written, by the rule of a form where both are in use.
 ghost use mathlib.Core.Path.{_≡_};
 ghost use Prim.Native.Nat.{ℕ, _+_, _%_, _≤_, _<_};
 ghost use lib.ListN.{length, drop};
 ghost use Rattle.form.specs.Spans.{over};
-ghost use Rattle.form.specs.Strings.{twoBytes, threeBytes, unitBytes, scalarBytes};
+ghost use Rattle.form.specs.Form.{formNo};
+ghost use Rattle.form.specs.Strings.{twoBytes, threeBytes, fourBytes, unitBytes, scalarBytes, utf8Bytes, encOf};
 ghost use Rattle.form.specs.Decoding.{six, twoOf, threeOf, fourOf, unitOf, pairOf, scalarOf, utf8Of};
 ghost use Rattle.chars.specs.Answers.{sequenceOf, Wrote};
+use form::forms::is_pocket;
 
 // What stands at a place: a value and how many bytes it takes, or nothing that can be read.
 pub enum Front {
@@ -295,4 +297,75 @@ pub fn put_scalar(c: u32, out: &mut [u8], at: usize) -> Put
     put_unit(0xD800 + (v >> 10), out, at);
     put_unit(0xDC00 + (v & 0x3FF), out, at + 3);
     Put::To(at + size)
+}
+
+// How many bytes a scalar value takes in UTF-8.
+fn utf8_length_of(c: u32) -> usize
+    ensures { λ r. ⌜ r ≡ length (utf8Bytes c) ⌝ }
+{
+    if c < 128 {
+        return 1;
+    }
+    if c < 2048 {
+        return 2;
+    }
+    if c < 0x10000 {
+        return 3;
+    }
+    4
+}
+
+// Four bytes: the upper group on a lead byte, and three below it.
+fn put_four(u: u32, out: &mut [u8], at: usize)
+    requires { ⌜ (u < 1114112) × (at + 4 ≤ length (now out)) ⌝ }
+    ensures { λ r. ⌜ now (out .exit) ≡ over (now (out .entry)) at (fourBytes u) ⌝ }
+{
+    out[at] = ((u >> 18) as u8) | 0xF0;
+    out[at + 1] = group(u >> 12);
+    out[at + 2] = group(u >> 6);
+    out[at + 3] = group(u);
+}
+
+// A scalar value in UTF-8 at a place.
+fn put_utf8(c: u32, out: &mut [u8], at: usize)
+    requires { ⌜ (c < 1114112) × (at + length (utf8Bytes c) ≤ length (now out)) ⌝ }
+    ensures { λ r. ⌜ now (out .exit) ≡ over (now (out .entry)) at (utf8Bytes c) ⌝ }
+{
+    if c < 128 {
+        out[at] = c as u8;
+        return;
+    }
+    if c < 2048 {
+        put_two(c, out, at);
+        return;
+    }
+    if c < 0x10000 {
+        put_three(c, out, at);
+        return;
+    }
+    put_four(c, out, at);
+}
+
+// How many bytes a scalar value takes by the rule of a form (02, [2]).
+pub fn length_in(c: u32, form: u32) -> usize
+    ensures { λ r. ⌜ r ≡ length (encOf (formNo form .strings) c) ⌝ }
+{
+    if is_pocket(form) {
+        return utf8_length_of(c);
+    }
+    length_of(c)
+}
+
+// A scalar value by the rule of a form, where it is known to have room; the place behind it.
+pub fn put_in(c: u32, out: &mut [u8], at: usize, form: u32) -> usize
+    requires { ⌜ (c < 1114112) × (at + length (encOf (formNo form .strings) c) ≤ length (now out)) ⌝ }
+    ensures { λ r. ⌜ (now (out .exit) ≡ over (now (out .entry)) at (encOf (formNo form .strings) c)) × (r ≡ at + length (encOf (formNo form .strings) c)) ⌝ }
+{
+    let size = length_in(c, form);
+    if is_pocket(form) {
+        put_utf8(c, out, at);
+        return at + size;
+    }
+    put_scalar(c, out, at);
+    at + size
 }

@@ -11,7 +11,7 @@ use lib.ListN.{length, length-append}
 use Rattle.form.specs.Form.{Form}
 use Rattle.form.specs.Spans.{part}
 use Rattle.form.specs.Numbers.{bytesIn}
-use Rattle.form.specs.Tree.{Tag, Tags, Entries, byte, short, int, long, float, double, byteArray, string, list, compound, intArray, longArray, nil, more, ended, entry}
+use Rattle.form.specs.Tree.{Tag, Tags, Entries, byte, short, int, long, float, double, byteArray, string, list, compound, intArray, longArray, nil, more, ended, entry, ValidBy}
 use Rattle.form.specs.Tree.{kindOf, many, tagCount, tagsCount, entriesCount, depth, tagsDepth, entriesDepth, OneKind, Alike, ValidIn, ValidTagsIn, ValidEntriesIn}
 use Rattle.form.specs.Layout.{stringBytesIn, listId, PayloadIn, ElementsIn, EntryBytesIn}
 use Rattle.form.specs.Table.{Forest, none, node, size, _⊕_, holds, valueBy, tagsOf, entriesOf}
@@ -89,7 +89,7 @@ module _ (form : Form) (doc : List ℕ) where
         (λ e. rw h (bind-answers (insideAt form doc room d kind at (n + 1)) _ i (λ y r. got-answers r)))
 
     list-tag : (ts : Tags) → ReadsTags ts → ReadsTag (list ts)
-    unfolding PayloadIn ValidIn depth tagCount kindOf valueBy insideAt containerAt listAt
+    unfolding PayloadIn ValidBy depth tagCount kindOf valueBy insideAt containerAt listAt
     list-tag ts ih bs zero at n name len p v deep s fits = absurd (omega arith)
     list-tag ts ih bs (suc d) at n name len p v deep s fits =
         held-tag 9 (list ts) (at + length bs) (suc d) at n name len refl (omega arith) inside
@@ -127,7 +127,7 @@ module _ (form : Form) (doc : List ℕ) where
             (λ r q. got-answers (held (r .forest) (r .next) q)))
 
     compound-tag : (es : Entries) → ReadsEntries es → ReadsTag (compound es)
-    unfolding PayloadIn ValidIn depth tagCount kindOf valueBy insideAt containerAt compoundAt
+    unfolding PayloadIn ValidBy depth tagCount kindOf valueBy insideAt containerAt compoundAt
     compound-tag es ih bs zero at n name len p v deep s fits = absurd (omega arith)
     compound-tag es ih bs (suc d) at n name len p v deep s fits =
         held-tag 10 (compound es) (at + length bs) (suc d) at n name len refl (omega arith)
@@ -137,7 +137,7 @@ module _ (form : Form) (doc : List ℕ) where
 
     -- a first element, and those after it
     more-tags : (t : Tag) (ts : Tags) → ReadsTag t → ReadsTags ts → ReadsTags (more t ts)
-    unfolding ElementsIn ValidIn OneKind depth tagCount many elements tagsOf size
+    unfolding ElementsIn ValidBy OneKind depth tagCount many elements tagsOf size
     more-tags t ts first later bs d k at n p v o deep s fits =
         let a = p .0 in
         let b = p .1 in
@@ -167,7 +167,7 @@ module _ (form : Form) (doc : List ℕ) where
 
     -- a first entry, and those after it
     more-entries : (name : List ℕ) (t : Tag) (es : Entries) → ReadsTag t → ReadsEntries es → ReadsEntries (entry name t es)
-    unfolding EntryBytesIn ValidIn depth tagCount entries entriesOf size
+    unfolding EntryBytesIn ValidBy depth tagCount entries entriesOf size
     more-entries name t es first later bs d at n zero earlier p v deep s fits fuel-is apart = absurd (omega (arith, s .to))
     more-entries name t es first later bs d at n (suc fuel) earlier p v deep s fits fuel-is apart =
         let a = p .0 in

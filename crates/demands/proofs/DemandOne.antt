@@ -11,7 +11,7 @@ use lib.Dec.{leb, eqb}
 use borrow.Author.Tests.{leb-true, eq-eqb}
 use lib.ListN.{length, drop, getD, replicate}
 use lib.Seq.{drop-append-seam}
-use Rattle.form.specs.Form.{Form, Rule}
+use Rattle.form.specs.Form.{Form, Way, Rule}
 use Rattle.form.specs.Answer.{Out, got, no as refused, pick, Count, counted, failed, badString, overLimit, noTable, moreMatches, depthLimit}
 use Rattle.form.specs.Spans.{over}
 use Rattle.form.specs.Decoding.{Verdict, good, bad}
@@ -19,6 +19,7 @@ use Rattle.form.specs.Table.{Head, Forest, none, node, size, headOf, flat, wrot
 use Rattle.form.specs.Layout.{layout, layoutIn}
 use Rattle.form.specs.Tables.{IsTable, Within}
 use Rattle.form.specs.Reading.{One, countsOf, tableAfter, reading, roomOf}
+use Rattle.form.specs.Turned.{turned}
 use Rattle.form.specs.Writing.{Gives, outputAfter, lengthOf, WriteGives, WriteIs, judged, written, badPlace, answerOf}
 use Rattle.form.specs.Stored.{WriteLinesIs, tableLines, fitting, storing, readingLines, recordsOf, wordsAfter}
 use Rattle.form.specs.Moved.{Edition, other, treeIn, treeLines, MoveIs}
@@ -47,7 +48,7 @@ use Rattle.demands.proofs.Numbers.{read-numbers, write-refusals, write-
 use Rattle.demands.proofs.Stored.{lines-are}
 use Rattle.form.proofs.Decided.{in-each-move}
 use Rattle.demands.proofs.Moved.{move-refusals}
-use Rattle.demands.proofs.Rescue.{Way, rescue-way}
+use Rattle.demands.proofs.Rescue.{Outcome, rescue-way}
 use Rattle.demands.proofs.Outcomes.{one-table-called, one-write-called, one-write-lines-called, one-move-called, one-query-called}
 
 -- ---- answers
@@ -169,56 +170,56 @@ left-each numbers o o′ a (refused n p) w l f = rw w (inr (refuses numbers n p 
 -- ---- a write
 
 -- Memory as the answer of a call that counts has it: so many bytes or words have changed, or nothing has.
-abbrev Listed : Form → List ℕ → List ℕ → Count → Type 0
-Listed form l l′ (counted n) = Changed n l l′
-Listed form l l′ (failed n p c) = l′ ≡ l
+abbrev Listed : List ℕ → List ℕ → Count → Type 0
+Listed l l′ (counted n) = Changed n l l′
+Listed l l′ (failed n p c) = l′ ≡ l
 
-same-listed : (form : Form) (l l′ : List ℕ) (r : Count) → Dec (Listed form l l′ r)
-same-listed form l l′ (counted n) = same-changed n l l′
-same-listed form l l′ (failed n p c) = same-list l′ l
+same-listed : (l l′ : List ℕ) (r : Count) → Dec (Listed l l′ r)
+same-listed l l′ (counted n) = same-changed n l l′
+same-listed l l′ (failed n p c) = same-list l′ l
 
 -- The eight words and the memory, by the count or the refusal; `k` is the number that has something beside it.
-listed-each : (form : Form) (numbers : List ℕ) (k : ℕ) (l l′ a : List ℕ) (r : Count) → a ≡ besideWords r → Listed form l l′ r
+listed-each : (numbers : List ℕ) (k : ℕ) (l l′ a : List ℕ) (r : Count) → a ≡ besideWords r → Listed l l′ r
     → ((n p c : ℕ) → r ≡ failed n p c → (among numbers n ≡ true) × ((n ≡ k → ⊥) → c ≡ 0))
     → (Accepts a × Changed (getD a 2 0) l l′) ⊎ (Refuses numbers (k ∷ []) a × (l′ ≡ l))
-listed-each form numbers k l l′ a (counted n) w h f = rw w (inl ((_, refl, refl), h))
-listed-each form numbers k l l′ a (failed n p c) w h f =
+listed-each numbers k l l′ a (counted n) w h f = rw w (inl ((_, refl, refl), h))
+listed-each numbers k l l′ a (failed n p c) w h f =
     let told = f n p c refl in
     rw w (inr (record { number = n; place = p; beside = c; is = refl; one-of = told .0; plain = but-beside k n c (told .1) }, h))
 
 -- What is written fits.
-written-fits : (form : Form) (doc : List ℕ) (h : Head) (inner : Forest) (room : ℕ) (bs : List ℕ) → written form doc h inner room ≡ got bs → length bs ≤ room
+written-fits : (way : Way) (doc : List ℕ) (h : Head) (inner : Forest) (room : ℕ) (bs : List ℕ) → written way doc h inner room ≡ got bs → length bs ≤ room
 unfolding written
-written-fits form doc h inner room bs e =
-    let a = then-got (judged form doc depthLimit false 0 none 0 (node h inner none)) _ e in
-    let b = guard-got (leb (length (layoutIn form (valueOf form doc h inner))) room) _ _ _ (a .1) in
-    let q : layoutIn form (valueOf form doc h inner) ≡ bs = cc (b .1) in
-    omega (arith, leb-true (length (layoutIn form (valueOf form doc h inner))) room (b .0), ap length q)
+written-fits way doc h inner room bs e =
+    let a = then-got (judged way doc depthLimit false 0 none 0 (node h inner none)) _ e in
+    let b = guard-got (leb (length (layoutIn (way .to) (turned way (valueOf (way .from) doc h inner)))) room) _ _ _ (a .1) in
+    let q : layoutIn (way .to) (turned way (valueOf (way .from) doc h inner)) ≡ bs = cc (b .1) in
+    omega (arith, leb-true (length (layoutIn (way .to) (turned way (valueOf (way .from) doc h inner)))) room (b .0), ap length q)
 
 -- What a write gives, if it fits.
-writes-listed : (form : Form) (doc t o o′ : List ℕ) (x : Out (List ℕ)) (r : Count) → ((bs : List ℕ) → x ≡ got bs → length bs ≤ length o) → WriteGives form doc t x o r o′ → Listed form o o′ r
-writes-listed form doc t o o′ x r fits g = rw (g .answer-is, g .output-is) (go x fits)
+writes-listed : (way : Way) (doc t o o′ : List ℕ) (x : Out (List ℕ)) (r : Count) → ((bs : List ℕ) → x ≡ got bs → length bs ≤ length o) → WriteGives way doc t x o r o′ → Listed o o′ r
+writes-listed way doc t o o′ x r fits g = rw (g .answer-is, g .output-is) (go x fits)
   where
-    go : (x : Out (List ℕ)) → ((bs : List ℕ) → x ≡ got bs → length bs ≤ length o) → Listed form o (outputAfter x o) (answerOf form doc t x)
+    go : (x : Out (List ℕ)) → ((bs : List ℕ) → x ≡ got bs → length bs ≤ length o) → Listed o (outputAfter x o) (answerOf way doc t x)
     go (got bs) fits = over-changed (length bs) o bs refl (fits bs refl)
     go (refused m n) fits = by (eqb m badString)
       where
-        by : (b : Bool) → Listed form o o (pick b (failed m (badPlace form doc (headOf t n)) n) (failed m n 0))
+        by : (b : Bool) → Listed o o (pick b (failed m (badPlace way doc (headOf t n)) n) (failed m n 0))
         by true = refl
         by false = refl
 
-write-listed : (form : Form) (doc t o : List ℕ) (r : Count) (o′ : List ℕ) → WriteIs form doc t o r o′ → Listed form o o′ r
-write-listed form doc t o r o′ h =
-    in-each-case {W = Within (length doc) t} {T = IsTable (length doc) t} (same-listed form o o′ r)
-    (λ w. writes-listed form doc t o o′ (refused overLimit 0) r (λ bs e. absurd (got-no (sym e))) (h .large w))
-    (λ w i. writes-listed form doc t o o′ (refused noTable 0) r (λ bs e. absurd (got-no (sym e))) (h .unfit w i))
-    (λ w i. writes-listed form doc t o o′ (written form doc (i .head) (i .inner) (length o)) r (written-fits form doc (i .head) (i .inner) (length o)) (h .fit w i))
+write-listed : (way : Way) (doc t o : List ℕ) (r : Count) (o′ : List ℕ) → WriteIs way doc t o r o′ → Listed o o′ r
+write-listed way doc t o r o′ h =
+    in-each-case {W = Within (length doc) t} {T = IsTable (length doc) t} (same-listed o o′ r)
+    (λ w. writes-listed way doc t o o′ (refused overLimit 0) r (λ bs e. absurd (got-no (sym e))) (h .large w))
+    (λ w i. writes-listed way doc t o o′ (refused noTable 0) r (λ bs e. absurd (got-no (sym e))) (h .unfit w i))
+    (λ w i. writes-listed way doc t o o′ (written way doc (i .head) (i .inner) (length o)) r (written-fits way doc (i .head) (i .inner) (length o)) (h .fit w i))
 
-write-answers : (form : Form) (doc t t′ o : List ℕ) → Answers (WriteCalled form doc t t′ o) writeNumbers (badString ∷ []) o o (λ a. getD a 2 0)
-write-answers form doc t t′ o = record {
-  one = λ o₁ o₂ a₁ a₂ r s. let e = one-write-called form doc t o a₁ a₂ o₁ o₂ t′ t′ r s in (e .1, e .0);
-  each = λ o′ a r. listed-each form writeNumbers badString o o′ a (r .result) (r .words-are) (write-listed form doc t o (r .result) o′ (r .is))
-      (λ n p c. write-refusals form doc t o (r .result) o′ n p c (r .is));
+write-answers : (way : Way) (doc t t′ o : List ℕ) → Answers (WriteCalled way doc t t′ o) writeNumbers (badString ∷ []) o o (λ a. getD a 2 0)
+write-answers way doc t t′ o = record {
+  one = λ o₁ o₂ a₁ a₂ r s. let e = one-write-called way doc t o a₁ a₂ o₁ o₂ t′ t′ r s in (e .1, e .0);
+  each = λ o′ a r. listed-each writeNumbers badString o o′ a (r .result) (r .words-are) (write-listed way doc t o (r .result) o′ (r .is))
+      (λ n p c. write-refusals way doc t o (r .result) o′ n p c (r .is));
 }
 
 -- ---- stored lines
@@ -297,10 +298,10 @@ content-answers t start e quoted o =
 
 -- ---- a query
 
-finds-listed : (form : Form) (l l′ : List ℕ) (x : Answered) (r : Count) → ((ms : List ℕ) → x ≡ matched ms → length ms ≤ length l) → Finds x l r l′ → Listed form l l′ r
+finds-listed : (form : Form) (l l′ : List ℕ) (x : Answered) (r : Count) → ((ms : List ℕ) → x ≡ matched ms → length ms ≤ length l) → Finds x l r l′ → Listed l l′ r
 finds-listed form l l′ x r fits f = rw (f .answer-is, f .list-is) (go x fits)
   where
-    go : (x : Answered) → ((ms : List ℕ) → x ≡ matched ms → length ms ≤ length l) → Listed form l (listAfter x l) (countOf x)
+    go : (x : Answered) → ((ms : List ℕ) → x ≡ matched ms → length ms ≤ length l) → Listed l (listAfter x l) (countOf x)
     go (matched ms) fits = over-changed (length ms) l ms refl (fits ms refl)
     go (query.refused n p c) fits = refl
 
@@ -313,9 +314,9 @@ within-fits room (got xs) ms e = go (leb (length xs) room) refl e
     go false h k = absurd (matched-refused (sym k))
 within-fits room (refused n p) ms e = absurd (matched-refused (sym e))
 
-query-listed : (form : Form) (doc t q l : List ℕ) (r : Count) (l′ : List ℕ) → QueryIs form doc t q l r l′ → Listed form l l′ r
+query-listed : (form : Form) (doc t q l : List ℕ) (r : Count) (l′ : List ℕ) → QueryIs form doc t q l r l′ → Listed l l′ r
 query-listed form doc t q l r l′ h =
-    in-each-case {W = Within (length doc) t} {T = IsTable (length doc) t} (same-listed form l l′ r)
+    in-each-case {W = Within (length doc) t} {T = IsTable (length doc) t} (same-listed l l′ r)
     (λ w. finds-listed form l l′ (query.refused overLimit 0 0) r (λ ms e. absurd (matched-refused (sym e))) (h .large w))
     (λ w i. finds-listed form l l′ (query.refused noTable 0 0) r (λ ms e. absurd (matched-refused (sym e))) (h .unfit w i))
     (λ w i. finds-listed form l l′ (within (length l) (asked form doc q (i .head) (i .inner))) r (within-fits (length l) (asked form doc q (i .head) (i .inner))) (h .fit w i))
@@ -323,7 +324,7 @@ query-listed form doc t q l r l′ h =
 query-answers : (form : Form) (doc t q l : List ℕ) → Answers (QueryCalled form doc t q l) queryNumbers (moreMatches ∷ []) l l (λ a. getD a 2 0)
 query-answers form doc t q l = record {
   one = λ l₁ l₂ a₁ a₂ r s. let e = one-query-called form doc t q l a₁ a₂ l₁ l₂ r s in (e .1, e .0);
-  each = λ l′ a r. listed-each form queryNumbers moreMatches l l′ a (r .result) (r .words-are) (query-listed form doc t q l (r .result) l′ (r .is))
+  each = λ l′ a r. listed-each queryNumbers moreMatches l l′ a (r .result) (r .words-are) (query-listed form doc t q l (r .result) l′ (r .is))
       (λ n p c. query-refusals form doc t q l (r .result) l′ n p c (r .is));
 }
 
@@ -341,7 +342,7 @@ rescue-each : (form : Form) (doc t t′ o o′ c c′ a : List ℕ) → Bytes do
 rescue-each form doc t t′ o o′ c c′ a bytes r =
     go (rescuing form doc t o c) (rescue-way form doc bytes (roomOf (length t)) (length c / 3) (length o)) (r .answer-is) (r .output-is) (r .changes-is)
   where
-    go : (x : Rescue) → Way form doc (roomOf (length t)) (length c / 3) (length o) x → a ≡ rescueWords (sizesOf x) → o′ ≡ bytesAfter x o → c′ ≡ linesAfter x c
+    go : (x : Rescue) → Outcome form doc (roomOf (length t)) (length c / 3) (length o) x → a ≡ rescueWords (sizesOf x) → o′ ≡ bytesAfter x o → c′ ≡ linesAfter x c
         → (Accepts a × Changed (getD a 2 0) o o′ × Changed (3 * getD a 3 0) c c′) ⊎ (Refuses rescueNumbers (moreMatches ∷ []) a × (o′ ≡ o) × (c′ ≡ c))
     go (saved bs ls) w e f g =
         let in-room : length (lineWords ls) ≤ length c = omega (arith, line-words ls, w .5) in
@@ -414,7 +415,7 @@ demand-one = record {
   read = read-answers;
   is-table = λ d t. record { one = alone-one (TableCalled d t) (one-table-called d t); each = table-each d t };
   write = write-answers;
-  write-table = λ form doc t t′ o o′ a r. r .kept;
+  write-table = λ way doc t t′ o o′ a r. r .kept;
   rescue = rescue-answers;
   rescue-changes = changes-answers;
   rescue-table = λ form doc t t′ o o′ c c′ a r t″ b s. r .table-is ∙ sym (s .table-is);

@@ -7,10 +7,13 @@ use mathlib.Core.List.{List, [], _∷_, _++_}
 use native.Mathlib.Omega.{arith}
 use lib.ListN.{length, drop, take, getD}
 use lib.Dec.{eqb}
-use Rattle.form.specs.Form.{Form, java}
+use Rattle.form.specs.Form.{Form, Way, java, stays}
 use Rattle.form.specs.Answer.{Out, got, no, pick, failed, badString}
 use Rattle.form.specs.Spans.{over}
-use Rattle.form.specs.Tree.{Document, Lawful, LawfulIn, entriesCount}
+use Rattle.form.specs.Tree.{Document, Lawful, LawfulIn, entriesCount, LawfulBy}
+use Rattle.form.specs.Tables.{IsTable}
+use Rattle.form.specs.Turned.{Carried, turned, meant}
+use Rattle.form.proofs.Turned.{turned-stays}
 use Rattle.form.specs.Layout.{LayoutIn, layout, layoutIn}
 use Rattle.form.specs.Table.{size, headOf, valueOf}
 use Rattle.form.specs.Reading.{One, countsOf, tableAfter, roomOf}
@@ -31,11 +34,12 @@ use Rattle.demands.specs.Rescue.{cutDocument, documentLines}
 use Rattle.demands.proofs.Called.{Held, held, held-by}
 use Rattle.demands.proofs.Reading as reading
 use Rattle.demands.proofs.Reading.{canonical}
-use Rattle.demands.proofs.Writing.{written-lawful, lawful-written, lawful-full}
+use Rattle.demands.proofs.Carried.{carried-source, carried-stays, carried-written, carried-full}
+use Rattle.demands.proofs.Conversion.{was, turned-lawful, turned-meant}
 use Rattle.demands.proofs.Texts.{lawful-text, text-fills, text-never-zero}
 use Rattle.demands.proofs.Queries.{tabled, tabled-value}
 use Rattle.demands.proofs.Numbers.{write-numbers}
-use Rattle.demands.proofs.Rescue.{Way, rescue-way, rescued-lawful, every-cut}
+use Rattle.demands.proofs.Rescue.{Outcome, rescue-way, rescued-lawful, every-cut}
 
 -- ---- reading
 
@@ -97,54 +101,82 @@ unfolding among
 zero-not-rescued e = let z : _≡_ {A = ℕ} 0 1 = cc in omega arith
 
 -- The first word of a refused write is the number.
-first-word : (form : Form) (doc t : List ℕ) (m n : ℕ) → getD (besideWords (answerOf form doc t (no m n))) 0 0 ≡ m
-first-word form doc t m n = go (eqb m badString)
+first-word : (way : Way) (doc t : List ℕ) (m n : ℕ) → getD (besideWords (answerOf way doc t (no m n))) 0 0 ≡ m
+first-word way doc t m n = go (eqb m badString)
   where
-    go : (b : Bool) → getD (besideWords (pick b (failed m (badPlace form doc (headOf t n)) n) (failed m n 0))) 0 0 ≡ m
+    go : (b : Bool) → getD (besideWords (pick b (failed m (badPlace way doc (headOf t n)) n) (failed m n 0))) 0 0 ≡ m
     go true = refl
     go false = refl
 
-module _ (form : Form) (doc w : List ℕ) (d : Document) (bytes : Bytes doc) (h : Holds form doc w d) (w′ o o′ b : List ℕ) (k : WriteCalled form doc w w′ o o′ b) where
+module _ (way : Way) (doc w : List ℕ) (d : Document) (bytes : Bytes doc) (h : Holds (way .from) doc w d) (w′ o o′ b : List ℕ) (k : WriteCalled way doc w w′ o o′ b) where
+  -- The table that the words form.
+  abbrev t : IsTable (length doc) w
+  t = h .table
+
+  -- The document's bytes in the form that is written.
+  abbrev there : List ℕ
+  there = layoutIn (way .to) (turned way d)
+
   -- What the definition writes of the table is what the call answers and leaves.
-  gives : WriteGives form doc w (written form doc (h .table .head) (h .table .inner) (length o)) o (k .result) o′
-  gives = k .is .fit (h .small) (h .table)
+  gives : WriteGives way doc w (written way doc (t .head) (t .inner) (length o)) o (k .result) o′
+  gives = k .is .fit (h .small) t
 
-  table-lawful : LawfulIn form d → LawfulIn form (tableValue form doc w (h .table))
-  table-lawful l = subst (LawfulIn form) (sym (h .value)) l
+  given : {x : Out (List ℕ)} → written way doc (t .head) (t .inner) (length o) ≡ x → WriteGives way doc w x o (k .result) o′
+  given e = subst (λ (x : Out (List ℕ)). WriteGives way doc w x o (k .result) o′) e gives
 
-  table-long : length (layoutIn form (tableValue form doc w (h .table))) ≡ length (layoutIn form d)
-  table-long = ap (λ (e : Document). length (layoutIn form e)) (h .value)
+  -- What the table stands for has the same bytes.
+  same-there : layoutIn (way .to) (turned way (tableValue (way .from) doc w t)) ≡ there
+  same-there = ap (λ (e : Document). layoutIn (way .to) (turned way e)) (h .value)
 
-  is-written : LawfulIn form d → Writes form d o o′ b
-  is-written l = record {
-    enough = λ le.
-        let e = lawful-written form doc w bytes (h .small) (h .table) (length o) (table-lawful l) (omega (arith, table-long)) ∙ ap (λ (f : Document). got (layoutIn form f)) (h .value) in
-        let g = subst (λ (x : Out (List ℕ)). WriteGives form doc w x o (k .result) o′) e gives in
-        (k .words-are ∙ ap besideWords (g .answer-is), g .output-is);
-    short = λ lt.
-        let e = lawful-full form doc w bytes (h .small) (h .table) (length o) (table-lawful l) (omega (arith, table-long)) in
-        let g = subst (λ (x : Out (List ℕ)). WriteGives form doc w x o (k .result) o′) e gives in
-        (k .words-are ∙ ap besideWords (g .answer-is), g .output-is);
-  }
+  is-written : LawfulBy (Carried way) d → Writes (way .to) (turned way d) o o′ b
+  is-written l =
+      let c = subst (LawfulBy (Carried way)) (sym (h .value)) l in
+      record {
+        enough = λ le.
+            let g = given (carried-written way doc (t .head) (t .inner) (t .compound) (t .fair) c (length o) (omega (arith, ap length same-there, le)) ∙ ap got same-there) in
+            (k .words-are ∙ ap besideWords (g .answer-is), g .output-is);
+        short = λ lt.
+            let g = given (carried-full way doc (t .head) (t .inner) (t .compound) (t .fair) c (length o) (omega (arith, ap length same-there, lt))) in
+            (k .words-are ∙ ap besideWords (g .answer-is), g .output-is);
+      }
 
-  is-read-back : (c : ℕ) → b ≡ 0 ∷ 0 ∷ c ∷ 0 ∷ 0 ∷ 0 ∷ 0 ∷ 0 ∷ [] → LawfulIn form d × ReadAs form o′ c d
-  is-read-back c e = go (written form doc (h .table .head) (h .table .inner) (length o)) refl gives
+  is-read-back : (c : ℕ) → b ≡ 0 ∷ 0 ∷ c ∷ 0 ∷ 0 ∷ 0 ∷ 0 ∷ 0 ∷ [] → LawfulBy (Carried way) d × ReadAs (way .to) o′ c (turned way d)
+  is-read-back c e = go (written way doc (t .head) (t .inner) (length o)) refl gives
     where
-      go : (x : Out (List ℕ)) → written form doc (h .table .head) (h .table .inner) (length o) ≡ x → WriteGives form doc w x o (k .result) o′
-          → LawfulIn form d × ReadAs form o′ c d
+      go : (x : Out (List ℕ)) → written way doc (t .head) (t .inner) (length o) ≡ x → WriteGives way doc w x o (k .result) o′
+          → LawfulBy (Carried way) d × ReadAs (way .to) o′ c (turned way d)
       go (got bs) is g =
-          let l = written-lawful form doc w bytes (h .small) (h .table) (length o) bs is in
-          let laid : bs ≡ layoutIn form d = l .laid ∙ ap (layoutIn form) (h .value) in
+          let l = was way doc w bytes (h .small) t (length o) bs is in
+          let laid : bs ≡ there = l .is ∙ same-there in
           let words : 0 ∷ 0 ∷ length bs ∷ 0 ∷ 0 ∷ 0 ∷ 0 ∷ 0 ∷ [] ≡ 0 ∷ 0 ∷ c ∷ 0 ∷ 0 ∷ 0 ∷ 0 ∷ 0 ∷ [] = ap besideWords (sym (g .answer-is)) ∙ sym (k .words-are) ∙ e in
-          let long : length (layoutIn form d) ≡ c = sym (ap length laid) ∙ cc in
-          let out : over o 0 (layoutIn form d) ≡ o′ = ap (over o 0) (sym laid) ∙ sym (g .output-is) in
-          let lawful = subst (LawfulIn form) (h .value) (l .lawful) in
-          (lawful, subst (λ (m : ℕ). ReadAs form o′ m d) long (subst (λ (x : List ℕ). ReadAs form x (length (layoutIn form d)) d) out (output-read form d o lawful)))
+          let long : length there ≡ c = sym (ap length laid) ∙ cc in
+          let out : over o 0 there ≡ o′ = ap (over o 0) (sym laid) ∙ sym (g .output-is) in
+          let carried = subst (LawfulBy (Carried way)) (h .value) (l .carried) in
+          let read = output-read (way .to) (turned way d) o (turned-lawful way d carried) in
+          (carried, subst (λ (m : ℕ). ReadAs (way .to) o′ m (turned way d)) long (subst (λ (x : List ℕ). ReadAs (way .to) x (length there) (turned way d)) out read))
       go (no n p) is g =
-          let words : besideWords (answerOf form doc w (no n p)) ≡ 0 ∷ 0 ∷ c ∷ 0 ∷ 0 ∷ 0 ∷ 0 ∷ 0 ∷ [] = ap besideWords (sym (g .answer-is)) ∙ sym (k .words-are) ∙ e in
-          let z : n ≡ 0 = sym (first-word form doc w n p) ∙ ap (λ ws. getD ws 0 0) words in
-          let f = write-numbers form doc (h .table .head) (h .table .inner) (length o) n p is in
+          let words : besideWords (answerOf way doc w (no n p)) ≡ 0 ∷ 0 ∷ c ∷ 0 ∷ 0 ∷ 0 ∷ 0 ∷ 0 ∷ [] = ap besideWords (sym (g .answer-is)) ∙ sym (k .words-are) ∙ e in
+          let z : n ≡ 0 = sym (first-word way doc w n p) ∙ ap (λ ws. getD ws 0 0) words in
+          let f = write-numbers way doc (t .head) (t .inner) (length o) n p is in
           absurd (zero-not-among (rw z at f))
+
+-- Where the form stays, so does the document.
+stays-written : (form : Form) (doc w : List ℕ) (d : Document) → Bytes doc → LawfulIn form d → Holds form doc w d → (w′ o o′ b : List ℕ) → WriteCalled (stays form) doc w w′ o o′ b
+    → Writes form d o o′ b
+stays-written form doc w d bytes l h w′ o o′ b k =
+    subst (λ (e : Document). Writes form e o o′ b) (turned-stays form d) (is-written (stays form) doc w d bytes h w′ o o′ b k (carried-stays form d l))
+
+stays-back : (form : Form) (doc w w′ o o′ b : List ℕ) (d : Document) → Bytes doc → Holds form doc w d → WriteCalled (stays form) doc w w′ o o′ b
+    → (c : ℕ) → b ≡ 0 ∷ 0 ∷ c ∷ 0 ∷ 0 ∷ 0 ∷ 0 ∷ 0 ∷ [] → LawfulIn form d × ReadAs form o′ c d
+stays-back form doc w w′ o o′ b d bytes h k c e =
+    let x = is-read-back (stays form) doc w d bytes h w′ o o′ b k c e in
+    (carried-source (stays form) d (x .0), subst (ReadAs form o′ c) (turned-stays form d) (x .1))
+
+convert-back : (way : Way) (doc w w′ o o′ b : List ℕ) (d : Document) → Bytes doc → Holds (way .from) doc w d → WriteCalled way doc w w′ o o′ b
+    → (c : ℕ) → b ≡ 0 ∷ 0 ∷ c ∷ 0 ∷ 0 ∷ 0 ∷ 0 ∷ 0 ∷ [] → LawfulIn (way .from) d × (meant (way .to) (turned way d) ≡ meant (way .from) d) × ReadAs (way .to) o′ c (turned way d)
+convert-back way doc w w′ o o′ b d bytes h k c e =
+    let x = is-read-back way doc w d bytes h w′ o o′ b k c e in
+    (carried-source way d (x .0), turned-meant way d (x .0), x .1)
 
 -- ---- texts
 
@@ -173,7 +205,7 @@ rescue-back : (form : Form) (doc t t′ o o′ c c′ b : List ℕ) → Bytes do
 rescue-back form doc t t′ o o′ c c′ b bytes r n m e =
     go (rescuing form doc t o c) (rescue-way form doc bytes (roomOf (length t)) (length c / 3) (length o)) (sym (r .answer-is) ∙ e) (r .output-is)
   where
-    go : (x : Rescue) → Way form doc (roomOf (length t)) (length c / 3) (length o) x → rescueWords (sizesOf x) ≡ 0 ∷ 0 ∷ n ∷ m ∷ 0 ∷ 0 ∷ 0 ∷ 0 ∷ [] → o′ ≡ bytesAfter x o
+    go : (x : Rescue) → Outcome form doc (roomOf (length t)) (length c / 3) (length o) x → rescueWords (sizesOf x) ≡ 0 ∷ 0 ∷ n ∷ m ∷ 0 ∷ 0 ∷ 0 ∷ 0 ∷ [] → o′ ≡ bytesAfter x o
         → (k : Kept) × (keptOf form doc (roomOf (length t)) ≡ got k) × LawfulIn form (cut.documentOf form doc (k .forest)) × ReadAs form o′ n (cut.documentOf form doc (k .forest))
     go (saved bs ls) w words out =
         let k = w .0 in
@@ -214,8 +246,10 @@ pub demand-two : DemandTwo
 demand-two = record {
   sound = sound;
   complete = complete;
-  written = λ form doc w d bytes l h w′ o o′ b k. is-written form doc w d bytes h w′ o o′ b k l;
-  write-back = λ form doc w w′ o o′ b d bytes h k. is-read-back form doc w d bytes h w′ o o′ b k;
+  written = stays-written;
+  write-back = stays-back;
+  converted = λ way doc w d bytes l h w′ o o′ b k. is-written way doc w d bytes h w′ o o′ b k l;
+  convert-back = convert-back;
   parse-back = parse-back;
   rescue-back = rescue-back;
   rescue-cut = rescue-cut;

@@ -10,7 +10,7 @@ use lib.ListN.{length, length-append}
 use Rattle.form.specs.Form.{Form}
 use Rattle.form.specs.Answer.{Out, guard, _>>_, _>>=_, rootId, documentLimit, depthLimit}
 use Rattle.form.specs.Spans.{part}
-use Rattle.form.specs.Tree.{compound, kindOf, tagCount, entriesCount, depth, ValidIn, Document, LawfulIn}
+use Rattle.form.specs.Tree.{compound, kindOf, tagCount, entriesCount, depth, Document, LawfulIn, ValidBy}
 use Rattle.form.specs.Layout.{stringBytesIn, PayloadIn, LayoutIn}
 use Rattle.form.specs.Table.{size, valueBy, entriesOf, valueOf}
 use Rattle.form.specs.Reading.{One, Span, byteAt, stringAt, documentAt}
@@ -41,7 +41,7 @@ module _ (form : Form) (wf : StringLaw form) (doc : List ℕ) (room : ℕ) where
   module _ (bytes : Bytes doc) where
     root-sound : (x : One) (s : Span) → length doc ≤ documentLimit → Sits doc 0 (10 ∷ []) → Worded form doc 1 s
         → TagSound form doc room depthLimit 10 (s .start) (s .size) (s .next) 0 x → Sound form doc room x
-    unfolding PayloadIn ValidIn depth tagCount
+    unfolding PayloadIn ValidBy depth tagCount
     root-sound x s small first w t =
         let name = part doc (s .start) (s .size) in
         let es = entriesOf form doc (x .inner) in
@@ -75,7 +75,7 @@ module _ (form : Form) (wf : StringLaw form) (doc : List ℕ) (room : ℕ) where
 
   module _ (d : Document) (bs : List ℕ) (sits : Sits doc 0 bs) (laid : LayoutIn form d bs) (lawful : LawfulIn form d) (fits : 1 + entriesCount (d .root) ≤ room) where
     pub root-read : Answers Accepted (λ (x : One). (x .next ≡ length bs) × (valueOf form doc (x .head) (x .inner) ≡ d)) (rootAt form doc room)
-    unfolding PayloadIn ValidIn depth tagCount kindOf
+    unfolding PayloadIn ValidBy depth tagCount kindOf
     root-read =
         let name = d .name in
         let body = laid .body in

@@ -10,7 +10,7 @@ use lib.Dec.{eqb}
 use lib.ListN.{length}
 use Rattle.form.specs.Form.{Form}
 use Rattle.form.specs.Spans.{part}
-use Rattle.form.specs.Tree.{Tag, kindOf, depth, tagsDepth, entriesDepth, hasEntry, OneKind, TextIn, ValidIn, ValidTagsIn, ValidEntriesIn}
+use Rattle.form.specs.Tree.{Tag, kindOf, depth, tagsDepth, entriesDepth, hasEntry, OneKind, TextIn, ValidIn, ValidTagsIn, ValidEntriesIn, ValidBy}
 use Rattle.form.specs.Table.{Head, Forest, none, node, size, width, _⊕_, valueBy, tagsOf, entriesOf}
 use Rattle.form.specs.Tables.{LeafIs, ContainerIs, Fair}
 use Rattle.form.specs.Reading.{One, Span, hasName}
@@ -66,11 +66,11 @@ module _ (form : Form) (doc : List ℕ) (room : ℕ) where
       kind-is form doc h (tagsOf form doc inner) (entriesOf form doc inner) (r .0) (r .1) ∙ g .kind-is
 
   no-tags : (d k c n : ℕ) → n ≤ room → GoodTags d k c n none
-  unfolding ValidIn OneKind depth tagsOf size width
+  unfolding ValidBy OneKind depth tagsOf size width
   no-tags d k c n l = record { fair = fair-none (length doc) true; valid = tt; one-kind = tt; wide = omega arith; deep = omega arith; fits = omega arith }
 
   more-tags : {d k c n : ℕ} {h : Head} {inner later : Forest} → GoodTag d k 0 0 n h inner → GoodTags d k c (n + 1 + size inner) later → GoodTags d k (suc c) n (node h inner later)
-  unfolding ValidIn OneKind depth tagsOf size width
+  unfolding ValidBy OneKind depth tagsOf size width
   more-tags {d} {k} {c} {n} {h} {inner} {later} g r = record {
     fair = fair-node (length doc) true h inner later (record { within = omega (arith, g .name-is, g .len-is); nameless = λ e. (g .name-is, g .len-is) }) (g .sort) (g .fair) (r .fair);
     valid = (g .valid, r .valid);
@@ -81,7 +81,7 @@ module _ (form : Form) (doc : List ℕ) (room : ℕ) where
   }
 
   no-entries : (d n : ℕ) (earlier : Forest) → n ≤ room → GoodEntries d n earlier none
-  unfolding ValidIn depth entriesOf size hasEntry
+  unfolding ValidBy depth entriesOf size hasEntry
   no-entries d n earlier l = record { fair = fair-none (length doc) false; valid = tt; apart = λ x e. refl; deep = omega arith; fits = omega arith }
 
   -- an entry's name: where it lies, that it is text, and that it is new
@@ -92,7 +92,7 @@ module _ (form : Form) (doc : List ℕ) (room : ℕ) where
 
   more-entries : {d kind name len n : ℕ} {earlier : Forest} {h : Head} {inner later : Forest} → GoodName name len earlier → GoodTag d kind name len n h inner
       → GoodEntries d (n + 1 + size inner) (earlier ⊕ node h inner none) later → GoodEntries d n earlier (node h inner later)
-  unfolding ValidIn depth entriesOf size
+  unfolding ValidBy depth entriesOf size
   more-entries {d} {kind} {name} {len} {n} {earlier} {h} {inner} {later} i g r =
       let word : part doc (h .name) (h .name-length) ≡ part doc name len = rw (g .name-is, g .len-is) refl in
       let b = apart-back doc earlier h inner (part doc name len) word (tagAt h inner) (entriesOf form doc later) (i .new) (r .apart) in
@@ -106,7 +106,7 @@ module _ (form : Form) (doc : List ℕ) (room : ℕ) where
 
   -- an open list and an open compound
   open-list : (d k c n name len : ℕ) (f : Forest) → c < 2 ^ 31 → GoodTags d k c (n + 1) f → GoodTag (suc d) 9 name len n (openHead 9 name len f) f
-  unfolding ValidIn depth valueBy
+  unfolding ValidBy depth valueBy
   open-list d k c n name len f few g = record {
     kind-is = refl;
     name-is = refl;
@@ -119,7 +119,7 @@ module _ (form : Form) (doc : List ℕ) (room : ℕ) where
   }
 
   pub open-compound : (d n name len : ℕ) (f : Forest) → GoodEntries d (n + 1) none f → GoodTag (suc d) 10 name len n (openHead 10 name len f) f
-  unfolding ValidIn depth valueBy
+  unfolding ValidBy depth valueBy
   open-compound d n name len f g = record {
     kind-is = refl;
     name-is = refl;

@@ -11,7 +11,7 @@ use Rattle.form.specs.Form.{Form}
 use Rattle.form.specs.Answer.{got}
 use Rattle.form.specs.Spans.{part}
 use Rattle.form.specs.Numbers.{numberIn, bytesIn, valuesIn, signedOf, bitsOf, FitsIn}
-use Rattle.form.specs.Tree.{Tag, byte, short, int, long, float, double, byteArray, string, list, compound, intArray, longArray, nil, ended, kindOf, tagCount, depth, AllFit, Array, ValidIn}
+use Rattle.form.specs.Tree.{Tag, byte, short, int, long, float, double, byteArray, string, list, compound, intArray, longArray, nil, ended, kindOf, tagCount, depth, AllFit, Array, ValidIn, ValidBy}
 use Rattle.form.specs.Layout.{intBytesIn, stringBytesIn, intsBytesIn, arrayBytesIn, PayloadIn}
 use Rattle.form.specs.Table.{Head, widthOf, holds, intsAt, valueBy}
 use Rattle.form.specs.Reading.{Span, bytesAt, stringAt, countAt, arrayAt, leafAt}
@@ -81,7 +81,7 @@ module _ (form : Form) (doc : List ℕ) where
         ap (numberIn (form .order)) (rw l at (s .is) ∙ e) ∙ number-bytes (form .order) w v h
 
     pub leaf-read : StringLaw form → (t : Tag) → holds (kindOf t) ≡ false → PayloadIn form t bs → ValidIn form t → Answers Accepted (ReadAs at bs t) (leafAt form doc (kindOf t) at)
-    unfolding leafAt PayloadIn ValidIn valueBy kindOf widthOf
+    unfolding leafAt PayloadIn ValidBy valueBy kindOf widthOf
     leaf-read wf (byte v) h p f = let x = fixed 1 (bitsOf 1 v) p in rw (x .0) (got-answers (x .1, λ name len. ap byte (int-read at 1 v f (rw p at s))))
     leaf-read wf (short v) h p f = let x = fixed 2 (bitsOf 2 v) p in rw (x .0) (got-answers (x .1, λ name len. ap short (int-read at 2 v f (rw p at s))))
     leaf-read wf (int v) h p f = let x = fixed 4 (bitsOf 4 v) p in rw (x .0) (got-answers (x .1, λ name len. ap int (int-read at 4 v f (rw p at s))))
@@ -156,7 +156,7 @@ module _ (form : Form) (doc : List ℕ) where
             }
 
     pub leaf-sound : StringLaw form → (at kind : ℕ) → 0 < kind → kind ≤ 12 → holds kind ≡ false → Answers (Numbered form doc) (LaidAs kind at) (leafAt form doc kind at)
-    unfolding leafAt valueBy kindOf widthOf PayloadIn ValidIn depth tagCount
+    unfolding leafAt valueBy kindOf widthOf PayloadIn ValidBy depth tagCount
     leaf-sound wf at =
         by-kind (λ k. holds k ≡ false → Answers (Numbered form doc) (LaidAs k at) (leafAt form doc k at))
         (λ h. fixed-sound 1 at 1 (λ name len l. let i = int-laid at 1 (omega arith) l in record { kind-is = refl; lays = i .0; valid = i .1; flat = refl; alone = refl }))

@@ -10,7 +10,9 @@ pub mod Complete
 pub mod Sound
 pub mod Documents
 pub mod Canonical
+pub mod Mapped
 pub mod Judged
+pub mod Carried
 pub mod Tabled
 pub mod Near
 pub mod Meant
@@ -20,6 +22,7 @@ pub mod Moved
 pub mod Reading
 pub mod Tables
 pub mod Writing
+pub mod Conversion
 pub mod Texts
 pub mod Queries
 pub mod Numbered

@@ -11,6 +11,7 @@ use Rattle.form.specs.Layout.{intsBytesIn, payloadIn, elementBytesIn, entryByte
 use Rattle.form.specs.Table.{size, width, _⊕_, flat, widthOf, valueBy, tagsOf, entriesOf}
 use Rattle.form.specs.Reading.{hasName, byteAt, bytesAt, numberAt, stringAt, countAt, arrayAt, leafAt, leafOne, listHeadAt, entryAt}
 use Rattle.form.specs.Reading.{elements, entries, listAt, compoundAt, containerAt, payloadBy, insideAt, documentAt}
+use Rattle.form.specs.Turned.{recoded, mapTag}
 use Rattle.form.specs.Writing.{stringFine, payloadFine, judged, written}
 use Rattle.form.specs.Paths.{oneThen, someTail, fits, tagPaths, itemPaths, entryPaths, paths, which, matches}
 use Rattle.form.specs.Query.{stepBy, stepAt, stepsAt, spelt, shallow, asked}
@@ -29,5 +30,5 @@ unfolding records value same twoOf threeOf unitOf pairOf scalarOf walk verdictBy
     decimalDigits worth wholeOf wholeNumber decimalOf decimalNumber number among after slurp word hexOf hexes escapeOf quotedBy quoted skipBy skip
     unquotedAt quotedAt tokenBy tokenAt judgedText lexed frontOf scalarsBy contentOf content known due following stringOf scalarTag scalarValue intsBy
     textArrayAt elementsBy listFrom textListAt squareAt keyOf colonAt closeAt textEntryAt entriesBy textCompoundAt textValueBy valueAt parsed
-    stringFine payloadFine judged written
+    recoded mapTag stringFine payloadFine judged written
 marked = refl

@@ -16,7 +16,7 @@ use Rattle.form.specs.Answer.{Out, got, no, _>>_, pick, textLimit, depthLimit, 
 use Rattle.form.specs.Numbers.{FitsIn, bytesOf, bitsOf}
 use Rattle.form.specs.Spans.{same}
 use Rattle.form.specs.Tree as tree
-use Rattle.form.specs.Tree.{Tag, Tags, Entries, nil, more, entry, kindOf, many, depth, tagsDepth, entriesDepth, TextIn, Array, AllFit, hasEntry, OneKind, ValidIn, ValidTagsIn, ValidEntriesIn}
+use Rattle.form.specs.Tree.{Tag, Tags, Entries, nil, more, entry, kindOf, many, depth, tagsDepth, entriesDepth, TextIn, Array, AllFit, hasEntry, OneKind, ValidIn, ValidTagsIn, ValidEntriesIn, ValidBy}
 use Rattle.form.specs.Layout.{stringBytes, intBytes, intsBytes, payload, elementBytes, entryBytes, elementBytesIn, intsBytesIn, payloadIn}
 use Rattle.form.proofs.Answer.{guard-got}
 use Rattle.form.proofs.Digits.{digits-length}
@@ -59,7 +59,7 @@ unfolding among
 ranged-leaf w z tag p f = gives-guard (inRange w z) _ _ _ refl (λ e. gives-got (f (in-range w z e)))
 
 number-leaf : (n : Number) (p : ℕ) → TokenHeld (numeral n) → Gives parseNumbers Leaf (numberTag n p)
-unfolding ValidIn depth
+unfolding ValidBy depth
 number-leaf (byte z) p h = ranged-leaf 1 z (tree.byte z) p (λ f. record { valid = f; flat = refl })
 number-leaf (short z) p h = ranged-leaf 2 z (tree.short z) p (λ f. record { valid = f; flat = refl })
 number-leaf (int z) p h = ranged-leaf 4 z (tree.int z) p (λ f. record { valid = f; flat = refl })
@@ -113,7 +113,7 @@ ints-length w z vs = omega (arith, length-append (intBytes w z) (intsBytes w vs)
 
 -- An array of elements that fit takes four bytes and its elements.
 array-leaf : (w : ℕ) → Width w → (vs : List ℤ) → Array w vs → Leaf (arrayTag w vs) × (length (payload (arrayTag w vs)) ≡ 4 + length (intsBytes w vs))
-unfolding ValidIn depth payloadIn
+unfolding ValidBy depth payloadIn
 array-leaf w h vs = by-width (λ w. Array w vs → Leaf (arrayTag w vs) × (length (payload (arrayTag w vs)) ≡ 4 + length (intsBytes w vs))) w h
     (λ a. (record { valid = a; flat = refl }, long 1)) (λ a. (record { valid = a; flat = refl }, long 4)) (λ a. (record { valid = a; flat = refl }, long 8))
   where
@@ -183,7 +183,7 @@ module _ (t : List ℕ) (room : ℕ) where
       (λ s w. gives-guard (leb (length s) stringLimit) _ _ _ refl (λ l. gives-got (w, leb-true (length s) stringLimit l)))
 
   scalar-leaf : (k : Token) (p : ℕ) → TokenHeld k → Gives parseNumbers Leaf (scalarTag t room k p)
-  unfolding scalarTag ValidIn depth among
+  unfolding scalarTag ValidBy depth among
   scalar-leaf openCurly p h = gives-no refl
   scalar-leaf closedCurly p h = gives-no refl
   scalar-leaf openSquare p h = gives-no refl
@@ -284,7 +284,7 @@ module _ (t : List ℕ) (room : ℕ) where
 
     module _ (left : ℕ) (val : Reads) (right : Right (left - 1) val) where
       row-fine : (f k p u : ℕ) → 0 < k → p ≤ length t → length t < f + p → u ≤ room → Gives parseNumbers (RowFine (left - 1) f k p u) (elementsBy t room f val k p u)
-      unfolding elementsBy OneKind ValidIn depth many payloadIn among
+      unfolding elementsBy OneKind ValidBy depth many payloadIn among
       row-fine zero k p u o l m r = absurd (omega arith)
       row-fine (suc f) k p u o l m r =
           gives-bind (following t room 93 p textEnds (length t)) _ (following-in 93 p textEnds (length t) refl l)
@@ -309,7 +309,7 @@ module _ (t : List ℕ) (room : ℕ) where
       list-length ts = omega (arith, length-append (bytesOf 4 (many ts)) (elementBytes ts), digits-length 4 (many ts))
 
       from-fine : (p : ℕ) (x : Next) (u : ℕ) → 0 < left → NextFine t p x → u + 5 ≤ room → Gives parseNumbers (ValueFine left 0 p u) (listFrom t room val x (u + 5))
-      unfolding listFrom ValidIn depth many OneKind elementBytesIn
+      unfolding listFrom ValidBy depth many OneKind elementBytesIn
       from-fine p x u o h r = gives-elim (eqb (signOf (x .td .token)) 93)
           (λ _. gives-got (record {
             ahead = (omega (arith, h .1), h .2);
@@ -409,7 +409,7 @@ module _ (t : List ℕ) (room : ℕ) where
       key-text (numeral n) p = gives-no refl
 
       close-fine : (i p n u : ℕ) (earlier : List (List ℕ)) → p ≤ n → n ≤ length t → Gives parseNumbers (BlockFine (left - 1) p u earlier) (closeAt t room i n u)
-      unfolding closeAt ValidIn depth payloadIn hasEntry among
+      unfolding closeAt ValidBy depth payloadIn hasEntry among
       close-fine i p n u earlier l h =
           gives-guard (leb (u + 1) room) _ _ _ refl
           (λ e. gives-got (record { ahead = (l, h); valid = tt; apart = λ x _. refl; deep = omega arith; used = refl; fits = leb-true (u + 1) room e }))
@@ -438,7 +438,7 @@ module _ (t : List ℕ) (room : ℕ) where
 
       more-entries : (earlier : List (List ℕ)) (p q u : ℕ) (e : List ℕ × Value) (r : Block) → p ≤ q → EntryFine earlier q u e → BlockFine (left - 1) (e .1 .next) (e .1 .used) (e .0 ∷ earlier) r
           → BlockFine (left - 1) p u earlier (record { entries = entry (e .0) (e .1 .tag) (r .entries); next = r .next; used = r .used })
-      unfolding ValidIn depth payloadIn
+      unfolding ValidBy depth payloadIn
       more-entries earlier p q u e r l h k =
           let a = apart-entry earlier (e .0) (e .1 .tag) (r .entries) (h .new) (k .apart) in
           let x = payload (e .1 .tag) in
@@ -493,7 +493,7 @@ module _ (t : List ℕ) (room : ℕ) where
       -- ---- values
 
       value-fine : Right left (valueBy t room left val)
-      unfolding valueBy ValidIn depth payloadIn among
+      unfolding valueBy ValidBy depth payloadIn among
       value-fine want x n u h l = gives-elim (eqb (signOf (x .token)) 123)
           (λ _. gives-bind (compoundAt t room left val (x .index) n u) _ (compound-fine (x .index) n u l)
           (λ b k. gives-guard (eqb want 0 || eqb (kindOf (tree.compound (b .entries))) want) _ _ _ refl

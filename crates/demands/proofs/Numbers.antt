@@ -9,11 +9,12 @@ use native.Mathlib.Decide.{ℕ-discrete}
 use lib.Dec.{ltb, leb, eqb}
 use lib.ListN.{length}
 use borrow.Author.Tests.{eqb-true}
-use Rattle.form.specs.Form.{Form}
+use Rattle.form.specs.Form.{Form, Way}
 use Rattle.form.specs.Answer.{Out, got, no, guard, _>>=_, _>>_, pick, Count, counted, failed, badString, depthLimit, recordLimit, stringLimit, stepLimit}
 use Rattle.form.specs.Spans.{part}
 use Rattle.form.specs.Decoding.{wellFormedIn}
 use Rattle.form.specs.Layout.{layoutIn}
+use Rattle.form.specs.Turned.{recoded, turned}
 use Rattle.form.specs.Table.{Head, Forest, none, node, size, _⊕_, headOf, holds, valueOf}
 use Rattle.form.specs.Tables.{IsTable, Within}
 use Rattle.form.specs.Reading.{hasName, byteAt}
@@ -40,64 +41,65 @@ read-numbers form doc bytes room n p e = of-no e (document-sound form (wellForme
 
 -- ---- writing
 
-module _ (form : Form) (doc : List ℕ) where
-  string-any : (start len n : ℕ) → Gives writtenNumbers Any (stringFine form doc start len n)
+module _ (way : Way) (doc : List ℕ) where
+  string-any : (start len n : ℕ) → Gives writtenNumbers Any (stringFine way doc start len n)
   unfolding stringFine among
-  string-any start len n = gives-guard (leb len stringLimit) _ _ _ refl (λ _. gives-test (wellFormedIn (form .strings) (part doc start len)) _ _ refl)
+  string-any start len n = gives-guard (leb len stringLimit) _ _ _ refl (λ _. gives-guard (wellFormedIn (way .from .strings) (part doc start len)) _ _ _ refl
+      (λ _. gives-test (leb (length (recoded way (part doc start len))) stringLimit) _ _ refl))
 
-  payload-any : (h : Head) (n : ℕ) → Gives writtenNumbers Any (payloadFine form doc h n)
+  payload-any : (h : Head) (n : ℕ) → Gives writtenNumbers Any (payloadFine way doc h n)
   unfolding payloadFine
   payload-any h n = gives-elim (eqb (h .kind) 8) (λ _. string-any (h .start) (h .size) n) (λ _. gives-got tt)
 
-  judged-any : (left : ℕ) (list : Bool) (k : ℕ) (earlier : Forest) (n : ℕ) (f : Forest) → Gives writtenNumbers Any (judged form doc left list k earlier n f)
+  judged-any : (left : ℕ) (list : Bool) (k : ℕ) (earlier : Forest) (n : ℕ) (f : Forest) → Gives writtenNumbers Any (judged way doc left list k earlier n f)
   unfolding judged among
   judged-any left list k earlier n none = gives-got tt
   judged-any left list k earlier n (node h inner later) =
-      gives-then (stringFine form doc (h .name) (h .name-length) n) _ (string-any (h .name) (h .name-length) n)
+      gives-then (stringFine way doc (h .name) (h .name-length) n) _ (string-any (h .name) (h .name-length) n)
       (λ _. gives-guard (list || not (hasName doc (part doc (h .name) (h .name-length)) earlier)) _ _ _ refl
       (λ _. gives-guard (not (holds (h .kind)) || ltb 0 left) _ _ _ refl
       (λ _. gives-guard (not list || eqb (h .kind) k) _ _ _ refl
-      (λ _. gives-then (payloadFine form doc h n) _ (payload-any h n)
-      (λ _. gives-then (judged form doc (left - 1) (eqb (h .kind) 9) (h .list-kind) none (n + 1) inner) _
+      (λ _. gives-then (payloadFine way doc h n) _ (payload-any h n)
+      (λ _. gives-then (judged way doc (left - 1) (eqb (h .kind) 9) (h .list-kind) none (n + 1) inner) _
       (judged-any (left - 1) (eqb (h .kind) 9) (h .list-kind) none (n + 1) inner)
       (λ _. judged-any left list k (earlier ⊕ node h inner none) (n + 1 + size inner) later))))))
 
-  written-any : (h : Head) (inner : Forest) (room : ℕ) → Gives writtenNumbers Any (written form doc h inner room)
+  written-any : (h : Head) (inner : Forest) (room : ℕ) → Gives writtenNumbers Any (written way doc h inner room)
   unfolding written among
   written-any h inner room =
-      gives-then (judged form doc depthLimit false 0 none 0 (node h inner none)) _ (judged-any depthLimit false 0 none 0 (node h inner none))
-      (λ _. gives-guard (leb (length (layoutIn form (valueOf form doc h inner))) room) _ _ _ refl (λ _. gives-got tt))
+      gives-then (judged way doc depthLimit false 0 none 0 (node h inner none)) _ (judged-any depthLimit false 0 none 0 (node h inner none))
+      (λ _. gives-guard (leb (length (layoutIn (way .to) (turned way (valueOf (way .from) doc h inner)))) room) _ _ _ refl (λ _. gives-got tt))
 
-pub write-numbers : (form : Form) → IsWriteNumbers form
-write-numbers form doc h inner room n p e = gives-number e (written-any form doc h inner room)
+pub write-numbers : (way : Way) → IsWriteNumbers way
+write-numbers way doc h inner room n p e = gives-number e (written-any way doc h inner room)
 
 -- A refusal's number is one of a write's, and what is beside it is 0 but in 4.
 abbrev Told : Count → Type 0
 Told (counted k) = Unit {0}
 Told (failed n p r) = (among writeNumbers n ≡ true) × ((n ≡ 4 → ⊥) → r ≡ 0)
 
-answer-told : (form : Form) (doc t : List ℕ) (x : Out (List ℕ)) → Gives writeNumbers Any x → Told (answerOf form doc t x)
-answer-told form doc t (got bs) h = tt
-answer-told form doc t (no m n) h = go (eqb m badString) refl
+answer-told : (way : Way) (doc t : List ℕ) (x : Out (List ℕ)) → Gives writeNumbers Any x → Told (answerOf way doc t x)
+answer-told way doc t (got bs) h = tt
+answer-told way doc t (no m n) h = go (eqb m badString) refl
   where
-    go : (b : Bool) → eqb m badString ≡ b → Told (pick b (failed m (badPlace form doc (headOf t n)) n) (failed m n 0))
+    go : (b : Bool) → eqb m badString ≡ b → Told (pick b (failed m (badPlace way doc (headOf t n)) n) (failed m n 0))
     go true e = (gives-number refl h, λ d. absurd (d (eqb-true m badString e)))
     go false e = (gives-number refl h, λ d. refl)
 
 -- In each of the promise's cases; both claims can be decided.
-pub write-refusals : (form : Form) → IsWriteRefusals form
+pub write-refusals : (way : Way) → IsWriteRefusals way
 unfolding among
-write-refusals form doc t o answer o′ n p r w e = (each (Bool-discrete (among writeNumbers n) true) (λ x. x .0), λ u. each (ℕ-discrete r 0) (λ x. x .1 u))
+write-refusals way doc t o answer o′ n p r w e = (each (Bool-discrete (among writeNumbers n) true) (λ x. x .0), λ u. each (ℕ-discrete r 0) (λ x. x .1 u))
   where
-    from : (x : Out (List ℕ)) → Gives writeNumbers Any x → answer ≡ answerOf form doc t x → Told (failed n p r)
-    from x h a = subst Told (sym a ∙ e) (answer-told form doc t x h)
+    from : (x : Out (List ℕ)) → Gives writeNumbers Any x → answer ≡ answerOf way doc t x → Told (failed n p r)
+    from x h a = subst Told (sym a ∙ e) (answer-told way doc t x h)
 
     each : {C : Type 0} → Dec C → (Told (failed n p r) → C) → C
     each d f =
         in-each-case {W = Within (length doc) t} {T = IsTable (length doc) t} d
         (λ l. f (from (no 9 0) (gives-no refl) (w .large l .answer-is)))
         (λ l u. f (from (no 10 0) (gives-no refl) (w .unfit l u .answer-is)))
-        (λ l i. f (from _ (gives-all refl (written-any form doc (i .head) (i .inner) (length o))) (w .fit l i .answer-is)))
+        (λ l i. f (from _ (gives-all refl (written-any way doc (i .head) (i .inner) (length o))) (w .fit l i .answer-is)))
 
 -- ---- stored lines
 

@@ -3,7 +3,7 @@
 use Prim.Native.Nat.{ℕ}
 use mathlib.Core.Path.{_≡_, ap, sym, _∙_}
 use mathlib.Core.List.{List}
-use Rattle.form.specs.Form.{Form}
+use Rattle.form.specs.Form.{Form, Way}
 use Rattle.form.specs.Tables.{IsTable, Within}
 use Rattle.form.specs.Moved.{Edition}
 use Rattle.form.proofs.Outcomes as outcomes
@@ -14,8 +14,8 @@ use Rattle.demands.specs.Outcomes.{IsOneWrite, IsOneQuery}
 use Rattle.demands.proofs.Stored.{one-write-lines}
 use Rattle.demands.proofs.Moved.{one-move}
 
-pub one-write : (form : Form) → IsOneWrite form
-one-write form = outcomes.one-write form
+pub one-write : (way : Way) → IsOneWrite way
+one-write way = outcomes.one-write way
 
 pub one-query : (form : Form) → IsOneQuery form
 one-query form = outcomes.one-query form
@@ -31,10 +31,10 @@ one-table-called d t a₁ a₂ g h =
     (λ w i. g .fit w i ∙ sym (h .fit w i))
 
 -- Two outcomes of a write are one: the answer, the output and the table.
-pub one-write-called : (form : Form) (doc t o a₁ a₂ o₁ o₂ t₁ t₂ : List ℕ) → WriteCalled form doc t t₁ o o₁ a₁ → WriteCalled form doc t t₂ o o₂ a₂
+pub one-write-called : (way : Way) (doc t o a₁ a₂ o₁ o₂ t₁ t₂ : List ℕ) → WriteCalled way doc t t₁ o o₁ a₁ → WriteCalled way doc t t₂ o o₂ a₂
     → (a₁ ≡ a₂) × (o₁ ≡ o₂) × (t₁ ≡ t₂)
-one-write-called form doc t o a₁ a₂ o₁ o₂ t₁ t₂ g h =
-    let e = one-write form doc t o (g .result) (h .result) o₁ o₂ (g .is) (h .is) in
+one-write-called way doc t o a₁ a₂ o₁ o₂ t₁ t₂ g h =
+    let e = one-write way doc t o (g .result) (h .result) o₁ o₂ (g .is) (h .is) in
     (g .words-are ∙ ap besideWords (e .0) ∙ sym (h .words-are), e .1, g .kept ∙ sym (h .kept))
 
 -- Two outcomes of writing lines are one: the answer and the output.

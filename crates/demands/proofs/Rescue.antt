@@ -8,10 +8,10 @@ use native.Mathlib.Omega.{arith}
 use lib.Dec.{leb, eqb}
 use borrow.Author.Tests.{leb-true, leb-false, eqb-true, eqb-false, ne-eqb}
 use lib.ListN.{length}
-use Rattle.form.specs.Form.{Form}
+use Rattle.form.specs.Form.{Form, stays}
 use Rattle.form.specs.Answer.{Out, got, no, guard, _>>_, pick, outputFull, documentLimit, recordLimit, depthLimit}
 use Rattle.form.specs.Spans.{part}
-use Rattle.form.specs.Tree.{compound, ended, entry, Document, LawfulIn, ValidIn, depth, TextIn, entriesCount}
+use Rattle.form.specs.Tree.{compound, ended, entry, Document, LawfulIn, depth, TextIn, entriesCount, ValidBy}
 use Rattle.form.specs.Layout.{layoutIn}
 use Rattle.form.specs.Table.{Head, Forest, none, node, size, valueBy, tagsOf, entriesOf, valueOf}
 use Rattle.form.specs.Tables.{Fair}
@@ -36,6 +36,7 @@ use Rattle.demands.specs.Rescue.{IsRescuedLines, IsCutRefused, IsEveryCu
 use Rattle.form.proofs.Answers.{of-got}
 use Rattle.demands.proofs.Fields.{StringLaw, string-length, string-sound}
 use Rattle.demands.proofs.Tags.{readAt}
+use Rattle.demands.proofs.Carried.{carried-stays, layout-stays}
 use Rattle.demands.proofs.Judged.{value-compound, counted, lawful-root}
 use Rattle.demands.proofs.Tabled.{root-is}
 use Rattle.demands.proofs.Reading.{canonical, sound, complete}
@@ -60,7 +61,7 @@ rescued-when form doc room = (λ p s e w. (_, kept-of form doc room w e), λ k e
 -- A root that is kept is whole.
 root-whole : (form : Form) (doc : List ℕ) (room name len : ℕ) (k : Kept) (inner : Forest) → room ≤ recordLimit → length doc ≤ 16777216 → name + len ≤ length doc → TextIn form (part doc name len)
     → k .forest ≡ node (openHead 10 name len inner) inner none → GoodTag form doc room depthLimit 10 name len 0 (openHead 10 name len inner) inner → Whole form doc room k
-unfolding ValidIn depth valueBy
+unfolding ValidBy depth valueBy
 root-whole form doc room name len k inner few small w text e g =
     let h = openHead 10 name len inner in
     let fair : Fair (length doc) false (node h inner none) =
@@ -74,7 +75,7 @@ root-whole form doc room name len k inner few small w text e g =
       table-inner = refl;
       small = record { bytes = small; words = omega (arith, flat-length 0 0 (node h inner none), size-one h inner, g .fits) };
       lawful = record { name = text; valid = g .valid; depth-le = g .deep };
-      records = sym (counted form doc false inner (g .fair) .entries);
+      records = sym (counted (stays form) doc false inner (g .fair) .entries);
       fits = omega (arith, g .fits);
     }
 
@@ -103,8 +104,8 @@ roots-same : (form : Form) (doc₁ doc₂ : List ℕ) (h i : Head) (inner inside
     → Stand form doc₁ doc₂ false (node h inner none) (node i inside none)
 unfolding entriesOf valueBy
 roots-same form doc₁ doc₂ h i inner inside a b e =
-    λ j. entry (e j .name) ((value-compound form doc₁ h (tagsOf form doc₁ inner) (entriesOf form doc₁ inner) a
-    ∙ ap (λ (d : Document). compound (d .root)) e ∙ sym (value-compound form doc₂ i (tagsOf form doc₂ inside) (entriesOf form doc₂ inside) b)) j) ended
+    λ j. entry (e j .name) ((value-compound (stays form) doc₁ h (tagsOf form doc₁ inner) (entriesOf form doc₁ inner) a
+    ∙ ap (λ (d : Document). compound (d .root)) e ∙ sym (value-compound (stays form) doc₂ i (tagsOf form doc₂ inside) (entriesOf form doc₂ inside) b)) j) ended
 
 -- What keeps the rules is read back, with the same records.
 read-whole : (form : Form) (doc : List ℕ) (room : ℕ) (h : Head) (inner : Forest) → h .kind ≡ 10 → Fair (length doc) false (node h inner none) → LawfulIn form (valueOf form doc h inner)
@@ -118,7 +119,7 @@ read-whole form doc room h inner ten fair lawful records fits rest small =
     let c = complete form d (layoutIn form d) rest room (canonical form d) lawful (omega (arith, records)) small in
     let x = c .x in
     let f = of-got (c .accepted) (root-is form bs room) in
-    let n = counted form bs (eqb (x .head .kind) 9) (x .inner) (fair-inner (length bs) false (x .head) (x .inner) none (f .fair)) in (
+    let n = counted (stays form) bs (eqb (x .head .kind) 9) (x .inner) (fair-inner (length bs) false (x .head) (x .inner) none (f .fair)) in (
       c,
       omega (arith, n .entries, ap (λ (d : Document). entriesCount (d .root)) (c .tree), records, size-one h inner),
       same-but form doc bs false (node h inner none) (node (x .head) (x .inner) none) fair (f .fair) (roots-same form doc bs h (x .head) inner (x .inner) ten (f .compound) (sym (c .tree))),
@@ -142,8 +143,10 @@ rescued-long form doc bytes room k e = document-long form doc (wf form) bytes ro
 pub rescued-written : (form : Form) → IsRescuedWritten form
 unfolding written
 rescued-written form doc bytes room k few e w out =
-    subst (λ f. written form doc (w .head) (w .inner) out ≡ pick (leb (length (layoutIn form (documentOf form doc f))) out) (got (layoutIn form (documentOf form doc f))) (no outputFull 0))
-    (sym (w .is)) (rw (lawful-root form doc (w .head) (w .inner) (whole-fair form w .0) (whole-fair form w .1) (w .lawful)) (go (leb (length (layoutIn form d)) out)))
+    subst (λ f. written (stays form) doc (w .head) (w .inner) out ≡ pick (leb (length (layoutIn form (documentOf form doc f))) out) (got (layoutIn form (documentOf form doc f))) (no outputFull 0))
+    (sym (w .is))
+    (rw (lawful-root (stays form) doc (w .head) (w .inner) (whole-fair form w .0) (whole-fair form w .1) (carried-stays form d (w .lawful)), layout-stays form d)
+    (go (leb (length (layoutIn form d)) out)))
   where
     d : Document
     d = valueOf form doc (w .head) (w .inner)
@@ -227,10 +230,10 @@ rescued-begins form doc rest bytes room room′ k x e f =
 -- ---- the answer
 
 -- What a rescue answers: what is kept, laid out in the room for it; or a refusal with one of its numbers, and a count in 24 alone.
-abbrev pub Way : Form → List ℕ → ℕ → ℕ → ℕ → Rescue → Type 0
-Way form doc room lines out (saved bs ls) =
+abbrev pub Outcome : Form → List ℕ → ℕ → ℕ → ℕ → Rescue → Type 0
+Outcome form doc room lines out (saved bs ls) =
     (k : Kept) × (keptOf form doc room ≡ got k) × (bs ≡ layoutIn form (documentOf form doc (k .forest))) × (ls ≡ k .lines) × (length bs ≤ out) × (length ls ≤ lines)
-Way form doc room lines out (refused n p c) = (among rescueNumbers n ≡ true) × ((n ≡ 24 → ⊥) → c ≡ 0)
+Outcome form doc room lines out (refused n p c) = (among rescueNumbers n ≡ true) × ((n ≡ 24 → ⊥) → c ≡ 0)
 
 -- A read's number but 1 is a rescue's.
 read-number : (n : ℕ) → among readNumbers n ≡ true → (n ≡ 1 → ⊥) → among rescueNumbers n ≡ true
@@ -239,36 +242,36 @@ read-number n h d = among-all (2 ∷ 3 ∷ 4 ∷ 5 ∷ 6 ∷ 7 ∷ 8 ∷ 9 ∷ [
 
 module _ (form : Form) (doc : List ℕ) (bytes : Bytes doc) (room lines out : ℕ) where
   -- One that is known is the one.
-  way : {r : Rescue} → rescued form doc room lines out ≡ r → Way form doc room lines out r → Way form doc room lines out (rescued form doc room lines out)
-  way e w = subst (Way form doc room lines out) (sym e) w
+  way : {r : Rescue} → rescued form doc room lines out ≡ r → Outcome form doc room lines out r → Outcome form doc room lines out (rescued form doc room lines out)
+  way e w = subst (Outcome form doc room lines out) (sym e) w
 
   kept-way : (k : Kept) → keptOf form doc room ≡ got k → (a b : Bool) → leb (length (k .lines)) lines ≡ a → leb (length (layoutIn form (documentOf form doc (k .forest)))) out ≡ b
-      → Way form doc room lines out (rescued form doc room lines out)
+      → Outcome form doc room lines out (rescued form doc room lines out)
   unfolding among
   kept-way k f false b u v = way (rescued-short form doc room lines out f (leb-false _ lines u)) (refl, λ n. absurd (n refl))
   kept-way k f true false u v = way (rescued-full form doc room lines out f (leb-true _ lines u) (leb-false _ out v)) (refl, λ n. refl)
   kept-way k f true true u v =
       way (rescued-saved form doc room lines out f (leb-true _ lines u) (leb-true _ out v)) (k, f, refl, refl, leb-true _ out v, leb-true _ lines u)
 
-  named-way : (q : ℕ) → documentAt form doc room ≡ no 1 q → (o : Out Span) → stringAt form doc 1 ≡ o → Way form doc room lines out (rescued form doc room lines out)
+  named-way : (q : ℕ) → documentAt form doc room ≡ no 1 q → (o : Out Span) → stringAt form doc 1 ≡ o → Outcome form doc room lines out (rescued form doc room lines out)
   unfolding among
   named-way q a (no m r) b = way (rescued-root form doc room lines out a b) (refl, λ n. refl)
   named-way q a (got s) b = kept-way _ (kept-of form doc room b a) (leb _ lines) (leb _ out) refl refl
 
-  cut-way : (m q : ℕ) → documentAt form doc room ≡ no m q → (t : Bool) → eqb m 1 ≡ t → Way form doc room lines out (rescued form doc room lines out)
+  cut-way : (m q : ℕ) → documentAt form doc room ≡ no m q → (t : Bool) → eqb m 1 ≡ t → Outcome form doc room lines out (rescued form doc room lines out)
   cut-way m q a true t = named-way q (a ∙ ap (λ m. no m q) (eqb-true m 1 t)) (stringAt form doc 1) refl
   cut-way m q a false t =
       let d = eqb-false m 1 t in
       way (rescued-other form doc room lines out a d) (read-number m (read-numbers form doc bytes room m q a) d, λ n. refl)
 
   -- So it is of every document.
-  pub rescue-way : Way form doc room lines out (rescued form doc room lines out)
+  pub rescue-way : Outcome form doc room lines out (rescued form doc room lines out)
   unfolding among
   rescue-way = go (documentAt form doc room) refl
     where
-      go : (o : Out One) → documentAt form doc room ≡ o → Way form doc room lines out (rescued form doc room lines out)
+      go : (o : Out One) → documentAt form doc room ≡ o → Outcome form doc room lines out (rescued form doc room lines out)
       go (got x) a = way (rescued-accepted form doc room lines out a) (refl, λ n. refl)
       go (no m q) a = cut-way m q a (eqb m 1) refl
 
 pub rescue-numbers : (form : Form) → IsRescueNumbers form
-rescue-numbers form doc bytes room lines out n p c e = subst (Way form doc room lines out) e (rescue-way form doc bytes room lines out)
+rescue-numbers form doc bytes room lines out n p c e = subst (Outcome form doc room lines out) e (rescue-way form doc bytes room lines out)

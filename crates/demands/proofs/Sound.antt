@@ -12,7 +12,7 @@ use Rattle.form.specs.Form.{Form}
 use Rattle.form.specs.Answer.{Out, got, guard, _>>_, _>>=_}
 use Rattle.form.specs.Spans.{part}
 use Rattle.form.specs.Numbers.{bytesIn}
-use Rattle.form.specs.Tree.{Tag, Tags, nil, more, kindOf, many, tagCount, tagsCount, entriesCount, depth, tagsDepth, entriesDepth, hasEntry, OneKind, Alike, ValidIn, ValidTagsIn, ValidEntriesIn}
+use Rattle.form.specs.Tree.{Tag, Tags, nil, more, kindOf, many, tagCount, tagsCount, entriesCount, depth, tagsDepth, entriesDepth, hasEntry, OneKind, Alike, ValidIn, ValidTagsIn, ValidEntriesIn, ValidBy}
 use Rattle.form.specs.Layout.{stringBytesIn, ListId, PayloadIn, ElementsIn, EntryBytesIn}
 use Rattle.form.specs.Table.{Forest, none, node, size, _⊕_, holds, valueBy, tagsOf, entriesOf}
 use Rattle.form.specs.Reading.{One, Run, Inside, Span, ListHead, Entry, end, named, heldOne, before, hasName, entryAt, listHeadAt}
@@ -107,7 +107,7 @@ module _ (form : Form) (doc : List ℕ) (wf : StringLaw form) (bytes : Bytes doc
   module _ (d : ℕ) (P : Sounds d) where
     more-tags : (k c at n : ℕ) (x : One) (r : Run) → TagSound form doc room d k 0 0 at n x → TagsSound form doc room d k c (x .next) (n + 1 + size (x .inner)) r
         → TagsSound form doc room d k (suc c) at n (before x r)
-    unfolding ElementsIn ValidIn OneKind depth tagCount many tagsOf size
+    unfolding ElementsIn ValidBy OneKind depth tagCount many tagsOf size
     more-tags k c at n x r t w = record {
       bs = t .bs ++ w .bs;
       sits = sits-join (t .bs) (w .bs) (t .sits) (subst (λ q. Sits doc q (w .bs)) (t .next) (w .sits));
@@ -123,7 +123,7 @@ module _ (form : Form) (doc : List ℕ) (wf : StringLaw form) (bytes : Bytes doc
 
     tags-sound : (c k at n : ℕ) → (0 < c → (0 < k) × (k ≤ 12)) → at ≤ length doc → n ≤ room
         → Answers (Numbered form doc) (TagsSound form doc room d k c at n) (elements form doc (readAt form doc room d) c k at n)
-    unfolding elements ElementsIn ValidIn OneKind depth tagCount many tagsOf size
+    unfolding elements ElementsIn ValidBy OneKind depth tagCount many tagsOf size
     tags-sound zero k at n h l r = got-answers (record {
       bs = [];
       sits = sits-nil l;
@@ -146,7 +146,7 @@ module _ (form : Form) (doc : List ℕ) (wf : StringLaw form) (bytes : Bytes doc
     more-entries : (kind : ℕ) (s : Span) (at n : ℕ) (earlier : Forest) (x : One) (r : Run) → NamedIs form doc at kind s → hasName doc (part doc (s .start) (s .size)) earlier ≡ false
         → TagSound form doc room d kind (s .start) (s .size) (s .next) n x → EntriesSound form doc room d (x .next) (n + 1 + size (x .inner)) (earlier ⊕ node (x .head) (x .inner) none) r
         → EntriesSound form doc room d at n earlier (before x r)
-    unfolding EntryBytesIn ValidIn depth tagCount entriesOf size
+    unfolding EntryBytesIn ValidBy depth tagCount entriesOf size
     more-entries kind s at n earlier x r i new t w =
         let name = part doc (s .start) (s .size) in
         let hd = kind ∷ stringBytesIn form name in
@@ -173,7 +173,7 @@ module _ (form : Form) (doc : List ℕ) (wf : StringLaw form) (bytes : Bytes doc
         → Answers (Numbered form doc) (EntriesSound form doc room d at n earlier) (entries form doc (readAt form doc room d) fuel earlier at n)
 
     entries-sound : (fuel : ℕ) → EntriesBy fuel
-    unfolding entries EntryBytesIn ValidIn depth tagCount entriesOf size hasEntry among
+    unfolding entries EntryBytesIn ValidBy depth tagCount entriesOf size hasEntry among
     entries-sound zero at n earlier l f r = absurd (omega arith)
     entries-sound (suc fuel) at n earlier l f r = bind-answers (entryAt form doc at) _ (entry-sound form doc wf bytes at) (go (entries-sound fuel))
       where
@@ -204,7 +204,7 @@ module _ (form : Form) (doc : List ℕ) (wf : StringLaw form) (bytes : Bytes doc
             (λ r w. got-answers (more-entries kind s at n earlier x r i (not-true _ e) t w))))
 
     list-sound : (at n : ℕ) → at ≤ length doc → n ≤ room → Answers (Numbered form doc) (HeldSound form doc room (suc d) 9 at n) (insideAt form doc room (suc d) 9 at n)
-    unfolding insideAt containerAt listAt valueBy PayloadIn ValidIn depth tagCount kindOf
+    unfolding insideAt containerAt listAt valueBy PayloadIn ValidBy depth tagCount kindOf
     list-sound at n l r =
         bind-answers (listHeadAt form doc at) _ (head-sound form doc bytes at)
         (λ h i. bind-answers (elements form doc (readAt form doc room d) (h .count) (h .kind) (at + 5) n) _
@@ -232,7 +232,7 @@ module _ (form : Form) (doc : List ℕ) (wf : StringLaw form) (bytes : Bytes doc
             }
 
     compound-sound : (at n : ℕ) → at ≤ length doc → n ≤ room → Answers (Numbered form doc) (HeldSound form doc room (suc d) 10 at n) (insideAt form doc room (suc d) 10 at n)
-    unfolding insideAt containerAt compoundAt valueBy PayloadIn ValidIn depth tagCount kindOf
+    unfolding insideAt containerAt compoundAt valueBy PayloadIn ValidBy depth tagCount kindOf
     compound-sound at n l r =
         bind-answers (entries form doc (readAt form doc room d) (suc (length doc)) none at n) _ (entries-sound (suc (length doc)) at n none l (omega arith) r)
         (λ r w. got-answers (record {

@@ -5,64 +5,58 @@ use mathlib.Core.Bool.{false}
 use mathlib.Core.List.{List, [], append-nil}
 use mathlib.Core.Path.{_≡_, refl, sym, ap, subst, _∙_}
 use native.Mathlib.Omega.{arith}
-use borrow.Author.Tests.{leb-true, le-leb, lt-leb}
-use lib.Dec.{leb, eqb}
+use lib.Dec.{eqb}
 use lib.ListN.{length, take, length-append}
 use lib.Seq.{length-take-le}
-use Rattle.form.specs.Form.{Form}
-use Rattle.form.specs.Answer.{got, depthLimit, recordLimit}
+use Rattle.form.specs.Form.{Form, stays}
+use Rattle.form.specs.Answer.{got, recordLimit}
 use Rattle.form.specs.Tree.{LawfulIn}
 use Rattle.form.specs.Layout.{layoutIn}
 use Rattle.form.specs.Table.{none, node, size, valueOf}
 use Rattle.form.specs.Tables.{IsTable, Within}
 use Rattle.form.specs.Reading.{One, documentAt}
-use Rattle.form.specs.Writing.{judged, written}
-use Rattle.form.proofs.Answer.{guard-got}
+use Rattle.form.specs.Writing.{written}
 use Rattle.form.proofs.Table.{size-one, flat-length}
 use Rattle.form.proofs.Tables.{table-length, fair-inner}
 use Rattle.demands.specs.Reading.{Complete}
 use Rattle.demands.specs.Writing.{tableValue, IsWrittenLawful, IsLawfulWritten, IsLawfulFull, IsReadBack, IsRewritten, IsDomain}
-use Rattle.demands.proofs.Judged.{then-got, root-lawful, lawful-root, counted}
+use Rattle.demands.proofs.Judged.{counted}
+use Rattle.demands.proofs.Carried.{carried-source, carried-stays, layout-stays, carried-written, carried-full, written-carried}
 use Rattle.form.proofs.Answers.{of-got}
 use Rattle.demands.proofs.Tabled.{root-is}
 use Rattle.demands.proofs.Near.{near}
 use Rattle.demands.proofs.Reading.{canonical, sound, complete}
 
 -- A table has no more records than the limit allows.
-table-few : (doc w : List ℕ) → Within (length doc) w → (t : IsTable (length doc) w) → 1 + size (t .inner) ≤ recordLimit
+pub table-few : (doc w : List ℕ) → Within (length doc) w → (t : IsTable (length doc) w) → 1 + size (t .inner) ≤ recordLimit
 table-few doc w s t = omega (arith, s .words, table-length (length doc) w t)
 
 -- What is written is the layout of the table's document, which keeps the rules.
 pub written-lawful : (form : Form) → IsWrittenLawful form
-unfolding written
 written-lawful form doc w bytes s t room bs e =
-    let a = then-got (judged form doc depthLimit false 0 none 0 (node (t .head) (t .inner) none)) _ e in
-    let b = guard-got (leb (length (layoutIn form (tableValue form doc w t))) room) _ _ _ (a .1) in
-    let q : layoutIn form (tableValue form doc w t) ≡ bs = cc (b .1) in
-    record {
-      laid = sym q;
-      lawful = root-lawful form doc (t .head) (t .inner) (t .compound) (t .fair) bytes (s .bytes) (omega (arith, table-few doc w s t, size-one (t .head) (t .inner))) (a .0);
-      fits = omega (arith, leb-true (length (layoutIn form (tableValue form doc w t))) room (b .0), ap length q);
-    }
+    let few : size (node (t .head) (t .inner) none) ≤ recordLimit = omega (arith, table-few doc w s t, size-one (t .head) (t .inner)) in
+    let x = written-carried (stays form) doc (t .head) (t .inner) (t .compound) (t .fair) bytes (s .bytes) few room bs e in
+    record { laid = x .is ∙ layout-stays form (tableValue form doc w t); lawful = carried-source (stays form) (tableValue form doc w t) (x .carried); fits = x .fits }
 
 -- Every table whose document keeps the rules is written, where there is room.
 pub lawful-written : (form : Form) → IsLawfulWritten form
-unfolding written
 lawful-written form doc w bytes s t room lawful fits =
-    rw (lawful-root form doc (t .head) (t .inner) (t .compound) (t .fair) lawful, le-leb (length (layoutIn form (tableValue form doc w t))) room fits) refl
+    let d = tableValue form doc w t in
+    let e = layout-stays form d in
+    carried-written (stays form) doc (t .head) (t .inner) (t .compound) (t .fair) (carried-stays form d lawful) room (omega (arith, ap length e, fits)) ∙ ap got e
 
 -- It is refused with 13 where there is none.
 pub lawful-full : (form : Form) → IsLawfulFull form
-unfolding written
 lawful-full form doc w bytes s t room lawful short =
-    rw (lawful-root form doc (t .head) (t .inner) (t .compound) (t .fair) lawful, lt-leb (length (layoutIn form (tableValue form doc w t))) room short) refl
+    let d = tableValue form doc w t in
+    carried-full (stays form) doc (t .head) (t .inner) (t .compound) (t .fair) (carried-stays form d lawful) room (omega (arith, ap length (layout-stays form d), short))
 
 -- What is written is read back.
 pub read-back : (form : Form) → IsReadBack form
 read-back form doc w bytes s t room bs e rest small =
     let x = written-lawful form doc w bytes s t room bs e in
     let d = tableValue form doc w t in
-    let c = counted form doc (eqb (t .head .kind) 9) (t .inner) (fair-inner (length doc) false (t .head) (t .inner) none (t .fair)) in
+    let c = counted (stays form) doc (eqb (t .head .kind) 9) (t .inner) (fair-inner (length doc) false (t .head) (t .inner) none (t .fair)) in
     rw (x .laid) (complete form d (layoutIn form d) rest recordLimit (canonical form d) (x .lawful) (omega (arith, table-few doc w s t, c .entries)) (rw (x .laid) at small))
 
 -- ---- write after read
@@ -70,11 +64,12 @@ read-back form doc w bytes s t room bs e rest small =
 -- What was read is written again, with room for it.
 again : (form : Form) (doc : List ℕ) (room : ℕ) (x : One) → documentAt form doc room ≡ got x → LawfulIn form (valueOf form doc (x .head) (x .inner))
     → (to : ℕ) → length (layoutIn form (valueOf form doc (x .head) (x .inner))) ≤ to
-    → written form doc (x .head) (x .inner) to ≡ got (layoutIn form (valueOf form doc (x .head) (x .inner)))
-unfolding written
+    → written (stays form) doc (x .head) (x .inner) to ≡ got (layoutIn form (valueOf form doc (x .head) (x .inner)))
 again form doc room x e lawful to fits =
     let f = of-got e (root-is form doc room) in
-    rw (lawful-root form doc (x .head) (x .inner) (f .compound) (f .fair) lawful, le-leb (length (layoutIn form (valueOf form doc (x .head) (x .inner)))) to fits) refl
+    let d = valueOf form doc (x .head) (x .inner) in
+    let same = layout-stays form d in
+    carried-written (stays form) doc (x .head) (x .inner) (f .compound) (f .fair) (carried-stays form d lawful) to (omega (arith, ap length same, fits)) ∙ ap got same
 
 -- The table that reading leaves is written as the bytes consumed, but at the ids of empty lists.
 pub rewritten : (form : Form) → IsRewritten form

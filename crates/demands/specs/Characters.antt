@@ -7,7 +7,7 @@ use Prim.Native.String as text
 use mathlib.Core.Path.{_≡_}
 use mathlib.Core.List.{List, [], _∷_, map}
 use lib.ListN.{length}
-use Rattle.form.specs.Form.{Form, java}
+use Rattle.form.specs.Form.{Form, Way, java, stays}
 use Rattle.form.specs.Answer.{Out, got, no, Count, counted, failed, badString}
 use Rattle.form.specs.Spans.{part}
 use Rattle.form.specs.Strings.{WellFormedIn, FirstBadIn}
@@ -42,10 +42,10 @@ pub data BrokenRecord (form : Form) (doc : List ℕ) (h : Head) (p : ℕ) : Type
       → p ≡ h .start + k → BrokenRecord form doc h p
 
 -- `write-character`: a write of a table that is refused with 4 points there, in the record beside the place, which is one of the table's.
-abbrev pub IsWriteCharacter : Form → Type 0
-IsWriteCharacter form =
+abbrev pub IsWriteCharacter : Way → Type 0
+IsWriteCharacter way =
     (doc t t′ o o′ : List ℕ) (p n : ℕ) → Within (length doc) t → IsTable (length doc) t
-    → WriteCalled form doc t t′ o o′ (badString ∷ p ∷ n ∷ 0 ∷ 0 ∷ 0 ∷ 0 ∷ 0 ∷ []) → (9 * n + 9 ≤ length t) × BrokenRecord form doc (headOf t n) p
+    → WriteCalled way doc t t′ o o′ (badString ∷ p ∷ n ∷ 0 ∷ 0 ∷ 0 ∷ 0 ∷ 0 ∷ []) → (9 * n + 9 ≤ length t) × BrokenRecord (way .from) doc (headOf t n) p
 
 -- ---- by example
 
@@ -100,7 +100,7 @@ writes =
 
 -- What writing those two records answers.
 abbrev pub writtenTwo : List ℕ → List ℕ → Count
-writtenTwo doc t = answerOf java doc t (written java doc (headOf t 0) (node (headOf t 1) none none) 64)
+writtenTwo doc t = answerOf (stays java) doc t (written (stays java) doc (headOf t 0) (node (headOf t 1) none none) 64)
 
 -- `write-examples`: the definition answers each as it says.
 abbrev pub AreWriteExamples : Type 0

@@ -8,7 +8,7 @@ use mathlib.Core.Logic.{_⊎_}
 use mathlib.Core.List.{List, [], _∷_}
 use mathlib.Core.Bool.{true, false}
 use lib.ListN.{length, drop, getD, replicate}
-use Rattle.form.specs.Form.{Form, Rule}
+use Rattle.form.specs.Form.{Form, Way, Rule}
 use Rattle.form.specs.Answer.{badString, overLimit, moreMatches}
 use Rattle.form.specs.Moved.{Edition}
 use Rattle.snbt_form.specs.Lexing.{among}
@@ -53,8 +53,8 @@ Alone P m a = (m ≡ []) × P a
 pub record DemandOne : Type 0 where
   pub read : (form : Form) (doc t : List ℕ) → Bytes doc → Answers (ReadCalled form doc t) readNumbers [] t (replicate (length t) 0) (λ a. 9 * getD a 3 0)
   pub is-table : (d : ℕ) (t : List ℕ) → Answers (Alone (TableCalled d t)) (overLimit ∷ []) [] [] [] (λ a. 0)
-  pub write : (form : Form) (doc t t′ o : List ℕ) → Answers (WriteCalled form doc t t′ o) writeNumbers (badString ∷ []) o o (λ a. getD a 2 0)
-  pub write-table : (form : Form) (doc t t′ o o′ a : List ℕ) → WriteCalled form doc t t′ o o′ a → t′ ≡ t
+  pub write : (way : Way) (doc t t′ o : List ℕ) → Answers (WriteCalled way doc t t′ o) writeNumbers (badString ∷ []) o o (λ a. getD a 2 0)
+  pub write-table : (way : Way) (doc t t′ o o′ a : List ℕ) → WriteCalled way doc t t′ o o′ a → t′ ≡ t
   pub rescue : (form : Form) (doc t t′ o c c′ : List ℕ) → Bytes doc → Answers (λ o′ a. RescueCalled form doc t t′ o o′ c c′ a) rescueNumbers (moreMatches ∷ []) o o (λ a. getD a 2 0)
   pub rescue-changes : (form : Form) (doc t t′ o o′ c : List ℕ) → Bytes doc → Answers (RescueCalled form doc t t′ o o′ c) rescueNumbers (moreMatches ∷ []) c c (λ a. 3 * getD a 3 0)
   pub rescue-table : (form : Form) (doc t t′ o o′ c c′ a : List ℕ) → RescueCalled form doc t t′ o o′ c c′ a → (t″ b : List ℕ) → ReadCalled form doc t t″ b → t′ ≡ t″

@@ -8,10 +8,11 @@ use Prim.Native.Nat.{ℕ, _+_, _*_, _≤_, _<_}
 use mathlib.Core.Path.{_≡_}
 use mathlib.Core.List.{List, [], _∷_, _++_}
 use lib.ListN.{length, take}
-use Rattle.form.specs.Form.{Form, java}
+use Rattle.form.specs.Form.{Form, Way, java, stays}
 use Rattle.form.specs.Answer.{got, outputFull, documentLimit, recordLimit}
 use Rattle.form.specs.Spans.{over}
-use Rattle.form.specs.Tree.{Document, Lawful, LawfulIn, entriesCount}
+use Rattle.form.specs.Tree.{Document, Lawful, LawfulIn, entriesCount, LawfulBy}
+use Rattle.form.specs.Turned.{Carried, turned, meant}
 use Rattle.form.specs.Layout.{LayoutIn, layoutIn}
 use Rattle.form.specs.Tables.{IsTable, Within}
 use Rattle.form.specs.Reading.{roomOf}
@@ -65,10 +66,17 @@ pub record DemandTwo : Type 0 where
   -- every layout of a lawful document within the limits is accepted with that document, whatever follows it
   pub complete : (form : Form) (d : Document) (bs rest : List ℕ) → LayoutIn form d bs → LawfulIn form d → ReadAs form (bs ++ rest) (length bs) d
   -- a table that holds a lawful document is written as its layout
-  pub written : (form : Form) (doc w : List ℕ) (d : Document) → Bytes doc → LawfulIn form d → Holds form doc w d → (w′ o o′ b : List ℕ) → WriteCalled form doc w w′ o o′ b → Writes form d o o′ b
+  pub written : (form : Form) (doc w : List ℕ) (d : Document) → Bytes doc → LawfulIn form d → Holds form doc w d → (w′ o o′ b : List ℕ) → WriteCalled (stays form) doc w w′ o o′ b
+      → Writes form d o o′ b
   -- what is written is lawful, and the output, with whatever stands behind, is read as the document that was written
-  pub write-back : (form : Form) (doc w w′ o o′ b : List ℕ) (d : Document) → Bytes doc → Holds form doc w d → WriteCalled form doc w w′ o o′ b
+  pub write-back : (form : Form) (doc w w′ o o′ b : List ℕ) (d : Document) → Bytes doc → Holds form doc w d → WriteCalled (stays form) doc w w′ o o′ b
       → (c : ℕ) → b ≡ 0 ∷ 0 ∷ c ∷ 0 ∷ 0 ∷ 0 ∷ 0 ∷ 0 ∷ [] → LawfulIn form d × ReadAs form o′ c d
+  -- a table is converted, where each of its strings can be carried, as the layout of the same document in the other form
+  pub converted : (way : Way) (doc w : List ℕ) (d : Document) → Bytes doc → LawfulBy (Carried way) d → Holds (way .from) doc w d → (w′ o o′ b : List ℕ) → WriteCalled way doc w w′ o o′ b
+      → Writes (way .to) (turned way d) o o′ b
+  -- what a conversion writes has the value that the table holds, and the output, with whatever stands behind, is read as it in the other form
+  pub convert-back : (way : Way) (doc w w′ o o′ b : List ℕ) (d : Document) → Bytes doc → Holds (way .from) doc w d → WriteCalled way doc w w′ o o′ b
+      → (c : ℕ) → b ≡ 0 ∷ 0 ∷ c ∷ 0 ∷ 0 ∷ 0 ∷ 0 ∷ 0 ∷ [] → LawfulIn (way .from) d × (meant (way .to) (turned way d) ≡ meant (way .from) d) × ReadAs (way .to) o′ c (turned way d)
   -- the document that a text means is lawful, and the output of a parse, with whatever stands behind, is read as that document
   pub parse-back : (t o o′ b : List ℕ) → ParseCalled t o o′ b → (e c : ℕ) → b ≡ 0 ∷ 0 ∷ e ∷ c ∷ 0 ∷ 0 ∷ 0 ∷ 0 ∷ []
       → (k : Block) × (parsed t (length o) ≡ got k) × Lawful (documentOf k) × ReadAs java o′ c (documentOf k)

@@ -1,6 +1,7 @@
 pub mod Reading
 pub mod Tables
 pub mod Writing
+pub mod Conversion
 pub mod Texts
 pub mod Queries
 pub mod Rescue

@@ -7,7 +7,7 @@ use Prim.Native.String as text
 use mathlib.Core.Path.{_≡_}
 use mathlib.Core.List.{List, [], _∷_, map}
 use lib.Ieee.{binary64, toBits}
-use Rattle.form.specs.Form.{Form, java}
+use Rattle.form.specs.Form.{Form, Way, java, stays}
 use Rattle.form.specs.Answer.{Out, got, no, _>>=_}
 use Rattle.form.specs.Numbers.{bitsOf}
 use Rattle.form.specs.Layout.{layout}
@@ -52,9 +52,9 @@ readAnswer (got x) = got (x .next ∷ flat 0 0 (node (x .head) (x .inner) none))
 readAnswer (no n p) = no n p
 
 -- A write as numbers: the bytes written, of the document as it was read; or the refusal's number and where it was judged.
-abbrev pub writeAnswer : Form → List ℕ → Out One → Out (List ℕ)
-writeAnswer form doc (got x) = written form doc (x .head) (x .inner) 64
-writeAnswer form doc (no n p) = no n p
+abbrev pub writeAnswer : Way → List ℕ → Out One → Out (List ℕ)
+writeAnswer way doc (got x) = written way doc (x .head) (x .inner) 64
+writeAnswer way doc (no n p) = no n p
 
 -- A scalar value as numbers: the value, then how many bytes it takes; or refusal 4.
 abbrev pub scalarAnswer : Sequence → Out (List ℕ)
@@ -102,7 +102,7 @@ parseAnswer (no n p) = no n p
 -- What the definitions answer.
 abbrev pub answerTo : Asked → Out (List ℕ)
 answerTo (read doc) = readAnswer (documentAt java (unhex doc) 8)
-answerTo (write doc) = writeAnswer java (unhex doc) (documentAt java (unhex doc) 8)
+answerTo (write doc) = writeAnswer (stays java) (unhex doc) (documentAt java (unhex doc) 8)
 answerTo (scalar bs) = scalarAnswer (scalarOf (unhex bs))
 answerTo (ask doc q) = askAnswer java (unhex doc) (unhex q) (documentAt java (unhex doc) 8)
 answerTo (token t set) = tokenAnswer (ascii t) (lexed (ascii t) 0 set)

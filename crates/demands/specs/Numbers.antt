@@ -6,7 +6,7 @@ use mathlib.Core.Path.{_≡_}
 use mathlib.Core.List.{List, [], _∷_}
 use mathlib.Core.Bool.{Bool, true}
 use lib.ListN.{length}
-use Rattle.form.specs.Form.{Form}
+use Rattle.form.specs.Form.{Form, Way}
 use Rattle.form.specs.Answer.{Out, no, Count, failed}
 use Rattle.form.specs.Table.{Head, Forest}
 use Rattle.form.specs.Reading.{documentAt}
@@ -41,14 +41,14 @@ abbrev pub writtenNumbers : List ℕ
 writtenNumbers = 4 ∷ 6 ∷ 7 ∷ 11 ∷ 12 ∷ 13 ∷ []
 
 -- `write-numbers`: records are refused with one of those, whatever records they are.
-abbrev pub IsWriteNumbers : Form → Type 0
-IsWriteNumbers form =
-    (doc : List ℕ) (h : Head) (inner : Forest) (room n p : ℕ) → written form doc h inner room ≡ no n p → among writtenNumbers n ≡ true
+abbrev pub IsWriteNumbers : Way → Type 0
+IsWriteNumbers way =
+    (doc : List ℕ) (h : Head) (inner : Forest) (room n p : ℕ) → written way doc h inner room ≡ no n p → among writtenNumbers n ≡ true
 
 -- `write-refusals`: whoever keeps the promise of a write refuses with one of a write's numbers, the record beside it being 0 but in 4.
-abbrev pub IsWriteRefusals : Form → Type 0
-IsWriteRefusals form =
-    (doc t o : List ℕ) (answer : Count) (o′ : List ℕ) (n p r : ℕ) → WriteIs form doc t o answer o′ → answer ≡ failed n p r
+abbrev pub IsWriteRefusals : Way → Type 0
+IsWriteRefusals way =
+    (doc t o : List ℕ) (answer : Count) (o′ : List ℕ) (n p r : ℕ) → WriteIs way doc t o answer o′ → answer ≡ failed n p r
     → (among writeNumbers n ≡ true) × ((n ≡ 4 → ⊥) → r ≡ 0)
 
 -- ---- rescues

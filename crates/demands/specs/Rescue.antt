@@ -7,7 +7,7 @@ use mathlib.Core.List.{List, [], _∷_, _++_}
 use mathlib.Core.Bool.{Bool, true, _&&_}
 use lib.ListN.{length}
 use lib.Dec.{ltb, leb, eqb}
-use Rattle.form.specs.Form.{Form}
+use Rattle.form.specs.Form.{Form, stays}
 use Rattle.form.specs.Answer.{got, no, pick, outputFull, documentLimit, recordLimit, depthLimit}
 use Rattle.form.specs.Tree.{Tag, Tags, Entries, byte, short, int, long, float, double, byteArray, string, list, compound, intArray}
 use Rattle.form.specs.Tree.{longArray, nil, more, ended, entry, kindOf, many, tagCount, Document, LawfulIn, entriesCount}
@@ -73,7 +73,7 @@ abbrev pub IsRescuedWritten : Form → Type 0
 IsRescuedWritten form =
     (doc : List ℕ) → Bytes doc → (room : ℕ) (k : Kept) → room ≤ recordLimit → keptOf form doc room ≡ got k
     → (w : Whole form doc room k) (out : ℕ)
-    → written form doc (w .head) (w .inner) out
+    → written (stays form) doc (w .head) (w .inner) out
     ≡ pick (leb (length (layoutIn form (documentOf form doc (k .forest)))) out) (got (layoutIn form (documentOf form doc (k .forest)))) (no outputFull 0)
 
 -- The lines are those of the open containers among some records, the first of which has the number n: the last record is open, or none is. An

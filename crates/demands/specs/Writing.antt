@@ -8,7 +8,7 @@ use mathlib.Core.Path.{_≡_}
 use mathlib.Core.List.{List, _++_}
 use lib.ListN.{length, getD, take}
 use lib.Dec.{ltb, eqb}
-use Rattle.form.specs.Form.{Form}
+use Rattle.form.specs.Form.{Form, stays}
 use Rattle.form.specs.Answer.{got, no, pick, outputFull, documentLimit, recordLimit}
 use Rattle.form.specs.Tree.{Tag, Tags, Entries, byte, short, int, long, float, double, byteArray, string, list, compound, intArray, longArray, nil, more, ended, entry, Document, LawfulIn, entriesCount}
 use Rattle.form.specs.Layout.{payloadIn, LayoutIn, layoutIn}
@@ -32,7 +32,7 @@ pub record Wrote (form : Form) (d : Document) (room : ℕ) (bs : List ℕ) : Typ
 abbrev pub IsWrittenLawful : Form → Type 0
 IsWrittenLawful form =
     (doc w : List ℕ) → Bytes doc → Within (length doc) w → (t : IsTable (length doc) w) (room : ℕ) (bs : List ℕ)
-    → written form doc (t .head) (t .inner) room ≡ got bs → Wrote form (tableValue form doc w t) room bs
+    → written (stays form) doc (t .head) (t .inner) room ≡ got bs → Wrote form (tableValue form doc w t) room bs
 
 -- `lawful-written`: every table whose document keeps the rules is accepted where there is room: only strings, names, lists and depth
 -- are ever refused.
@@ -40,20 +40,20 @@ abbrev pub IsLawfulWritten : Form → Type 0
 IsLawfulWritten form =
     (doc w : List ℕ) → Bytes doc → Within (length doc) w → (t : IsTable (length doc) w) (room : ℕ)
     → LawfulIn form (tableValue form doc w t) → length (layoutIn form (tableValue form doc w t)) ≤ room
-    → written form doc (t .head) (t .inner) room ≡ got (layoutIn form (tableValue form doc w t))
+    → written (stays form) doc (t .head) (t .inner) room ≡ got (layoutIn form (tableValue form doc w t))
 
 -- `lawful-full`: where there is no room the refusal is 13, at 0.
 abbrev pub IsLawfulFull : Form → Type 0
 IsLawfulFull form =
     (doc w : List ℕ) → Bytes doc → Within (length doc) w → (t : IsTable (length doc) w) (room : ℕ)
     → LawfulIn form (tableValue form doc w t) → room < length (layoutIn form (tableValue form doc w t))
-    → written form doc (t .head) (t .inner) room ≡ no outputFull 0
+    → written (stays form) doc (t .head) (t .inner) room ≡ no outputFull 0
 
 -- `read-back`: what is written is read back, whatever follows it, as the document that was written.
 abbrev pub IsReadBack : Form → Type 0
 IsReadBack form =
     (doc w : List ℕ) → Bytes doc → Within (length doc) w → (t : IsTable (length doc) w) (room : ℕ) (bs : List ℕ)
-    → written form doc (t .head) (t .inner) room ≡ got bs
+    → written (stays form) doc (t .head) (t .inner) room ≡ got bs
     → (rest : List ℕ) → length (bs ++ rest) ≤ documentLimit → Complete form (bs ++ rest) recordLimit (tableValue form doc w t) bs
 
 -- ---- write after read
@@ -108,7 +108,7 @@ pub record Rewritten (form : Form) (doc : List ℕ) (x : One) : Type 0 where
   pub head-is : table .head ≡ x .head
   pub inner-is : table .inner ≡ x .inner
   pub small : Within (length doc) (flat 0 0 (node (x .head) (x .inner) none))
-  pub written-is : (room : ℕ) → x .next ≤ room → written form doc (x .head) (x .inner) room ≡ got (layoutIn form (valueOf form doc (x .head) (x .inner)))
+  pub written-is : (room : ℕ) → x .next ≤ room → written (stays form) doc (x .head) (x .inner) room ≡ got (layoutIn form (valueOf form doc (x .head) (x .inner)))
   pub near : Near (emptyIdIn form (valueOf form doc (x .head) (x .inner))) (take (x .next) doc) (layoutIn form (valueOf form doc (x .head) (x .inner)))
 
 -- `rewritten`: whatever is accepted, with the room of any table, the answer says that.
@@ -129,4 +129,4 @@ abbrev pub IsDomain : Form → Type 0
 IsDomain form =
     (d : Document) → InDomain form d
     → (x : One) × (documentAt form (layoutIn form d) recordLimit ≡ got x) × (valueOf form (layoutIn form d) (x .head) (x .inner) ≡ d)
-    × (written form (layoutIn form d) (x .head) (x .inner) (length (layoutIn form d)) ≡ got (layoutIn form d))
+    × (written (stays form) (layoutIn form d) (x .head) (x .inner) (length (layoutIn form d)) ≡ got (layoutIn form d))

@@ -12,6 +12,8 @@ pub mod Scalars
 pub mod Utf8
 pub mod Walks
 pub mod Strings
+pub mod Between
+pub mod Turned
 pub mod Table
 pub mod Answers
 pub mod Fields

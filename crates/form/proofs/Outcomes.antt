@@ -7,7 +7,7 @@ use mathlib.Core.List.{List, List-discrete}
 use native.Mathlib.Omega.{arith}
 use native.Mathlib.Decide.{ℕ-discrete, map-dec}
 use lib.ListN.{length}
-use Rattle.form.specs.Form.{Form}
+use Rattle.form.specs.Form.{Form, Way}
 use Rattle.form.specs.Answer.{Out, got, no as refused, Count, counted, failed}
 use Rattle.form.specs.Tables.{IsTable, Within}
 use Rattle.form.specs.Writing.{Gives, WriteGives, WriteIs}
@@ -53,17 +53,17 @@ in-each-case (no n) large unfit fit = absurd (n (large (λ w. n (unfit w (λ t. 
 gives-one : (w : Out (List ℕ)) (o : List ℕ) (a₁ a₂ : Out ℕ) (o₁ o₂ : List ℕ) → Gives w o a₁ o₁ → Gives w o a₂ o₂ → (a₁ ≡ a₂) × (o₁ ≡ o₂)
 gives-one w o a₁ a₂ o₁ o₂ g h = (g .answer-is ∙ sym (h .answer-is), g .output-is ∙ sym (h .output-is))
 
-writes-one : (form : Form) (doc t : List ℕ) (w : Out (List ℕ)) (o : List ℕ) (a₁ a₂ : Count) (o₁ o₂ : List ℕ) → WriteGives form doc t w o a₁ o₁ → WriteGives form doc t w o a₂ o₂
+writes-one : (way : Way) (doc t : List ℕ) (w : Out (List ℕ)) (o : List ℕ) (a₁ a₂ : Count) (o₁ o₂ : List ℕ) → WriteGives way doc t w o a₁ o₁ → WriteGives way doc t w o a₂ o₂
     → (a₁ ≡ a₂) × (o₁ ≡ o₂)
-writes-one form doc t w o a₁ a₂ o₁ o₂ g h = (g .answer-is ∙ sym (h .answer-is), g .output-is ∙ sym (h .output-is))
+writes-one way doc t w o a₁ a₂ o₁ o₂ g h = (g .answer-is ∙ sym (h .answer-is), g .output-is ∙ sym (h .output-is))
 
 -- Two outcomes of a write are the same: the answer, with the record of a 4 ([3]), and the output.
-pub one-write : (form : Form) (doc t o : List ℕ) (a₁ a₂ : Count) (o₁ o₂ : List ℕ) → WriteIs form doc t o a₁ o₁ → WriteIs form doc t o a₂ o₂ → (a₁ ≡ a₂) × (o₁ ≡ o₂)
-one-write form doc t o a₁ a₂ o₁ o₂ g h =
+pub one-write : (way : Way) (doc t o : List ℕ) (a₁ a₂ : Count) (o₁ o₂ : List ℕ) → WriteIs way doc t o a₁ o₁ → WriteIs way doc t o a₂ o₂ → (a₁ ≡ a₂) × (o₁ ≡ o₂)
+one-write way doc t o a₁ a₂ o₁ o₂ g h =
     in-each-case {W = Within (length doc) t} {T = IsTable (length doc) t} (both (same-count a₁ a₂) (same-list o₁ o₂))
-    (λ n. writes-one form doc t _ o a₁ a₂ o₁ o₂ (g .large n) (h .large n))
-    (λ w n. writes-one form doc t _ o a₁ a₂ o₁ o₂ (g .unfit w n) (h .unfit w n))
-    (λ w i. writes-one form doc t _ o a₁ a₂ o₁ o₂ (g .fit w i) (h .fit w i))
+    (λ n. writes-one way doc t _ o a₁ a₂ o₁ o₂ (g .large n) (h .large n))
+    (λ w n. writes-one way doc t _ o a₁ a₂ o₁ o₂ (g .unfit w n) (h .unfit w n))
+    (λ w i. writes-one way doc t _ o a₁ a₂ o₁ o₂ (g .fit w i) (h .fit w i))
 
 -- Two outcomes of writing a table's lines ([6]): the answer and the output.
 pub one-write-lines : (d : ℕ) (t o : List ℕ) (a₁ a₂ : Out ℕ) (o₁ o₂ : List ℕ) → WriteLinesIs d t o a₁ o₁ → WriteLinesIs d t o a₂ o₂

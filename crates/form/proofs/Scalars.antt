@@ -12,7 +12,7 @@ use Rattle.form.specs.Strings.{unitBytes, scalarBytes, IsScalar}
 use Rattle.form.specs.Decoding.{Sequence, is, stuck, unitOf, pairOf, withLow, paired, scalarOf}
 use Rattle.form.proofs.Picks.{pick-lt, pick-le, lt-or}
 use Rattle.form.proofs.Coding.{SoundBy, Coding}
-use Rattle.form.proofs.Units.{SoundUnit, unit-sound, unit-back, unit-some}
+use Rattle.form.proofs.Units.{SoundUnit, unit-sound, unit-back, unit-some, unit-size}
 
 -- ---- scalar values
 pub sb-low : (c : ℕ) → c < 65536 → scalarBytes c ≡ unitBytes c
@@ -28,6 +28,14 @@ unfolding scalarBytes
 scalar-some c =
     let P : List ℕ → Type 0 = λ bs. 0 < length bs in
     pick-lt P c 65536 (λ _. unit-some c) (λ _. simp length-append (omega (arith, unit-some (55296 + (c - 65536) / 1024))))
+
+pub scalar-size : (c : ℕ) → length (scalarBytes c) ≤ 6
+unfolding scalarBytes
+scalar-size c =
+    let P : List ℕ → Type 0 = λ bs. length bs ≤ 6 in
+    let hi = 55296 + (c - 65536) / 1024 in
+    let lo = 56320 + (c - 65536) % 1024 in
+    pick-lt P c 65536 (λ _. omega (arith, unit-size c)) (λ _. omega (arith, length-append (unitBytes hi) (unitBytes lo), unit-size hi, unit-size lo))
 
 abbrev SoundR : List ℕ → Sequence → Type 0
 SoundR l r = SoundBy scalarBytes l r

@@ -132,6 +132,12 @@ unit-some u =
     let P : List ℕ → Type 0 = λ bs. 0 < length bs in
     pick-eq P u 0 (λ _. omega arith) (λ _. pick-lt P u 128 (λ _. omega arith) (λ _. pick-lt P u 2048 (λ _. omega arith) (λ _. omega arith)))
 
+pub unit-size : (u : ℕ) → length (unitBytes u) ≤ 3
+unfolding unitBytes
+unit-size u =
+    let P : List ℕ → Type 0 = λ bs. length bs ≤ 3 in
+    pick-eq P u 0 (λ _. omega arith) (λ _. pick-lt P u 128 (λ _. omega arith) (λ _. pick-lt P u 2048 (λ _. omega arith) (λ _. omega arith)))
+
 -- a unit that was read is within the bytes
 pub unit-fits : (l : List ℕ) (u n : ℕ) → unitOf l ≡ is u n → n ≤ length l
 unit-fits l u n e = let s : SoundUnit l (is u n) = rw e at (unit-sound l) in omega (arith, s .1, simp length-append at (ap length (s .2)))

@@ -23,9 +23,15 @@ low-is c h k =
     pick-lt P c 2048 (λ b. sym (ub-two c a b)) (λ b.
     pick-lt P c 65536 (λ d. sym (ub-three c b)) (λ d. absurd (omega arith))))
 
-high-is : (c : ℕ) → 65536 ≤ c → utf8Bytes c ≡ fourBytes c
+pub high-is : (c : ℕ) → 65536 ≤ c → utf8Bytes c ≡ fourBytes c
 unfolding utf8Bytes
 high-is c h = simp (le-ltb c 128 (omega arith), le-ltb c 2048 (omega arith), le-ltb c 65536 h)
+
+pub size : (c : ℕ) → length (utf8Bytes c) ≤ 4
+unfolding utf8Bytes
+size c =
+    let P : List ℕ → Type 0 = λ bs. length bs ≤ 4 in
+    pick-lt P c 128 (λ _. omega arith) (λ _. pick-lt P c 2048 (λ _. omega arith) (λ _. pick-lt P c 65536 (λ _. omega arith) (λ _. omega arith)))
 
 pub some : (c : ℕ) → 0 < length (utf8Bytes c)
 unfolding utf8Bytes

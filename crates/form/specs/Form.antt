@@ -1,8 +1,8 @@
 -- Request [2]: the form that a document is written in, by the order of a number's bytes and the rule that strings keep. Everything that is laid
 -- out, read, judged, written and asked is said once, over a form; document 01 has the form `java`.
 -- Assumes nothing.
-use Prim.Native.Nat.{ℕ}
-use mathlib.Core.Bool.{Bool}
+use Prim.Native.Nat.{ℕ, _/_, _%_}
+use mathlib.Core.Bool.{Bool, true, false}
 use lib.Dec.{eqb}
 use Rattle.form.specs.Answer.{pick}
 
@@ -39,3 +39,37 @@ orderIn lowest = pick lowest little big
 -- The form of a number, as a caller in C gives it: 2 is the pocket edition's, any other document 01's.
 abbrev pub formNo : ℕ → Form
 formNo n = record { order = orderIn (eqb n 2); strings = pick (eqb n 2) utf8 modified }
+
+-- ---- from one form into another
+
+-- The form that a document has, and the form that it is written in.
+pub record Way : Type 0 where
+  pub from : Form
+  pub to : Form
+
+abbrev pub wayFrom : Form → Form → Way
+wayFrom a b = record { from = a; to = b }
+
+-- A document that is written in its own form.
+abbrev pub stays : Form → Way
+stays form = wayFrom form form
+
+-- The way back.
+abbrev pub back : Way → Way
+back way = wayFrom (way .to) (way .from)
+
+-- Both forms in one number.
+abbrev pub wayNo : ℕ → Way
+wayNo n = wayFrom (formNo (n % 256)) (formNo (n / 256))
+
+abbrev pub sameOrder : Order → Order → Bool
+sameOrder big big = true
+sameOrder big little = false
+sameOrder little big = false
+sameOrder little little = true
+
+abbrev pub sameRule : Rule → Rule → Bool
+sameRule modified modified = true
+sameRule modified utf8 = false
+sameRule utf8 modified = false
+sameRule utf8 utf8 = true

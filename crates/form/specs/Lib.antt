@@ -6,6 +6,7 @@ pub mod Strings
 pub mod Decoding
 pub mod Tree
 pub mod Layout
+pub mod Turned
 pub mod Table
 pub mod Tables
 pub mod Rows

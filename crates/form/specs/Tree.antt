@@ -130,40 +130,55 @@ abbrev pub Alike : Tags → Type 0
 Alike nil = Unit {0}
 Alike (more t ts) = OneKind (kindOf t) ts
 
--- A tag that a document of a form can hold: numbers fit, strings are well formed, lists hold one kind, names in a compound are unique.
+-- A tag that a document can hold whose names and strings must be as `text` says: numbers fit, lists hold one kind, names in a compound are
+-- unique.
 unfoldable mutual
-  pub ValidIn : Form → Tag → Type 0
-  ValidIn form (byte v) = FitsIn 1 v
-  ValidIn form (short v) = FitsIn 2 v
-  ValidIn form (int v) = FitsIn 4 v
-  ValidIn form (long v) = FitsIn 8 v
-  ValidIn form (float b) = b < valuesIn 4
-  ValidIn form (double b) = b < valuesIn 8
-  ValidIn form (byteArray vs) = Array 1 vs
-  ValidIn form (string s) = TextIn form s
-  ValidIn form (list ts) = Alike ts × (many ts < 2 ^ 31) × ValidTagsIn form ts
-  ValidIn form (compound es) = ValidEntriesIn form es
-  ValidIn form (intArray vs) = Array 4 vs
-  ValidIn form (longArray vs) = Array 8 vs
+  pub ValidBy : (List ℕ → Type 0) → Tag → Type 0
+  ValidBy text (byte v) = FitsIn 1 v
+  ValidBy text (short v) = FitsIn 2 v
+  ValidBy text (int v) = FitsIn 4 v
+  ValidBy text (long v) = FitsIn 8 v
+  ValidBy text (float b) = b < valuesIn 4
+  ValidBy text (double b) = b < valuesIn 8
+  ValidBy text (byteArray vs) = Array 1 vs
+  ValidBy text (string s) = text s
+  ValidBy text (list ts) = Alike ts × (many ts < 2 ^ 31) × ValidTagsBy text ts
+  ValidBy text (compound es) = ValidEntriesBy text es
+  ValidBy text (intArray vs) = Array 4 vs
+  ValidBy text (longArray vs) = Array 8 vs
 
-  pub ValidTagsIn : Form → Tags → Type 0
-  ValidTagsIn form nil = Unit {0}
-  ValidTagsIn form (more t ts) = ValidIn form t × ValidTagsIn form ts
+  pub ValidTagsBy : (List ℕ → Type 0) → Tags → Type 0
+  ValidTagsBy text nil = Unit {0}
+  ValidTagsBy text (more t ts) = ValidBy text t × ValidTagsBy text ts
 
-  pub ValidEntriesIn : Form → Entries → Type 0
-  ValidEntriesIn form ended = Unit {0}
-  ValidEntriesIn form (entry n t es) = TextIn form n × (hasEntry n es ≡ false) × ValidIn form t × ValidEntriesIn form es
+  pub ValidEntriesBy : (List ℕ → Type 0) → Entries → Type 0
+  ValidEntriesBy text ended = Unit {0}
+  ValidEntriesBy text (entry n t es) = text n × (hasEntry n es ≡ false) × ValidBy text t × ValidEntriesBy text es
+
+-- Of a document of a form: strings are well formed in it.
+abbrev pub ValidIn : Form → Tag → Type 0
+ValidIn form t = ValidBy (TextIn form) t
+
+abbrev pub ValidTagsIn : Form → Tags → Type 0
+ValidTagsIn form ts = ValidTagsBy (TextIn form) ts
+
+abbrev pub ValidEntriesIn : Form → Entries → Type 0
+ValidEntriesIn form es = ValidEntriesBy (TextIn form) es
 
 -- A document: the root's name and the entries of the root, a compound.
 pub record Document : Type 0 where
   pub name : List ℕ
   pub root : Entries
 
--- A document that keeps the rules of a form and the limits that do not depend on its bytes or on the room.
-pub record LawfulIn (form : Form) (d : Document) : Type 0 where
-  pub name : TextIn form (d .name)
-  pub valid : ValidEntriesIn form (d .root)
+-- A document that keeps the rules, its names and strings being as `text` says, and the limits that do not depend on its bytes or on the room.
+pub record LawfulBy (text : List ℕ → Type 0) (d : Document) : Type 0 where
+  pub name : text (d .name)
+  pub valid : ValidEntriesBy text (d .root)
   pub depth-le : 1 + entriesDepth (d .root) ≤ depthLimit
+
+-- A document that keeps the rules of a form.
+abbrev pub LawfulIn : Form → Document → Type 0
+LawfulIn form d = LawfulBy (TextIn form) d
 
 -- Document 01's own.
 abbrev pub Lawful : Document → Type 0

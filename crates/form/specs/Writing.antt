@@ -1,6 +1,7 @@
--- Rule 8: what writing a table gives. The records are judged in file order, each by name (12, 4, 6), depth (7), kind (11) and string
--- payload (12, 4); then the layout of the document that they stand for, where there is room (13). A 4 is answered at the character, with
--- the record beside it (02, [3]).
+-- Rule 8 and the conversion of [2]: what writing a table gives, in the form of its document or in another. The records are judged in file
+-- order, each by name (12, 4, 12 as it is written, 6), depth (7), kind (11) and string payload (12, 4, 12 as it is written); then the layout
+-- of the document that they stand for, where there is room (13). A 4 is answered at the character, with the record beside it (02, [3]). Rule 8
+-- itself is `stays java`: a string that is written as it is can't be too long for its second 12.
 -- Assumes nothing.
 use Prim.Native.Nat.{ℕ, _+_, _-_}
 use mathlib.Core.Path.{_≡_}
@@ -9,20 +10,22 @@ use mathlib.Core.Bool.{Bool, true, false, not, _||_}
 use lib.ListN.{length}
 use lib.Dec.{ltb, leb, eqb}
 use Rattle.form.specs.Answer.{Out, got, no, _>>=_, _>>_, guard, pick, Count, counted, failed, badString, nameTwice, tooDeep, overLimit, noTable, mixedList, longString, outputFull, depthLimit, stringLimit}
-use Rattle.form.specs.Form.{Form}
+use Rattle.form.specs.Form.{Way}
 use Rattle.form.specs.Spans.{part, over}
 use Rattle.form.specs.Decoding.{good, bad, verdictIn, wellFormedIn}
 use Rattle.form.specs.Table.{Head, Forest, none, node, size, _⊕_, headOf, holds, valueOf}
 use Rattle.form.specs.Tables.{IsTable, Within}
 use Rattle.form.specs.Reading.{hasName}
 use Rattle.form.specs.Layout.{layoutIn}
+use Rattle.form.specs.Turned.{recoded, turned}
 
-module _ (form : Form) (doc : List ℕ) where
-  -- A name or a string payload of record n: its length fits a u16 (12), and it is well formed (4).
+module _ (way : Way) (doc : List ℕ) where
+  -- A name or a string payload of record n: its length fits a u16 (12), it is well formed (4), and its length fits a u16 as it is written (12).
   unfoldable pub stringFine : ℕ → ℕ → ℕ → Out (Unit {0})
   stringFine start size n = do
     guard (leb size stringLimit) longString n
-    guard (wellFormedIn (form .strings) (part doc start size)) badString n
+    guard (wellFormedIn (way .from .strings) (part doc start size)) badString n
+    guard (leb (length (recoded way (part doc start size))) stringLimit) longString n
 
   -- The string payload of a record, if it has one.
   unfoldable pub payloadFine : Head → ℕ → Out (Unit {0})
@@ -45,15 +48,15 @@ module _ (form : Form) (doc : List ℕ) where
   unfoldable pub written : Head → Forest → ℕ → Out (List ℕ)
   written h inner room = do
     judged depthLimit false 0 none 0 (node h inner none)
-    guard (leb (length (layoutIn form (valueOf form doc h inner))) room) outputFull 0
-    got (layoutIn form (valueOf form doc h inner))
+    guard (leb (length (layoutIn (way .to) (turned way (valueOf (way .from) doc h inner)))) room) outputFull 0
+    got (layoutIn (way .to) (turned way (valueOf (way .from) doc h inner)))
 
   -- Refusal 4's place in a record of which 4 is due ([3]): where in the document the first sequence that can't be read begins, of its
   -- name or, if that is well formed, of its string payload.
   unfoldable pub badPlace : Head → ℕ
-  badPlace h = elim (verdictIn (form .strings) (part doc (h .name) (h .name-length))) [
+  badPlace h = elim (verdictIn (way .from .strings) (part doc (h .name) (h .name-length))) [
     | bad k ↦ h .name + k
-    | good ↦ elim (verdictIn (form .strings) (part doc (h .start) (h .size))) [ bad k ↦ h .start + k | good ↦ 0 ]
+    | good ↦ elim (verdictIn (way .from .strings) (part doc (h .start) (h .size))) [ bad k ↦ h .start + k | good ↦ 0 ]
   ]
 
   -- What a write of the table t answers: the number of bytes written; or the refusal where it was judged, but 4 at the character, with the
@@ -78,12 +81,12 @@ pub record Gives (w : Out (List ℕ)) (o : List ℕ) (answer : Out ℕ) (o′ : 
   pub output-is : o′ ≡ outputAfter w o
 
 -- The answer and the output of a write of the table t are those of w.
-pub record WriteGives (form : Form) (doc t : List ℕ) (w : Out (List ℕ)) (o : List ℕ) (answer : Count) (o′ : List ℕ) : Type 0 where
-  pub answer-is : answer ≡ answerOf form doc t w
+pub record WriteGives (way : Way) (doc t : List ℕ) (w : Out (List ℕ)) (o : List ℕ) (answer : Count) (o′ : List ℕ) : Type 0 where
+  pub answer-is : answer ≡ answerOf way doc t w
   pub output-is : o′ ≡ outputAfter w o
 
 -- The promise of a write: a limit first (9), then whether the words form a table (10), then what its records give.
-pub record WriteIs (form : Form) (doc t o : List ℕ) (answer : Count) (o′ : List ℕ) : Type 0 where
-  pub large : (Within (length doc) t → ⊥) → WriteGives form doc t (no overLimit 0) o answer o′
-  pub unfit : Within (length doc) t → (IsTable (length doc) t → ⊥) → WriteGives form doc t (no noTable 0) o answer o′
-  pub fit : Within (length doc) t → (i : IsTable (length doc) t) → WriteGives form doc t (written form doc (i .head) (i .inner) (length o)) o answer o′
+pub record WriteIs (way : Way) (doc t o : List ℕ) (answer : Count) (o′ : List ℕ) : Type 0 where
+  pub large : (Within (length doc) t → ⊥) → WriteGives way doc t (no overLimit 0) o answer o′
+  pub unfit : Within (length doc) t → (IsTable (length doc) t → ⊥) → WriteGives way doc t (no noTable 0) o answer o′
+  pub fit : Within (length doc) t → (i : IsTable (length doc) t) → WriteGives way doc t (written way doc (i .head) (i .inner) (length o)) o answer o′

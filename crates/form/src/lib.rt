@@ -2,6 +2,7 @@
 // what every layer shares: the limits of document 01, its refusals and its kinds by name, and the form that a document is written in.
 pub mod forms;
 pub mod kinds;
+pub mod ways;
 
 // The most bytes that a document has.
 pub const DOCUMENT: usize = 16777216;
@@ -20,6 +21,9 @@ pub const DEPTH: usize = 512;
 
 // The most bytes that a string has.
 pub const STRING: usize = 65535;
+
+// The most bytes of a string that has no more than those in every form: a character takes six bytes at most (02, [2]).
+pub const SHORT_STRING: usize = 10922;
 
 // The refusals, by number.
 pub const DATA_ENDS: u8 = 1;

@@ -30,9 +30,13 @@ one-common a l p q = rw (unit-plain a l p q) (simp (ne-eqb a 0 (omega arith), lt
 plain-is : (s : List ℕ) (i : ℕ) → i < length s → IsPlain 0 0 (getD s i 0) → commonOf (drop i s) ≡ is (getD s i 0) 1
 plain-is s i h b = rw (drop1 s i h) (one-common _ _ (b .some) (b .low))
 
+-- every rule reads a plain byte as itself
+pub plain-one : (k : Rule) (s : List ℕ) (j : ℕ) → j < length s → IsPlain 0 0 (getD s j 0) → oneOf k (drop j s) ≡ is (getD s j 0) 1
+plain-one k s j h b = alike k _ _ _ (plain-is s j h b)
+
 -- one plain byte more
 pub walked-plain : (k : Rule) (s : List ℕ) (i j : ℕ) → j < length s → IsPlain 0 0 (getD s j 0) → Walked (oneOf k) s i j → Walked (oneOf k) s i (j + 1)
-walked-plain k s i j h b w = walked-join w (more {i = j} {c = getD s j 0} {n = 1} (alike k _ _ _ (plain-is s j h b)) none)
+walked-plain k s i j h b w = walked-join w (more {i = j} {c = getD s j 0} {n = 1} (plain-one k s j h b) none)
 
 plain-run : (s : List ℕ) (n i : ℕ) → i + n ≤ length s → Plain 0 0 s i (i + n) → Walked commonOf s i (i + n)
 plain-run s zero i h p = let e : i + 0 ≡ i = omega arith in rw e none

@@ -45,7 +45,7 @@ fn ahead(end: usize, at: usize, reach: usize) -> usize
 
 // What stands at a place in a form: the only function that knows one from the other. In modified UTF-8 the value that was read tells
 // how many bytes it takes.
-fn front_at(s: &[u8], at: usize, form: u32) -> Front
+pub fn front_at(s: &[u8], at: usize, form: u32) -> Front
     ensures { λ r. ⌜ sequenceOf r ≡ oneOf (formNo form .strings) (drop at (now (s .entry))) ⌝ }
 {
     if is_pocket(form) {

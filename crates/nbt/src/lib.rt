@@ -2,7 +2,7 @@
 // what each word of an answer is, crates/calls/specs defines it.
 ghost use Rattle.form.specs.Moved.{eight, nine};
 ghost use Rattle.form.specs.Answer.{badString, badText};
-ghost use Rattle.form.specs.Form.{modified, utf8, java, formNo};
+ghost use Rattle.form.specs.Form.{modified, utf8, java, formNo, wayFrom, stays};
 ghost use Rattle.calls.specs.Calls.{StringCalled, ReadCalled, TableCalled, WriteCalled, RescueCalled, WriteLinesCalled, ReadLinesCalled, MoveCalled, QueryCalled, TokenCalled, ContentCalled, ParseCalled};
 
 // Whether bytes are modified UTF-8 (rule 2): 4 at the first sequence that can't be read.
@@ -61,7 +61,7 @@ pub extern "C" fn tikfazrul_write(
     out: &mut [u8],
     answer: &mut [u64; 8],
 )
-    ensures { λ _. ⌜ WriteCalled java (now (doc .entry)) (now (table .entry)) (now (table .exit)) (now (out .entry)) (now (out .exit)) (now (answer .exit)) ⌝ }
+    ensures { λ _. ⌜ WriteCalled (stays java) (now (doc .entry)) (now (table .entry)) (now (table .exit)) (now (out .entry)) (now (out .exit)) (now (answer .exit)) ⌝ }
 {
     call_write::write(0, doc, table, out, answer);
 }
@@ -75,9 +75,25 @@ pub extern "C" fn tikfazrul_write_in(
     out: &mut [u8],
     answer: &mut [u64; 8],
 )
-    ensures { λ _. ⌜ WriteCalled (formNo form) (now (doc .entry)) (now (table .entry)) (now (table .exit)) (now (out .entry)) (now (out .exit)) (now (answer .exit)) ⌝ }
+    ensures { λ _. ⌜ WriteCalled (stays (formNo form)) (now (doc .entry)) (now (table .entry)) (now (table .exit)) (now (out .entry)) (now (out .exit)) (now (answer .exit)) ⌝ }
 {
     call_write::write(form, doc, table, out, answer);
+}
+
+// Writes the document that a table stands for in another form than its own, with all values kept ([2]): `from` is the form that its bytes
+// have, `to` the form to be written. The table comes back as it was.
+#[no_mangle]
+pub extern "C" fn tikfazrul_convert(
+    from: u32,
+    to: u32,
+    doc: &[u8],
+    table: &mut [u32],
+    out: &mut [u8],
+    answer: &mut [u64; 8],
+)
+    ensures { λ _. ⌜ WriteCalled (wayFrom (formNo from) (formNo to)) (now (doc .entry)) (now (table .entry)) (now (table .exit)) (now (out .entry)) (now (out .exit)) (now (answer .exit)) ⌝ }
+{
+    call_write::convert(from, to, doc, table, out, answer);
 }
 
 // Writes a whole document of one that is cut, with every tag that was completely read before the cut ([11]); a line of three words in the

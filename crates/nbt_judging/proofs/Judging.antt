@@ -8,7 +8,7 @@ use native.Mathlib.Omega.{arith}
 use borrow.Author.Tests.{eq-eqb}
 use lib.ListN.{length, length-append}
 use lib.Dec.{eqb}
-use Rattle.form.specs.Form.{Form}
+use Rattle.form.specs.Form.{Way}
 use Rattle.form.specs.Answer.{Out, got, no, _>>_}
 use Rattle.form.specs.Spans.{part}
 use Rattle.form.specs.Table.{Head, Forest, none, node, size, _⊕_, word, holds, headOf}
@@ -39,6 +39,7 @@ use Rattle.nbt_judging.proofs.Rows.{
   rows-body,
   rows-inner,
   rows-leaf,
+  rows-fits,
   rows-repeat,
 }
 
@@ -56,10 +57,10 @@ other-kind k e = (λ p. bad (rw (eq-eqb k 9 p) at e), λ p. worse (eqb k 9) (rw 
     worse false z = bad z
 
 -- A record alone.
-one-bound : (form : Form) (doc t : List ℕ) (l : Bool) (n end : ℕ) (h : Head) (inner : Forest) → length doc ≤ 16777216 → Rows doc t l n end (node h inner none)
-    → length (laid form doc (eqb (h .kind) 9) inner) ≤ 33554440 * size inner
-    → length (laid form doc l (node h inner none)) ≤ 33554440 * (1 + size inner)
-one-bound form doc t l n end h inner d r i = go (holds (h .kind)) refl
+one-bound : (way : Way) (doc t : List ℕ) (l : Bool) (n end : ℕ) (h : Head) (inner : Forest) → length doc ≤ 16777216 → Rows doc t l n end (node h inner none)
+    → length (laid way doc (eqb (h .kind) 9) inner) ≤ 201326600 * size inner
+    → length (laid way doc l (node h inner none)) ≤ 201326600 * (1 + size inner)
+one-bound way doc t l n end h inner d r i = go (holds (h .kind)) refl
   where
     w : h .name + h .name-length ≤ length doc
     w = rows-name doc t l n end h inner r
@@ -67,42 +68,45 @@ one-bound form doc t l n end h inner d r i = go (holds (h .kind)) refl
     b : h .start + h .size ≤ length doc
     b = rows-body doc t l n end h inner r
 
-    go : (a : Bool) → holds (h .kind) ≡ a → length (laid form doc l (node h inner none)) ≤ 33554440 * (1 + size inner)
-    go true e = omega (arith, size-held form doc h l inner w (held-kind (h .kind) e), own-bound h l, w, b, d, i)
-    go false e = let k = other-kind (h .kind) e in omega (arith, size-leaf form doc h l inner w b (k .0) (k .1), own-bound h l, w, b, d)
+    go : (a : Bool) → holds (h .kind) ≡ a → length (laid way doc l (node h inner none)) ≤ 201326600 * (1 + size inner)
+    go true e = omega (arith, size-held way doc h l inner (held-kind (h .kind) e), own-bound way doc h l, w, b, d, i)
+    go false e =
+        let k = other-kind (h .kind) e in
+        let fits = rows-fits doc t l n end h inner r e in
+        omega (arith, size-leaf way doc h l inner b fits (k .0) (k .1), own-bound way doc h l, w, b, d)
 
 -- Records side by side.
-bound : (form : Form) (doc t : List ℕ) (l : Bool) (n end : ℕ) (f : Forest) → length doc ≤ 16777216 → Rows doc t l n end f → length (laid form doc l f) ≤ 33554440 * size f
+bound : (way : Way) (doc t : List ℕ) (l : Bool) (n end : ℕ) (f : Forest) → length doc ≤ 16777216 → Rows doc t l n end f → length (laid way doc l f) ≤ 201326600 * size f
 unfolding size
-bound form doc t l n end none d r = omega (arith, ap length (laid-none form doc l))
-bound form doc t l n end (node h inner later) d r =
+bound way doc t l n end none d r = omega (arith, ap length (laid-none way doc l))
+bound way doc t l n end (node h inner later) d r =
     let s = rows-split doc t l n end h inner later r in
-    let i = bound form doc t (eqb (h .kind) 9) (n + 1) (n + 1 + size inner) inner d (rows-inner doc t l n (n + 1 + size inner) h inner (s .0)) in
-    let o = one-bound form doc t l n (n + 1 + size inner) h inner d (s .0) i in
+    let i = bound way doc t (eqb (h .kind) 9) (n + 1) (n + 1 + size inner) inner d (rows-inner doc t l n (n + 1 + size inner) h inner (s .0)) in
+    let o = one-bound way doc t l n (n + 1 + size inner) h inner d (s .0) i in
     omega (
       arith,
-      bound form doc t l (n + 1 + size inner) end later d (s .1),
+      bound way doc t l (n + 1 + size inner) end later d (s .1),
       o,
-      ap length (laid-node form doc l h inner later),
-      length-append (laid form doc l (node h inner none)) (laid form doc l later),
+      ap length (laid-node way doc l h inner later),
+      length-append (laid way doc l (node h inner none)) (laid way doc l later),
     )
 
--- All the records of a table together take fewer than 2^46 bytes.
-pub rows-bound : (form : Form) (doc t : List ℕ) (l : Bool) (n end : ℕ) (f : Forest) → Within (length doc) t → Rows doc t l n end f → length (laid form doc l f) < 70368744177664
-rows-bound form doc t l n end f w r =
-    let b = bound form doc t l n end f (w .bytes) r in
+-- All the records of a table together take fewer than 2^48 bytes: a string that is written takes at most six times its bytes.
+pub rows-bound : (way : Way) (doc t : List ℕ) (l : Bool) (n end : ℕ) (f : Forest) → Within (length doc) t → Rows doc t l n end f → length (laid way doc l f) < 281474976710656
+rows-bound way doc t l n end f w r =
+    let b = bound way doc t l n end f (w .bytes) r in
     omega (arith, r .to, r .fits, w .words)
 
 -- ---- how far a walk over records side by side has come
 
 -- The records so far are done, those left are judged as the whole is, and the first repeat is still to come.
-pub record Walk (form : Form) (doc t : List ℕ) (left : ℕ) (list : Bool) (k n end : ℕ) (found : Repeat) (f : Forest) (i total : ℕ) : Type 0 where
+pub record Walk (way : Way) (doc t : List ℕ) (left : ℕ) (list : Bool) (k n end : ℕ) (found : Repeat) (f : Forest) (i total : ℕ) : Type 0 where
   pub done : Forest
   pub rest : Forest
   pub split : f ≡ done ⊕ rest
   pub rows : Rows doc t list i end rest
-  pub is : judged form doc left list k none n f ≡ judged form doc left list k done i rest
-  pub total-is : total ≡ length (laid form doc list done)
+  pub is : judged way doc left list k none n f ≡ judged way doc left list k done i rest
+  pub total-is : total ≡ length (laid way doc list done)
   pub none-is : list ≡ true → found ≡ Repeat.Nothing
   pub repeat-is : list ≡ false → repeatIn doc i done rest ≡ found
 
@@ -113,9 +117,9 @@ twice-is : (doc : List ℕ) (list : Bool) (i : ℕ) (done : Forest) (h : Head) (
 twice-is doc true i done h inner later found a b = ap (λ x. not (isAt x i)) (a refl)
 twice-is doc false i done h inner later found a b = ap not (repeat-here doc i done h inner later found (b refl))
 
-module _ (form : Form) (doc t : List ℕ) (left : ℕ) (list : Bool) (k n end : ℕ) where
+module _ (way : Way) (doc t : List ℕ) (left : ℕ) (list : Bool) (k n end : ℕ) where
   -- At the start nothing is done.
-  pub walk-start : (p : Some doc t list n end) {found : Repeat} → found ≡ firstTwice doc t n end list → Walk form doc t left list k n end found (p .forest) n 0
+  pub walk-start : (p : Some doc t list n end) {found : Repeat} → found ≡ firstTwice doc t n end list → Walk way doc t left list k n end found (p .forest) n 0
   unfolding _⊕_
   walk-start p e = record {
     done = none;
@@ -123,24 +127,24 @@ module _ (form : Form) (doc t : List ℕ) (left : ℕ) (list : Bool) (k n end : 
     split = refl;
     rows = p .rows;
     is = refl;
-    total-is = sym (ap length (laid-none form doc list));
+    total-is = sym (ap length (laid-none way doc list));
     none-is = λ l. e ∙ twice-elements doc t n end list l;
     repeat-is = λ l. sym (rows-repeat doc t list n end (p .forest) (p .rows)) ∙ sym (twice-entries doc t n end list l) ∙ sym e;
   }
 
-  module _ {found : Repeat} {f : Forest} {i total : ℕ} (w : Walk form doc t left list k n end found f i total) where
+  module _ {found : Repeat} {f : Forest} {i total : ℕ} (w : Walk way doc t left list k n end found f i total) where
     -- What is done is a part of the whole.
-    pub walk-le : total ≤ length (laid form doc list f)
+    pub walk-le : total ≤ length (laid way doc list f)
     walk-le =
-        let whole = ap (laid form doc list) (w .split) ∙ laid-append form doc list (w .done) (w .rest) in
-        omega (arith, w .total-is, ap length whole, length-append (laid form doc list (w .done)) (laid form doc list (w .rest)))
+        let whole = ap (laid way doc list) (w .split) ∙ laid-append way doc list (w .done) (w .rest) in
+        omega (arith, w .total-is, ap length whole, length-append (laid way doc list (w .done)) (laid way doc list (w .rest)))
 
     -- At the end all are done.
-    pub walk-end : end ≤ i → Sized (judged form doc left list k none n f) (laid form doc list f) (Size.Is total)
+    pub walk-end : end ≤ i → Sized (judged way doc left list k none n f) (laid way doc list f) (Size.Is total)
     walk-end l =
         let z : w .rest ≡ none = rows-none doc t list i end (w .rest) (w .rows) l in (
-          w .is ∙ ap (judged form doc left list k (w .done) i) z ∙ judged-none form doc left list k (w .done) i,
-          w .total-is ∙ ap (λ g. length (laid form doc list g)) (sym (walk-all (w .done) (w .split) (w .rows) l)),
+          w .is ∙ ap (judged way doc left list k (w .done) i) z ∙ judged-none way doc left list k (w .done) i,
+          w .total-is ∙ ap (λ g. length (laid way doc list g)) (sym (walk-all (w .done) (w .split) (w .rows) l)),
         )
 
     module _ (l : i < end) where
@@ -157,12 +161,12 @@ module _ (form : Form) (doc t : List ℕ) (left : ℕ) (list : Bool) (k n end : 
       found-is e = ap (repeatIn doc i (w .done)) (sym (here .is)) ∙ w .repeat-is e
 
       -- The records left are judged by the next one, then by those after it.
-      unrolled : judged form doc left list k none n f
-          ≡ (oneJudged form doc left list k (isAt found i) i (here .head) (here .inner) >> judged form doc left list k (w .done ⊕ one) (i + 1 + size (here .inner)) (here .later))
+      unrolled : judged way doc left list k none n f
+          ≡ (oneJudged way doc left list k (isAt found i) i (here .head) (here .inner) >> judged way doc left list k (w .done ⊕ one) (i + 1 + size (here .inner)) (here .later))
       unrolled =
           w .is
-          ∙ ap (judged form doc left list k (w .done) i) (here .is)
-          ∙ judged-node form doc left list k (w .done) i (here .head) (here .inner) (here .later) (isAt found i)
+          ∙ ap (judged way doc left list k (w .done) i) (here .is)
+          ∙ judged-node way doc left list k (w .done) i (here .head) (here .inner) (here .later) (isAt found i)
           (twice-is doc list i (w .done) (here .head) (here .inner) (here .later) found (w .none-is) found-is)
 
       -- Where it is not the first repeat, the first repeat stands among those after it.
@@ -182,40 +186,40 @@ module _ (form : Form) (doc t : List ℕ) (left : ℕ) (list : Bool) (k n end : 
         walk-one = here-one here same e
 
         module _ (s : Within (length doc) t) {twice : Bool} (q : twice ≡ isAt found i) (r : Size)
-            (told : (o : One doc t′ list i next) → Sized (oneJudged form doc left list k twice i (o .head) (o .inner)) (laid form doc list (node (o .head) (o .inner) none)) r) where
+            (told : (o : One doc t′ list i next) → Sized (oneJudged way doc left list k twice i (o .head) (o .inner)) (laid way doc list (node (o .head) (o .inner) none)) r) where
           -- It is refused, and so are all.
-          pub walk-no : {m p : ℕ} → r ≡ Size.No m p → judged form doc left list k none n f ≡ no m p
+          pub walk-no : {m p : ℕ} → r ≡ Size.No m p → judged way doc left list k none n f ≡ no m p
           unfolding walk-one
           walk-no {m} {p} g =
               let x = told (walk-one s) in
-              let y : oneJudged form doc left list k (isAt found i) i (here .head) (here .inner) ≡ no m p = rw (g, q) at x in
+              let y : oneJudged way doc left list k (isAt found i) i (here .head) (here .inner) ≡ no m p = rw (g, q) at x in
               unrolled ∙ rw y refl
 
           -- It passes, and takes so many bytes.
-          pub walk-next : {size : ℕ} → r ≡ Size.Is size → Walk form doc t left list k n end found f next (total + size)
+          pub walk-next : {size : ℕ} → r ≡ Size.Is size → Walk way doc t left list k n end found f next (total + size)
           unfolding walk-one
           walk-next g =
               let x = rw (g, q) at (told (walk-one s)) in
-              let own = one-own form doc left list k i (here .head) (isAt found i) (here .inner) (x .0) in
-              let once = own-once form doc left list k i (here .head) (isAt found i) own in
-              let more = laid-append form doc list (w .done) one in
+              let own = one-own way doc left list k i (here .head) (isAt found i) (here .inner) (x .0) in
+              let once = own-once way doc left list k i (here .head) (isAt found i) own in
+              let more = laid-append way doc list (w .done) one in
               record {
                 done = w .done ⊕ one;
                 rest = here .later;
                 split = walk-more (w .done) (w .split) here;
                 rows = here-rest here same e;
                 is = unrolled ∙ rw (x .0, here-next here same e) refl;
-                total-is = omega (arith, w .total-is, x .1, ap length more, length-append (laid form doc list (w .done)) (laid form doc list one));
+                total-is = omega (arith, w .total-is, x .1, ap length more, length-append (laid way doc list (w .done)) (laid way doc list one));
                 none-is = w .none-is;
                 repeat-is = λ y. rw (here-next here same e) (found-later once y);
               }
 
 -- What a walk over the table found is the answer for the table that was lent, which is the same.
-pub judged-same : (form : Form) → {doc t t₀ t′ : List ℕ} (left : ℕ) {list : Bool} (k : ℕ) {n end : ℕ} (r : Size) → t ≡ t₀
-    → ((p : Some doc t list n end) → Sized (judged form doc left list k none n (p .forest)) (laid form doc list (p .forest)) r)
-    → t′ ≡ t₀ → JudgedIs form doc t₀ left list k n end r t′
-judged-same form {doc} left {list} k {n} {end} r e told same =
-    (subst (λ x. (p : Some doc x list n end) → Sized (judged form doc left list k none n (p .forest)) (laid form doc list (p .forest)) r) e told, same)
+pub judged-same : (way : Way) → {doc t t₀ t′ : List ℕ} (left : ℕ) {list : Bool} (k : ℕ) {n end : ℕ} (r : Size) → t ≡ t₀
+    → ((p : Some doc t list n end) → Sized (judged way doc left list k none n (p .forest)) (laid way doc list (p .forest)) r)
+    → t′ ≡ t₀ → JudgedIs way doc t₀ left list k n end r t′
+judged-same way {doc} left {list} k {n} {end} r e told same =
+    (subst (λ x. (p : Some doc x list n end) → Sized (judged way doc left list k none n (p .forest)) (laid way doc list (p .forest)) r) e told, same)
 
 -- ---- one record
 
@@ -232,26 +236,26 @@ module _ (doc t : List ℕ) (list : Bool) (n end : ℕ) (o : One doc t list n en
   pub inner-rows : Rows doc t (eqb (o .head .kind) 9) (n + 1) end (o .inner)
   inner-rows = rows-inner doc t list n end (o .head) (o .inner) (o .rows)
 
-  -- So is its size.
-  size-is : {s : ℕ} → s ≡ ownSize list (headOf t n) → s ≡ ownSize list (o .head)
-  size-is e = e ∙ ap (ownSize list) head-is
+  -- Its size by its words is its size.
+  size-is : (way : Way) → {s : ℕ} → s ≡ ownSize way doc list (headOf t n) → s ≡ ownSize way doc list (o .head)
+  size-is way e = e ∙ ap (ownSize way doc list) head-is
 
   -- Its own bytes, where no records are in it.
-  size-bare : (form : Form) → o .inner ≡ none → length (laid form doc list (node (o .head) (o .inner) none)) ≡ ownSize list (o .head)
-  size-bare form z = go (holds (o .head .kind)) refl
+  size-bare : (way : Way) → o .inner ≡ none → length (laid way doc list (node (o .head) (o .inner) none)) ≡ ownSize way doc list (o .head)
+  size-bare way z = go (holds (o .head .kind)) refl
     where
-      name : o .head .name + o .head .name-length ≤ length doc
-      name = rows-name doc t list n end (o .head) (o .inner) (o .rows)
-
       body : o .head .start + o .head .size ≤ length doc
       body = rows-body doc t list n end (o .head) (o .inner) (o .rows)
 
-      go : (a : Bool) → holds (o .head .kind) ≡ a → length (laid form doc list (node (o .head) (o .inner) none)) ≡ ownSize list (o .head)
+      go : (a : Bool) → holds (o .head .kind) ≡ a → length (laid way doc list (node (o .head) (o .inner) none)) ≡ ownSize way doc list (o .head)
       go true e =
           let list′ = eqb (o .head .kind) 9 in
-          let nothing = ap (laid form doc list′) z ∙ laid-none form doc list′ in
-          omega (arith, size-held form doc (o .head) list (o .inner) name (held-kind (o .head .kind) e), ap length nothing)
-      go false e = let other = other-kind (o .head .kind) e in size-leaf form doc (o .head) list (o .inner) name body (other .0) (other .1)
+          let nothing = ap (laid way doc list′) z ∙ laid-none way doc list′ in
+          omega (arith, size-held way doc (o .head) list (o .inner) (held-kind (o .head .kind) e), ap length nothing)
+      go false e =
+          let other = other-kind (o .head .kind) e in
+          let fits = rows-fits doc t list n end (o .head) (o .inner) (o .rows) e in
+          size-leaf way doc (o .head) list (o .inner) body fits (other .0) (other .1)
 
   -- Where it does not end right after itself, it holds records.
   pub one-holds : (end ≡ n + 1 → ⊥) → holds (word t n 0) ≡ true
@@ -272,47 +276,46 @@ module _ (doc t : List ℕ) (list : Bool) (n end : ℕ) (o : One doc t list n en
     rows = subst (λ x. Rows doc t x (n + 1) end (o .inner)) (sym (bi ∙ ap (λ h. eqb (h .kind) 9) head-is)) inner-rows;
   }
 
-  module _ (form : Form) (left k : ℕ) (twice : Bool) where
+  module _ (way : Way) (left k : ℕ) (twice : Bool) where
     -- What is said of the words is said of the head.
-    fine-is : {x : Out (Unit {0})} → ownFine form doc left list k twice n (headOf t n) ≡ x → ownFine form doc left list k twice n (o .head) ≡ x
-    fine-is e = ap (ownFine form doc left list k twice n) (sym head-is) ∙ e
+    fine-is : {x : Out (Unit {0})} → ownFine way doc left list k twice n (headOf t n) ≡ x → ownFine way doc left list k twice n (o .head) ≡ x
+    fine-is e = ap (ownFine way doc left list k twice n) (sym head-is) ∙ e
 
     -- It is refused by itself.
-    pub one-refused : {m p : ℕ} → ownFine form doc left list k twice n (headOf t n) ≡ no m p → oneJudged form doc left list k twice n (o .head) (o .inner) ≡ no m p
-    one-refused e = one-no form doc left list k n (o .head) twice (o .inner) (fine-is e)
+    pub one-refused : {m p : ℕ} → ownFine way doc left list k twice n (headOf t n) ≡ no m p → oneJudged way doc left list k twice n (o .head) (o .inner) ≡ no m p
+    one-refused e = one-no way doc left list k n (o .head) twice (o .inner) (fine-is e)
 
-    module _ (fine : ownFine form doc left list k twice n (headOf t n) ≡ got tt) where
+    module _ (fine : ownFine way doc left list k twice n (headOf t n) ≡ got tt) where
       -- It is not too deep.
       pub one-depth : holds (word t n 0) ≡ true → 0 < left
-      one-depth e = own-depth form doc left list k n (headOf t n) twice fine e
+      one-depth e = own-depth way doc left list k n (headOf t n) twice fine e
 
-      module _ {own : ℕ} (is : own ≡ ownSize list (headOf t n)) where
+      module _ {own : ℕ} (is : own ≡ ownSize way doc list (headOf t n)) where
         -- No records are in it.
-        pub one-bare : end ≡ n + 1 → Sized (oneJudged form doc left list k twice n (o .head) (o .inner)) (laid form doc list (node (o .head) (o .inner) none)) (Size.Is own)
+        pub one-bare : end ≡ n + 1 → Sized (oneJudged way doc left list k twice n (o .head) (o .inner)) (laid way doc list (node (o .head) (o .inner) none)) (Size.Is own)
         one-bare q =
             let bare = rows-none doc t _ (n + 1) end (o .inner) inner-rows (omega arith) in
-            (one-leaf form doc left list k n (o .head) twice (o .inner) (fine-is fine) bare, size-is is ∙ sym (size-bare form bare))
+            (one-leaf way doc left list k n (o .head) twice (o .inner) (fine-is fine) bare, size-is way is ∙ sym (size-bare way bare))
 
         module _ {b : Bool} (bi : b ≡ eqb (word t n 0) 9) {j : ℕ} (ji : j ≡ word t n 6) (r : Size)
-            (told : (p : Some doc t b (n + 1) end) → Sized (judged form doc (left - 1) b j none (n + 1) (p .forest)) (laid form doc b (p .forest)) r) where
+            (told : (p : Some doc t b (n + 1) end) → Sized (judged way doc (left - 1) b j none (n + 1) (p .forest)) (laid way doc b (p .forest)) r) where
           -- What is said of the records in it.
           abbrev Inside : Head → Type 0
-          Inside h = Sized (judged form doc (left - 1) (eqb (h .kind) 9) (h .list-kind) none (n + 1) (o .inner)) (laid form doc (eqb (h .kind) 9) (o .inner)) r
+          Inside h = Sized (judged way doc (left - 1) (eqb (h .kind) 9) (h .list-kind) none (n + 1) (o .inner)) (laid way doc (eqb (h .kind) 9) (o .inner)) r
 
           inside : Inside (o .head)
           inside = subst Inside head-is (rw (← bi, ← ji) (told (one-some bi)))
 
           -- One of them is refused.
-          pub one-within : {m p : ℕ} → r ≡ Size.No m p → oneJudged form doc left list k twice n (o .head) (o .inner) ≡ no m p
-          one-within g = one-inner form doc left list k n (o .head) twice (o .inner) (fine-is fine) ∙ (rw g at inside)
+          pub one-within : {m p : ℕ} → r ≡ Size.No m p → oneJudged way doc left list k twice n (o .head) (o .inner) ≡ no m p
+          one-within g = one-inner way doc left list k n (o .head) twice (o .inner) (fine-is fine) ∙ (rw g at inside)
 
           -- They pass, and take so many bytes.
           pub one-whole : holds (word t n 0) ≡ true → {s : ℕ} → r ≡ Size.Is s
-              → Sized (oneJudged form doc left list k twice n (o .head) (o .inner)) (laid form doc list (node (o .head) (o .inner) none)) (Size.Is (own + s))
+              → Sized (oneJudged way doc left list k twice n (o .head) (o .inner)) (laid way doc list (node (o .head) (o .inner) none)) (Size.Is (own + s))
           one-whole e g =
               let x = rw g at inside in
-              let name = rows-name doc t list n end (o .head) (o .inner) (o .rows) in
               let held = held-kind (o .head .kind) (holds-is e) in (
-                one-inner form doc left list k n (o .head) twice (o .inner) (fine-is fine) ∙ x .0,
-                omega (arith, size-is is, x .1, size-held form doc (o .head) list (o .inner) name held),
+                one-inner way doc left list k n (o .head) twice (o .inner) (fine-is fine) ∙ x .0,
+                omega (arith, size-is way is, x .1, size-held way doc (o .head) list (o .inner) held),
               )

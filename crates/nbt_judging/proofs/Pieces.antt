@@ -7,7 +7,7 @@ use mathlib.Core.Path.{_≡_, refl, sym, _∙_}
 use native.Mathlib.Omega.{arith}
 use borrow.Author.Tests.{ltb-true, eq-eqb, ne-eqb}
 use lib.Dec.{ltb, eqb}
-use Rattle.form.specs.Form.{Form}
+use Rattle.form.specs.Form.{Way}
 use Rattle.form.specs.Answer.{Out, got, no, guard, _>>_, nameTwice, tooDeep, mixedList}
 use Rattle.form.specs.Spans.{part}
 use Rattle.form.specs.Table.{Head, Forest, none, node, size, _⊕_, holds}
@@ -21,42 +21,42 @@ use Rattle.nbt_judging.specs.Pieces.{deep, mixed, isAt, firstTwice, rest
 
 -- ---- one record
 
-module _ (form : Form) (doc : List ℕ) (left : ℕ) (list : Bool) (k n : ℕ) (h : Head) where
+module _ (way : Way) (doc : List ℕ) (left : ℕ) (list : Bool) (k n : ℕ) (h : Head) where
   -- A container too deep (7).
-  pub rest-deep : deep (h .kind) left ≡ true → restFine form doc left list k n h ≡ no tooDeep n
+  pub rest-deep : deep (h .kind) left ≡ true → restFine way doc left list k n h ≡ no tooDeep n
   unfolding restFine
   rest-deep e = rw e refl
 
   -- An element of another kind (11).
-  pub rest-mixed : deep (h .kind) left ≡ false → mixed list (h .kind) k ≡ true → restFine form doc left list k n h ≡ no mixedList n
+  pub rest-mixed : deep (h .kind) left ≡ false → mixed list (h .kind) k ≡ true → restFine way doc left list k n h ≡ no mixedList n
   unfolding restFine
   rest-mixed e f = rw (e, f) refl
 
   -- Then the payload.
-  pub rest-on : deep (h .kind) left ≡ false → mixed list (h .kind) k ≡ false → restFine form doc left list k n h ≡ payloadFine form doc h n
+  pub rest-on : deep (h .kind) left ≡ false → mixed list (h .kind) k ≡ false → restFine way doc left list k n h ≡ payloadFine way doc h n
   unfolding restFine
   rest-on e f = rw (e, f) refl
 
   module _ (twice : Bool) where
-    -- A name that is refused (12, 4).
-    pub own-name : {m p : ℕ} → stringFine form doc (h .name) (h .name-length) n ≡ no m p → ownFine form doc left list k twice n h ≡ no m p
+    -- A name that is refused (12, 4, 12).
+    pub own-name : {m p : ℕ} → stringFine way doc (h .name) (h .name-length) n ≡ no m p → ownFine way doc left list k twice n h ≡ no m p
     unfolding ownFine
     own-name e = rw e refl
 
     -- A name twice (6).
-    pub own-twice : stringFine form doc (h .name) (h .name-length) n ≡ got tt → twice ≡ true → ownFine form doc left list k twice n h ≡ no nameTwice n
+    pub own-twice : stringFine way doc (h .name) (h .name-length) n ≡ got tt → twice ≡ true → ownFine way doc left list k twice n h ≡ no nameTwice n
     unfolding ownFine
     own-twice e f = rw (e, f) refl
 
     -- Then what comes after the name.
-    pub own-on : stringFine form doc (h .name) (h .name-length) n ≡ got tt → twice ≡ false → ownFine form doc left list k twice n h ≡ restFine form doc left list k n h
+    pub own-on : stringFine way doc (h .name) (h .name-length) n ≡ got tt → twice ≡ false → ownFine way doc left list k twice n h ≡ restFine way doc left list k n h
     unfolding ownFine
     own-on e f = rw (e, f) refl
 
     -- A record that passes has a name of its own.
-    pub own-once : ownFine form doc left list k twice n h ≡ got tt → twice ≡ false
+    pub own-once : ownFine way doc left list k twice n h ≡ got tt → twice ≡ false
     unfolding ownFine
-    own-once e = go (stringFine form doc (h .name) (h .name-length) n) twice (restFine form doc left list k n h) e
+    own-once e = go (stringFine way doc (h .name) (h .name-length) n) twice (restFine way doc left list k n h) e
       where
         go : (s : Out (Unit {0})) (b : Bool) (r : Out (Unit {0})) → (s >> (guard (not b) nameTwice n >> r)) ≡ got tt → b ≡ false
         go s false r z = refl
@@ -64,9 +64,9 @@ module _ (form : Form) (doc : List ℕ) (left : ℕ) (list : Bool) (k n : ℕ) (
         go (no m p) true r z = absurd (got-no (sym z))
 
     -- A record that passes is no container too deep.
-    pub own-depth : ownFine form doc left list k twice n h ≡ got tt → holds (h .kind) ≡ true → 0 < left
+    pub own-depth : ownFine way doc left list k twice n h ≡ got tt → holds (h .kind) ≡ true → 0 < left
     unfolding ownFine restFine
-    own-depth e f = go (stringFine form doc (h .name) (h .name-length) n) (guard (not twice) nameTwice n) (ltb 0 left) refl _ (rw f at e)
+    own-depth e f = go (stringFine way doc (h .name) (h .name-length) n) (guard (not twice) nameTwice n) (ltb 0 left) refl _ (rw f at e)
       where
         go : (s g : Out (Unit {0})) (b : Bool) → ltb 0 left ≡ b → (r : Out (Unit {0})) → (s >> (g >> (guard (not (not (not true || b))) tooDeep n >> r))) ≡ got tt → 0 < left
         go s g true q r z = ltb-true 0 left q
@@ -76,26 +76,26 @@ module _ (form : Form) (doc : List ℕ) (left : ℕ) (list : Bool) (k n : ℕ) (
 
     module _ (inner : Forest) where
       -- A record refused by itself.
-      pub one-no : {m p : ℕ} → ownFine form doc left list k twice n h ≡ no m p → oneJudged form doc left list k twice n h inner ≡ no m p
+      pub one-no : {m p : ℕ} → ownFine way doc left list k twice n h ≡ no m p → oneJudged way doc left list k twice n h inner ≡ no m p
       unfolding oneJudged
       one-no e = rw e refl
 
       -- Then those in it.
-      pub one-inner : ownFine form doc left list k twice n h ≡ got tt → oneJudged form doc left list k twice n h inner ≡ judged form doc (left - 1) (eqb (h .kind) 9) (h .list-kind) none (n + 1) inner
+      pub one-inner : ownFine way doc left list k twice n h ≡ got tt → oneJudged way doc left list k twice n h inner ≡ judged way doc (left - 1) (eqb (h .kind) 9) (h .list-kind) none (n + 1) inner
       unfolding oneJudged
       one-inner e = rw e refl
 
       -- A record that passes with those in it passes by itself.
-      pub one-own : oneJudged form doc left list k twice n h inner ≡ got tt → ownFine form doc left list k twice n h ≡ got tt
+      pub one-own : oneJudged way doc left list k twice n h inner ≡ got tt → ownFine way doc left list k twice n h ≡ got tt
       unfolding oneJudged
-      one-own e = go (ownFine form doc left list k twice n h) _ e
+      one-own e = go (ownFine way doc left list k twice n h) _ e
         where
           go : (s r : Out (Unit {0})) → (s >> r) ≡ got tt → s ≡ got tt
           go (got a) r z = refl
           go (no m p) r z = absurd (got-no (sym z))
 
       -- Of which there are none.
-      pub one-leaf : ownFine form doc left list k twice n h ≡ got tt → inner ≡ none → oneJudged form doc left list k twice n h inner ≡ got tt
+      pub one-leaf : ownFine way doc left list k twice n h ≡ got tt → inner ≡ none → oneJudged way doc left list k twice n h inner ≡ got tt
       unfolding oneJudged judged
       one-leaf e f = rw (e, f) refl
 
@@ -116,21 +116,21 @@ chain (got s) (got a) (got b) (got c) (no m q) i j = refl
 chain (got s) (got a) (got b) (got c) (got p) i j = refl
 
 -- No records are left.
-pub judged-none : (form : Form) (doc : List ℕ) (left : ℕ) (list : Bool) (k : ℕ) (earlier : Forest) (n : ℕ) → judged form doc left list k earlier n none ≡ got tt
+pub judged-none : (way : Way) (doc : List ℕ) (left : ℕ) (list : Bool) (k : ℕ) (earlier : Forest) (n : ℕ) → judged way doc left list k earlier n none ≡ got tt
 unfolding judged
-judged-none form doc left list k earlier n = refl
+judged-none way doc left list k earlier n = refl
 
 -- The first record with those in it, then those after it.
-pub judged-node : (form : Form) (doc : List ℕ) (left : ℕ) (list : Bool) (k : ℕ) (earlier : Forest) (n : ℕ) (h : Head) (inner later : Forest) (twice : Bool)
+pub judged-node : (way : Way) (doc : List ℕ) (left : ℕ) (list : Bool) (k : ℕ) (earlier : Forest) (n : ℕ) (h : Head) (inner later : Forest) (twice : Bool)
     → not twice ≡ (list || not (hasName doc (part doc (h .name) (h .name-length)) earlier))
-    → judged form doc left list k earlier n (node h inner later)
-    ≡ (oneJudged form doc left list k twice n h inner >> judged form doc left list k (earlier ⊕ node h inner none) (n + 1 + size inner) later)
+    → judged way doc left list k earlier n (node h inner later)
+    ≡ (oneJudged way doc left list k twice n h inner >> judged way doc left list k (earlier ⊕ node h inner none) (n + 1 + size inner) later)
 unfolding judged oneJudged ownFine restFine
-judged-node form doc left list k earlier n h inner later twice e =
-    let s = stringFine form doc (h .name) (h .name-length) n in
-    let p = payloadFine form doc h n in
-    let i = judged form doc (left - 1) (eqb (h .kind) 9) (h .list-kind) none (n + 1) inner in
-    let j = judged form doc left list k (earlier ⊕ node h inner none) (n + 1 + size inner) later in
+judged-node way doc left list k earlier n h inner later twice e =
+    let s = stringFine way doc (h .name) (h .name-length) n in
+    let p = payloadFine way doc h n in
+    let i = judged way doc (left - 1) (eqb (h .kind) 9) (h .list-kind) none (n + 1) inner in
+    let j = judged way doc left list k (earlier ⊕ node h inner none) (n + 1 + size inner) later in
     sym (chain s (guard (not twice) nameTwice n) (guard (not (deep (h .kind) left)) tooDeep n) (guard (not (mixed list (h .kind) k)) mixedList n) p i j
     ∙ (λ x. s >> (guard (e x) nameTwice n >> (guard (not-not (not (holds (h .kind)) || ltb 0 left) x) tooDeep n >> (guard (not-not (not list || eqb (h .kind) k) x) mixedList n >> (p >> (i >> j)))))))
 

@@ -162,13 +162,21 @@ module _ (doc t : List ℕ) (l : Bool) (n end : ℕ) (h : Head) (inner : Forest)
     fits = r .fits;
   }
 
-  -- What holds no records has none in it.
-  pub rows-leaf : holds (h .kind) ≡ false → inner ≡ none
-  rows-leaf e = go (fair-first (length doc) l h inner none (r .fair))
+  -- What holds no records is a leaf.
+  leaf : holds (h .kind) ≡ false → LeafIs (length doc) h inner
+  leaf e = go (fair-first (length doc) l h inner none (r .fair))
     where
-      go : LeafIs (length doc) h inner ⊎ ContainerIs h inner → inner ≡ none
-      go (inl f) = f .bare
+      go : LeafIs (length doc) h inner ⊎ ContainerIs h inner → LeafIs (length doc) h inner
+      go (inl f) = f
       go (inr c) = let z : true ≡ false = sym (c .kind) ∙ e in let y : _≡_ {A = ℕ} 0 1 = cc in absurd (omega arith)
+
+  -- It has none in it.
+  pub rows-leaf : holds (h .kind) ≡ false → inner ≡ none
+  rows-leaf e = leaf e .bare
+
+  -- And its length and its count are as rule 4 has them.
+  pub rows-fits : holds (h .kind) ≡ false → leafFits (h .kind) (h .size) (h .count) ≡ true
+  rows-fits e = leaf e .fits
 
   -- What holds records is a container.
   pub rows-held : holds (h .kind) ≡ true → ContainerIs h inner

@@ -5,7 +5,7 @@ use mathlib.Core.Path.{_≡_}
 use mathlib.Core.List.{List}
 use mathlib.Core.Bool.{Bool}
 use lib.ListN.{length}
-use Rattle.form.specs.Form.{Form}
+use Rattle.form.specs.Form.{Way}
 use Rattle.form.specs.Answer.{Out, got, no}
 use Rattle.form.specs.Table.{Head, Forest, none, node, size, word}
 use Rattle.form.specs.Tables.{Fair, Within}
@@ -54,11 +54,11 @@ Sized o bs (Size.Is n) = (o ≡ got tt) × (n ≡ length bs)
 Sized o bs (Size.No m p) = o ≡ no m p
 
 -- what judging the records from n up to `end` answers, whichever stand there; the table is as it was
-abbrev pub JudgedIs : Form → List ℕ → List ℕ → ℕ → Bool → ℕ → ℕ → ℕ → Size → List ℕ → Type 0
-JudgedIs form doc t left list k n end r t′ =
-    ((p : Some doc t list n end) → Sized (judged form doc left list k none n (p .forest)) (laid form doc list (p .forest)) r) × (t′ ≡ t)
+abbrev pub JudgedIs : Way → List ℕ → List ℕ → ℕ → Bool → ℕ → ℕ → ℕ → Size → List ℕ → Type 0
+JudgedIs way doc t left list k n end r t′ =
+    ((p : Some doc t list n end) → Sized (judged way doc left list k none n (p .forest)) (laid way doc list (p .forest)) r) × (t′ ≡ t)
 
 -- and what judging one record answers, with those in it
-abbrev pub OneJudgedIs : Form → List ℕ → List ℕ → ℕ → Bool → ℕ → Bool → ℕ → ℕ → Size → List ℕ → Type 0
-OneJudgedIs form doc t left list k twice n end r t′ =
-    ((p : One doc t list n end) → Sized (oneJudged form doc left list k twice n (p .head) (p .inner)) (laid form doc list (node (p .head) (p .inner) none)) r) × (t′ ≡ t)
+abbrev pub OneJudgedIs : Way → List ℕ → List ℕ → ℕ → Bool → ℕ → Bool → ℕ → ℕ → Size → List ℕ → Type 0
+OneJudgedIs way doc t left list k twice n end r t′ =
+    ((p : One doc t list n end) → Sized (oneJudged way doc left list k twice n (p .head) (p .inner)) (laid way doc list (node (p .head) (p .inner) none)) r) × (t′ ≡ t)

@@ -9,7 +9,7 @@ use lib.ListN.{length, take, drop, replicate, length-replicate}
 use lib.Seq.{take-append-seam}
 use lib.Dec.{leb}
 use borrow.Author.Tests.{leb-true, leb-false}
-use Rattle.form.specs.Form.{Form}
+use Rattle.form.specs.Form.{Form, stays}
 use Rattle.form.specs.Answer.{Out, got, no, pick, Count, counted, failed as refusal, outputFull}
 use Rattle.form.specs.Spans.{over}
 use Rattle.form.specs.Layout.{layoutIn}
@@ -39,17 +39,17 @@ table-laid form doc room k w = (λ i. layoutIn form (valueOf form doc (w .table-
 
 -- The writer, given the words of the records kept, gives the layout of the document that they stand for, or 13.
 pub laid-is : (form : Form) (doc t w w′ o o′ : List ℕ) (records : ℕ) (answer : Count) → Bytes doc → GatheredIn form doc t records → w ≡ take (9 * records) t
-    → WroteIs form doc w w′ o answer o′ → LaidIs form doc t o answer o′
+    → WroteIs (stays form) doc w w′ o answer o′ → LaidIs form doc t o answer o′
 laid-is form doc t w w′ o o′ records answer bytes g e h k is =
     let same : g .k ≡ k = cc (g .is, is) in
     let few = room-le (length t) in
     let whole = rescued-lawful form doc bytes (roomOf (length t)) k few is in
     let tree = ap (flat 0 0) (whole .is) in
     let words = e ∙ g .words-are ∙ ap (λ (k : Kept). flat 0 0 (k .forest)) same ∙ tree in
-    let gives = subst (λ u. WriteIs form doc u o answer o′) words (h .is) .fit (whole .small) (whole .table) in
-    subst (λ v. WriteGives form doc (flat 0 0 (k .forest)) v o answer o′)
-    ((λ i. written form doc (whole .table-head i) (whole .table-inner i) (length o)) ∙ rescued-written form doc bytes (roomOf (length t)) k few is whole (length o))
-    (subst (λ u. WriteGives form doc u (written form doc (whole .table .head) (whole .table .inner) (length o)) o answer o′) (sym tree) gives)
+    let gives = subst (λ u. WriteIs (stays form) doc u o answer o′) words (h .is) .fit (whole .small) (whole .table) in
+    subst (λ v. WriteGives (stays form) doc (flat 0 0 (k .forest)) v o answer o′)
+    ((λ i. written (stays form) doc (whole .table-head i) (whole .table-inner i) (length o)) ∙ rescued-written form doc bytes (roomOf (length t)) k few is whole (length o))
+    (subst (λ u. WriteGives (stays form) doc u (written (stays form) doc (whole .table .head) (whole .table .inner) (length o)) o answer o′) (sym tree) gives)
 
 -- They form a table that has room, where the output has a byte for each of the document and of the lines.
 pub roomy-fits : (form : Form) (doc t w o : List ℕ) (records : ℕ) → Bytes doc → Roomy form doc t records o → w ≡ take (9 * records) t → Fits form doc w o
@@ -131,7 +131,7 @@ pub read-again : (form : Form) (doc t u : List ℕ) {p : ℕ} → length u ≡ l
 read-again form doc t u s e = ap (λ n. documentAt form doc (roomOf n)) s ∙ e
 
 -- What the layout leaves, by whether there is room: 13, with nothing changed, or the bytes.
-laid-refused : (form : Form) (doc w bs o o′ : List ℕ) (b : Bool) (m p r : ℕ) → leb (length bs) (length o) ≡ b → WriteGives form doc w (pick b (got bs) (no outputFull 0)) o (refusal m p r) o′
+laid-refused : (form : Form) (doc w bs o o′ : List ℕ) (b : Bool) (m p r : ℕ) → leb (length bs) (length o) ≡ b → WriteGives (stays form) doc w (pick b (got bs) (no outputFull 0)) o (refusal m p r) o′
     → (length o < length bs) × (m ≡ 13) × (p ≡ 0) × (o′ ≡ o)
 laid-refused form doc w bs o o′ true m p r e g = absurd (counted-failed (sym (g .answer-is)))
 laid-refused form doc w bs o o′ false m p r e g =
@@ -139,7 +139,7 @@ laid-refused form doc w bs o o′ false m p r e g =
     let h : p ≡ 0 = cc (g .answer-is) in
     (leb-false (length bs) (length o) e, f, h, g .output-is)
 
-laid-saved : (form : Form) (doc w bs o o′ : List ℕ) (b : Bool) (n : ℕ) → leb (length bs) (length o) ≡ b → WriteGives form doc w (pick b (got bs) (no outputFull 0)) o (counted n) o′
+laid-saved : (form : Form) (doc w bs o o′ : List ℕ) (b : Bool) (n : ℕ) → leb (length bs) (length o) ≡ b → WriteGives (stays form) doc w (pick b (got bs) (no outputFull 0)) o (counted n) o′
     → (length bs ≤ length o) × (n ≡ length bs) × (o′ ≡ over o 0 bs)
 laid-saved form doc w bs o o′ true n e g =
     let f : n ≡ length bs = cc (g .answer-is) in
@@ -159,8 +159,8 @@ module _ (form : Form) (doc t o c : List ℕ) (records n : ℕ) (g : TightAsked 
   abbrev bytes : List ℕ
   bytes = layoutIn form (documentOf form doc (k .forest))
 
-  gives : (a : Count) → answer ≡ a → WriteGives form doc (flat 0 0 (k .forest)) (pick (leb (length bytes) (length o)) (got bytes) (no outputFull 0)) o a o′
-  gives a f = subst (λ a. WriteGives form doc (flat 0 0 (k .forest)) (pick (leb (length bytes) (length o)) (got bytes) (no outputFull 0)) o a o′) f (laid k is)
+  gives : (a : Count) → answer ≡ a → WriteGives (stays form) doc (flat 0 0 (k .forest)) (pick (leb (length bytes) (length o)) (got bytes) (no outputFull 0)) o a o′
+  gives a f = subst (λ a. WriteGives (stays form) doc (flat 0 0 (k .forest)) (pick (leb (length bytes) (length o)) (got bytes) (no outputFull 0)) o a o′) f (laid k is)
 
   room : length (k .lines) ≤ length c / 3
   room = omega (arith, g .many, g .room)

@@ -5,7 +5,7 @@ use mathlib.Core.Path.{_≡_}
 use mathlib.Core.List.{List}
 use lib.ListN.{length, take}
 use lib.Dec.{leb}
-use Rattle.form.specs.Form.{Form}
+use Rattle.form.specs.Form.{Form, stays}
 use Rattle.form.specs.Answer.{got, no, pick, Count, outputFull}
 use Rattle.form.specs.Spans.{over}
 use Rattle.form.specs.Layout.{layoutIn}
@@ -32,7 +32,7 @@ pub record GatheredIn (form : Form) (doc t : List ℕ) (records : ℕ) : Type 0 
 abbrev pub LaidIs : Form → List ℕ → List ℕ → List ℕ → Count → List ℕ → Type 0
 LaidIs form doc t o answer o′ =
     (k : Kept) → keptOf form doc (roomOf (length t)) ≡ got k
-    → WriteGives form doc (flat 0 0 (k .forest))
+    → WriteGives (stays form) doc (flat 0 0 (k .forest))
     (pick (leb (length (layoutIn form (documentOf form doc (k .forest)))) (length o)) (got (layoutIn form (documentOf form doc (k .forest)))) (no outputFull 0)) o answer o′
 
 -- The records are gathered, and the output has room for the cut document and a byte for each line.

@@ -34,7 +34,7 @@ fn lay(
     ensures { λ r. ⌜ LaidIs (formNo form) (now (doc .entry)) (now (table .entry)) (now (out .entry)) (answerOut r) (now (out .exit)) ⌝ }
 {
     let words = table::WORDS * records;
-    nbt_writer::write(doc, &mut table[..words], out, form)
+    nbt_writer::write(doc, &mut table[..words], out, form, form)
 }
 
 // The same where the output has room for the cut document and a byte for each line, so that nothing is judged or counted first.

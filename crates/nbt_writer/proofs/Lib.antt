@@ -1,4 +1,5 @@
 pub mod Puts
+pub mod Spans
 pub mod Putting
 pub mod Laid
 pub mod Characters

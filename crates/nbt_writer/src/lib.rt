@@ -1,20 +1,23 @@
-// Rule 8: the document that a table stands for, written where its records are judged to keep the rules. Each function has the name of the
+// Rule 8 and the conversion of 02, [2]: the document that a table stands for, written in its own form or another where its records are judged
+// to keep the rules. Each function has the name of the
 // definition that it meets, in form/specs/Writing.antt or nbt_judging/specs/Pieces.antt; io.rs of the crate writes in the same order.
 ghost use mathlib.Core.Path.{_≡_};
 ghost use Prim.Native.Nat.{_+_, _*_, _≤_};
 ghost use lib.ListN.{length};
 ghost use Rattle.form.specs.Answer.{no};
-ghost use Rattle.form.specs.Form.{formNo};
+ghost use Rattle.form.specs.Form.{formNo, wayFrom, wayNo};
 ghost use Rattle.form.specs.Numbers.{bytesIn};
 ghost use Rattle.form.specs.Spans.{part, over};
 ghost use Rattle.form.specs.Decoding.{verdictIn};
 ghost use Rattle.form.specs.Writing.{badPlace, answerOf};
 ghost use Rattle.mutf8.specs.Answers.{verdictOf};
-ghost use Rattle.form.specs.Table.{headOf};
-ghost use Rattle.nbt_judging.specs.Pieces.{nameBytes, lengthBytes, leafBytes, listBytes};
+ghost use Rattle.form.specs.Table.{word as wordOf, headOf};
+ghost use Rattle.recode.specs.Steps.{Puts};
+ghost use Rattle.nbt_judging.specs.Pieces.{nameBytes, elementWidth, spanBytes, leafBytes, listBytes};
 ghost use Rattle.nbt_judging.specs.Steps.{Placed};
-ghost use Rattle.nbt_writer.specs.Steps.{answerOut, SomeRoom, OneRoom, Puts, PutAllIs, PutOneIs, Formed, WrittenIs, WroteIs, Fits, PutIs};
+ghost use Rattle.nbt_writer.specs.Steps.{lengthBytes, sameBytes, answerOut, SomeRoom, OneRoom, PutAllIs, PutOneIs, Formed, WrittenIs, WroteIs, Fits, PutIs};
 use form::forms::is_pocket;
+use form::ways;
 use mutf8::Checked;
 use nbt_judging::Size;
 use table::Verdict;
@@ -32,12 +35,95 @@ pub enum Answer {
     },
 }
 
-// A length or a count in the order of a form (rule 1; 02, [2]).
-fn put_count(out: &mut [u8], at: usize, width: usize, v: usize, form: u32)
+// A length or a count in the order of the form that is written (rule 1; 02, [2]).
+fn put_count(out: &mut [u8], at: usize, width: usize, v: usize, way: u32)
     requires { ⌜ (width ≤ 8) × (at + width ≤ length (now out)) ⌝ }
-    ensures { λ _. ⌜ now (out .exit) ≡ over (now (out .entry)) at (bytesIn (formNo form .order) width v) ⌝ }
+    ensures { λ _. ⌜ now (out .exit) ≡ over (now (out .entry)) at (bytesIn (wayNo way .to .order) width v) ⌝ }
 {
-    raw::put_in(out, at, width, v as u64, is_pocket(form));
+    raw::put_in(out, at, width, v as u64, is_pocket(ways::target(way)));
+}
+
+// A string's length or an array's count (rule 4), and the place after it; nothing before a number alone.
+fn put_length(kind: usize, size: usize, count: usize, out: &mut [u8], at: usize, way: u32) -> usize
+    requires { ⌜ at + length (lengthBytes (wayNo way) kind size count) ≤ length (now out) ⌝ }
+    ensures { λ r. ⌜ Puts (lengthBytes (wayNo way) kind size count) (now (out .entry)) at (now (out .exit)) r ⌝ }
+{
+    match kind {
+        kinds::END..=kinds::DOUBLE => at,
+        kinds::STRING => {
+            put_count(out, at, 2, size, way);
+            at + 2
+        }
+        _ => {
+            put_count(out, at, 4, count, way);
+            at + 4
+        }
+    }
+}
+
+// A name or a payload that is written as it stands, and the place after it.
+fn put_same(
+    doc: &[u8],
+    start: usize,
+    size: usize,
+    kind: usize,
+    count: usize,
+    out: &mut [u8],
+    at: usize,
+    way: u32,
+) -> usize
+    requires { ⌜ (start + size ≤ length (now doc)) × (at + length (sameBytes (wayNo way) (now doc) kind count start size) ≤ length (now out)) ⌝ }
+    ensures { λ r. ⌜ Puts (sameBytes (wayNo way) (now (doc .entry)) kind count start size) (now (out .entry)) at (now (out .exit)) r ⌝ }
+{
+    let first = put_length(kind, size, count, out, at, way);
+    slices::copy(doc, start, size, out, first);
+    first + size
+}
+
+// The bytes of a number of a kind, alone or in an array; what has no numbers is taken byte by byte.
+fn element_width(kind: usize) -> usize
+    ensures { λ r. ⌜ r ≡ elementWidth kind ⌝ }
+{
+    match kind {
+        kinds::SHORT => 2,
+        kinds::INT => 4,
+        kinds::LONG => 8,
+        kinds::FLOAT => 4,
+        kinds::DOUBLE => 8,
+        kinds::INT_ARRAY => 4,
+        kinds::LONG_ARRAY => 8,
+        _ => 1,
+    }
+}
+
+// A name or a payload as the other form has it, and the place after it. It has two callers, so that it stays a call, and what is written as it
+// stands goes without one.
+fn put_turned(
+    doc: &[u8],
+    start: usize,
+    size: usize,
+    kind: usize,
+    count: usize,
+    out: &mut [u8],
+    at: usize,
+    way: u32,
+) -> usize
+    requires { ⌜ (start + size ≤ length (now doc)) × (size ≤ 16777216) × (at + length (spanBytes (wayNo way) (now doc) kind count start size) ≤ length (now out)) ⌝ }
+    ensures { λ r. ⌜ Puts (spanBytes (wayNo way) (now (doc .entry)) kind count start size) (now (out .entry)) at (now (out .exit)) r ⌝ }
+{
+    if kind == kinds::STRING {
+        let first = put_length(
+            kind,
+            recode::length(doc, start, size, way),
+            count,
+            out,
+            at,
+            way,
+        );
+        return recode::put_string(doc, start, size, out, first, way);
+    }
+    let first = put_length(kind, size, count, out, at, way);
+    recode::put_numbers(doc, start, size, element_width(kind), out, first, way)
 }
 
 // What stands before a payload, and the place after it: an entry's id and name (rule 3), nothing of an element of a list.
@@ -48,57 +134,45 @@ fn put_name(
     list: bool,
     out: &mut [u8],
     at: usize,
-    form: u32,
+    way: u32,
 ) -> usize
-    requires { ⌜ (Placed (now doc) (now table) n) × (at + length (nameBytes (formNo form) (now doc) list (headOf (now table) n)) ≤ length (now out)) ⌝ }
-    ensures { λ r. ⌜ Puts (nameBytes (formNo form) (now (doc .entry)) list (headOf (now (table .entry)) n)) (now (out .entry)) at (now (out .exit)) r ⌝ }
+    requires { ⌜ (Placed (now doc) (now table) n) × (wordOf (now table) n 2 ≤ 16777216) × (at + length (nameBytes (wayNo way) (now doc) list (headOf (now table) n)) ≤ length (now out)) ⌝ }
+    ensures { λ r. ⌜ Puts (nameBytes (wayNo way) (now (doc .entry)) list (headOf (now (table .entry)) n)) (now (out .entry)) at (now (out .exit)) r ⌝ }
 {
     if list {
         return at;
     }
+    let start = table::word(table, n, table::NAME);
     let size = table::word(table, n, table::NAME_LENGTH);
     raw::put_number(out, at, 1, table::word(table, n, table::KIND) as u64);
-    put_count(out, at + 1, 2, size, form);
-    slices::copy(doc, table::word(table, n, table::NAME), size, out, at + 3);
-    at + 3 + size
-}
-
-// A string's length or an array's count (rule 4), and the place after it.
-fn put_length(table: &[u32], n: usize, out: &mut [u8], at: usize, form: u32) -> usize
-    requires { ⌜ (9 * n + 9 ≤ length (now table)) × (at + length (lengthBytes (formNo form) (headOf (now table) n)) ≤ length (now out)) ⌝ }
-    ensures { λ r. ⌜ Puts (lengthBytes (formNo form) (headOf (now (table .entry)) n)) (now (out .entry)) at (now (out .exit)) r ⌝ }
-{
-    match table::word(table, n, table::KIND) {
-        kinds::END..=kinds::DOUBLE => at,
-        kinds::STRING => {
-            put_count(out, at, 2, table::word(table, n, table::LENGTH), form);
-            at + 2
-        }
-        _ => {
-            put_count(out, at, 4, table::word(table, n, table::COUNT), form);
-            at + 4
-        }
+    if ways::stays(way) {
+        return put_same(doc, start, size, kinds::STRING, 0, out, at + 1, way);
     }
+    put_turned(doc, start, size, kinds::STRING, 0, out, at + 1, way)
 }
 
 // The payload of what holds no records (rule 4), and the place after it.
-fn put_leaf(doc: &[u8], table: &[u32], n: usize, out: &mut [u8], at: usize, form: u32) -> usize
-    requires { ⌜ (Placed (now doc) (now table) n) × (at + length (leafBytes (formNo form) (now doc) (headOf (now table) n)) ≤ length (now out)) ⌝ }
-    ensures { λ r. ⌜ Puts (leafBytes (formNo form) (now (doc .entry)) (headOf (now (table .entry)) n)) (now (out .entry)) at (now (out .exit)) r ⌝ }
+fn put_leaf(doc: &[u8], table: &[u32], n: usize, out: &mut [u8], at: usize, way: u32) -> usize
+    requires { ⌜ (Placed (now doc) (now table) n) × (wordOf (now table) n 4 ≤ 16777216) × (at + length (leafBytes (wayNo way) (now doc) (headOf (now table) n)) ≤ length (now out)) ⌝ }
+    ensures { λ r. ⌜ Puts (leafBytes (wayNo way) (now (doc .entry)) (headOf (now (table .entry)) n)) (now (out .entry)) at (now (out .exit)) r ⌝ }
 {
-    let from = put_length(table, n, out, at, form);
+    let kind = table::word(table, n, table::KIND);
+    let start = table::word(table, n, table::START);
     let size = table::word(table, n, table::LENGTH);
-    slices::copy(doc, table::word(table, n, table::START), size, out, from);
-    from + size
+    let count = table::word(table, n, table::COUNT);
+    if ways::stays(way) {
+        return put_same(doc, start, size, kind, count, out, at, way);
+    }
+    put_turned(doc, start, size, kind, count, out, at, way)
 }
 
 // A list's id and count (rule 4), and the place after them; of an empty list five zero bytes.
-fn put_list(table: &[u32], n: usize, out: &mut [u8], at: usize, form: u32) -> usize
+fn put_list(table: &[u32], n: usize, out: &mut [u8], at: usize, way: u32) -> usize
     requires { ⌜ (9 * n + 9 ≤ length (now table)) × (at + 5 ≤ length (now out)) ⌝ }
-    ensures { λ r. ⌜ Puts (listBytes (formNo form) (headOf (now (table .entry)) n)) (now (out .entry)) at (now (out .exit)) r ⌝ }
+    ensures { λ r. ⌜ Puts (listBytes (wayNo way) (headOf (now (table .entry)) n)) (now (out .entry)) at (now (out .exit)) r ⌝ }
 {
     raw::put_number(out, at, 1, table::word(table, n, table::LIST_KIND) as u64);
-    put_count(out, at + 1, 4, table::word(table, n, table::COUNT), form);
+    put_count(out, at + 1, 4, table::word(table, n, table::COUNT), way);
     at + 5
 }
 
@@ -111,23 +185,23 @@ fn put_one(
     list: bool,
     out: &mut [u8],
     at: usize,
-    form: u32,
+    way: u32,
 ) -> usize
-    requires { ⌜ OneRoom (formNo form) (now doc) (now table) list n end (now out) at ⌝ }
-    ensures { λ r. ⌜ PutOneIs (formNo form) (now (doc .entry)) (now (table .entry)) list n end (now (out .entry)) at (now (out .exit)) r ⌝ }
+    requires { ⌜ OneRoom (wayNo way) (now doc) (now table) list n end (now out) at ⌝ }
+    ensures { λ r. ⌜ PutOneIs (wayNo way) (now (doc .entry)) (now (table .entry)) list n end (now (out .entry)) at (now (out .exit)) r ⌝ }
 {
-    let from = put_name(doc, table, n, list, out, at, form);
+    let from = put_name(doc, table, n, list, out, at, way);
     match table::word(table, n, table::KIND) {
         kinds::LIST => {
-            let first = put_list(table, n, out, from, form);
-            put_all(doc, table, n + 1, end, true, out, first, form)
+            let first = put_list(table, n, out, from, way);
+            put_all(doc, table, n + 1, end, true, out, first, way)
         }
         kinds::COMPOUND => {
-            let last = put_all(doc, table, n + 1, end, false, out, from, form);
+            let last = put_all(doc, table, n + 1, end, false, out, from, way);
             raw::put_number(out, last, 1, 0);
             last + 1
         }
-        _ => put_leaf(doc, table, n, out, from, form),
+        _ => put_leaf(doc, table, n, out, from, way),
     }
 }
 
@@ -140,16 +214,16 @@ fn put_all(
     list: bool,
     out: &mut [u8],
     at: usize,
-    form: u32,
+    way: u32,
 ) -> usize
-    requires { ⌜ SomeRoom (formNo form) (now doc) (now table) list n end (now out) at ⌝ }
-    ensures { λ r. ⌜ PutAllIs (formNo form) (now (doc .entry)) (now (table .entry)) list n end (now (out .entry)) at (now (out .exit)) r ⌝ }
+    requires { ⌜ SomeRoom (wayNo way) (now doc) (now table) list n end (now out) at ⌝ }
+    ensures { λ r. ⌜ PutAllIs (wayNo way) (now (doc .entry)) (now (table .entry)) list n end (now (out .entry)) at (now (out .exit)) r ⌝ }
 {
     let mut i = n;
     let mut here = at;
     while i < end {
         let next = table::word(table, i, table::END);
-        here = put_one(doc, table, i, next, list, out, here, form);
+        here = put_one(doc, table, i, next, list, out, here, way);
         i = next;
     }
     here
@@ -161,29 +235,29 @@ pub fn put(doc: &[u8], table: &[u32], out: &mut [u8], form: u32) -> usize
     ensures { λ r. ⌜ PutIs (formNo form) (now (doc .entry)) (now (table .entry)) (now (out .entry)) (now (out .exit)) r ⌝ }
 {
     let end = table::word(table, 0, table::END);
-    put_all(doc, table, 0, end, false, out, 0, form)
+    put_all(doc, table, 0, end, false, out, 0, ways::between(form, form))
 }
 
 // Whether a span of the document is well formed, or where not.
-fn checked(doc: &[u8], start: usize, size: usize, form: u32) -> Checked
+fn checked(doc: &[u8], start: usize, size: usize, way: u32) -> Checked
     requires { ⌜ start + size ≤ length (now doc) ⌝ }
-    ensures { λ r. ⌜ verdictOf r ≡ verdictIn (formNo form .strings) (part (now (doc .entry)) start size) ⌝ }
+    ensures { λ r. ⌜ verdictOf r ≡ verdictIn (wayNo way .from .strings) (part (now (doc .entry)) start size) ⌝ }
 {
     let end = start + size;
-    mutf8::check(&doc[start..end], form)
+    mutf8::check(&doc[start..end], ways::source(way))
 }
 
 // Where in the document the first sequence that can't be read begins, of record n's name or else of its payload (02, [3]).
-fn bad_place(doc: &[u8], table: &[u32], n: usize, form: u32) -> usize
+fn bad_place(doc: &[u8], table: &[u32], n: usize, way: u32) -> usize
     requires { ⌜ Placed (now doc) (now table) n ⌝ }
-    ensures { λ r. ⌜ r ≡ badPlace (formNo form) (now (doc .entry)) (headOf (now (table .entry)) n) ⌝ }
+    ensures { λ r. ⌜ r ≡ badPlace (wayNo way) (now (doc .entry)) (headOf (now (table .entry)) n) ⌝ }
 {
     let name = table::word(table, n, table::NAME);
-    match checked(doc, name, table::word(table, n, table::NAME_LENGTH), form) {
+    match checked(doc, name, table::word(table, n, table::NAME_LENGTH), way) {
         Checked::Bad(k) => name + k,
         Checked::Good => {
             let start = table::word(table, n, table::START);
-            match checked(doc, start, table::word(table, n, table::LENGTH), form) {
+            match checked(doc, start, table::word(table, n, table::LENGTH), way) {
                 Checked::Bad(k) => start + k,
                 Checked::Good => 0,
             }
@@ -192,14 +266,14 @@ fn bad_place(doc: &[u8], table: &[u32], n: usize, form: u32) -> usize
 }
 
 // The refusal of record n: 4 at the character, with the record beside it (02, [3]); any other at the record.
-fn refused(doc: &[u8], table: &[u32], number: u8, n: usize, form: u32) -> Answer
+fn refused(doc: &[u8], table: &[u32], number: u8, n: usize, way: u32) -> Answer
     requires { ⌜ Placed (now doc) (now table) n ⌝ }
-    ensures { λ r. ⌜ answerOut r ≡ answerOf (formNo form) (now (doc .entry)) (now (table .entry)) (no number n) ⌝ }
+    ensures { λ r. ⌜ answerOut r ≡ answerOf (wayNo way) (now (doc .entry)) (now (table .entry)) (no number n) ⌝ }
 {
     if number == form::BAD_STRING {
         return Answer::Refused {
             number,
-            place: bad_place(doc, table, n, form),
+            place: bad_place(doc, table, n, way),
             record: n,
         };
     }
@@ -212,13 +286,13 @@ fn refused(doc: &[u8], table: &[u32], number: u8, n: usize, form: u32) -> Answer
 
 // A table: its records are judged, then there is room (13), then they are written. The root is taken as records side by side, of which
 // there is one, so that each walk has one loop in which small records are done with no call.
-fn written(doc: &[u8], table: &mut [u32], out: &mut [u8], form: u32) -> Answer
+fn written(doc: &[u8], table: &mut [u32], out: &mut [u8], way: u32) -> Answer
     requires { ⌜ Formed (now doc) (now table) ⌝ }
-    ensures { λ r. ⌜ (WrittenIs (formNo form) (now (doc .entry)) (now (table .entry)) (now (out .entry)) r (now (out .exit))) × (now (table .exit) ≡ now (table .entry)) ⌝ }
+    ensures { λ r. ⌜ (WrittenIs (wayNo way) (now (doc .entry)) (now (table .entry)) (now (out .entry)) r (now (out .exit))) × (now (table .exit) ≡ now (table .entry)) ⌝ }
 {
     let end = table::word(table, 0, table::END);
-    match nbt_judging::judged(doc, table, 0, end, form::DEPTH, false, 0, form) {
-        Size::No { number, place } => refused(doc, table, number, place, form),
+    match nbt_judging::judged(doc, table, 0, end, form::DEPTH, false, 0, way) {
+        Size::No { number, place } => refused(doc, table, number, place, way),
         Size::Is(bytes) => {
             if out.len() < bytes {
                 return Answer::Refused {
@@ -227,16 +301,16 @@ fn written(doc: &[u8], table: &mut [u32], out: &mut [u8], form: u32) -> Answer
                     record: 0,
                 };
             }
-            put_all(doc, table, 0, end, false, out, 0, form);
+            put_all(doc, table, 0, end, false, out, 0, way);
             Answer::Written { bytes }
         }
     }
 }
 
-// Writes the document that a table stands for: a limit first (9), then whether the words form a table (10), then its records. The table
-// is lent to be changed, since the search for repeated names uses the records' free words; it comes back as it was.
-pub fn write(doc: &[u8], table: &mut [u32], out: &mut [u8], form: u32) -> Answer
-    ensures { λ r. ⌜ WroteIs (formNo form) (now (doc .entry)) (now (table .entry)) (now (table .exit)) (now (out .entry)) (answerOut r) (now (out .exit)) ⌝ }
+// Writes the document that a table stands for, in its own form or another: a limit first (9), then whether the words form a table (10), then
+// its records. The table is lent to be changed, since the search for repeated names uses the records' free words; it comes back as it was.
+pub fn write(doc: &[u8], table: &mut [u32], out: &mut [u8], from: u32, to: u32) -> Answer
+    ensures { λ r. ⌜ WroteIs (wayFrom (formNo from) (formNo to)) (now (doc .entry)) (now (table .entry)) (now (table .exit)) (now (out .entry)) (answerOut r) (now (out .exit)) ⌝ }
 {
     match table::is_table(doc.len(), table) {
         Verdict::OverLimit => Answer::Refused {
@@ -249,6 +323,6 @@ pub fn write(doc: &[u8], table: &mut [u32], out: &mut [u8], form: u32) -> Answer
             place: 0,
             record: 0,
         },
-        Verdict::Table => written(doc, table, out, form),
+        Verdict::Table => written(doc, table, out, ways::between(from, to)),
     }
 }

@@ -140,7 +140,7 @@ fn print_written(answer: nbt_writer::Answer) {
 // The answers to a table, and what the write left.
 fn print_write(doc: &[u8], bytes: &[u8], table: &mut [u32], out: &mut [u8]) {
     print_verdict(table::is_table(doc.len(), table));
-    print_written(nbt_writer::write(doc, table, out, POCKET));
+    print_written(nbt_writer::write(doc, table, out, POCKET, POCKET));
     lines::print_bytes(out);
     lines::print_changed(bytes, table);
     io::write_all(1, b"\n");

@@ -5,6 +5,7 @@
 // in stdout are of a second check and a second writer: tests/replay/tables.py made them.
 ghost use mathlib.Core.Path.{_≡_};
 ghost use lib.ListN.{length};
+use form::forms::JAVA;
 use lines::Line;
 use nbt_writer::Answer;
 use table::Verdict;
@@ -48,7 +49,7 @@ fn print_answer(answer: Answer) {
 // The answers to a table, and what the write left.
 fn print_answers(doc: &[u8], bytes: &[u8], table: &mut [u32], out: &mut [u8]) {
     print_verdict(table::is_table(doc.len(), table));
-    print_answer(nbt_writer::write(doc, table, out, form::forms::JAVA));
+    print_answer(nbt_writer::write(doc, table, out, JAVA, JAVA));
     lines::print_bytes(out);
     lines::print_changed(bytes, table);
     io::write_all(1, b"\n");

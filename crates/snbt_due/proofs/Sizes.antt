@@ -4,11 +4,13 @@ use Prim.Native.Nat.{ℕ, zero, suc, _+_, _-_, _*_, _≤_, _<_}
 use mathlib.Core.Bool.{Bool, true, false, _||_}
 use mathlib.Core.List.{List, [], _∷_}
 use native.Mathlib.Omega.{arith}
-use lib.Dec.{eqb, ltb, leb}
-use lib.ListN.{length, drop, getD, length-append}
+use lib.Dec.{eqb, leb}
+use lib.ListN.{length, drop, getD}
 use Rattle.form.specs.Answer.{Out, got, _>>=_, _>>_, guard}
-use Rattle.form.specs.Strings.{unitBytes, scalarBytes, encodeBy, highHalf, lowHalf}
+use Rattle.form.specs.Form.{modified}
+use Rattle.form.specs.Strings.{scalarBytes, encodeBy}
 use Rattle.form.proofs.Picks.{pick-le, lt-or}
+use Rattle.form.proofs.Turned.{encoded-size}
 use mathlib.Core.Logic.{_⊎_, inl, inr}
 use borrow.Author.Tests.{le-leb, lt-leb}
 use Rattle.snbt_form.specs.Numbers.{Number, isDigit, number}
@@ -83,23 +85,6 @@ module _ {t : List ℕ} {d : TokenData} {n : ℕ} (met : Met t d n) where
 
 -- ---- how long a content is
 
-unit-size : (c : ℕ) → length (unitBytes c) ≤ 3
-unfolding unitBytes
-unit-size c =
-    let P : List ℕ → Type 0 = λ (l : List ℕ). length l ≤ 3 in
-    either-way P (eqb c 0) (omega arith) (either-way P (ltb c 128) (omega arith) (either-way P (ltb c 2048) (omega arith) (omega arith)))
-
-scalar-size : (c : ℕ) → length (scalarBytes c) ≤ 6
-unfolding scalarBytes
-scalar-size c =
-    let P : List ℕ → Type 0 = λ (l : List ℕ). length l ≤ 6 in
-    either-way P (ltb c 65536) (omega (arith, unit-size c))
-    (omega (arith, length-append (unitBytes (highHalf c)) (unitBytes (lowHalf c)), unit-size (highHalf c), unit-size (lowHalf c)))
-
-encoded-size : (cs : List ℕ) → length (encodeBy scalarBytes cs) ≤ 6 * length cs
-encoded-size [] = omega arith
-encoded-size (c ∷ cs) = omega (arith, length-append (scalarBytes c) (encodeBy scalarBytes cs), scalar-size c, encoded-size cs)
-
 scalars-few : (f : ℕ) (q : Bool) (l : List ℕ) (p : ℕ) → Holds (λ (cs : List ℕ). length cs ≤ f) (scalarsBy f q l p)
 unfolding scalarsBy
 scalars-few zero q [] p = omega arith
@@ -114,7 +99,7 @@ content-size : (t : List ℕ) (q : Bool) (a e : ℕ) → Holds (λ (s : List ℕ
 unfolding contentOf
 content-size t q a e =
     holds-bind (λ (s : List ℕ). length s ≤ 6 * (e - a)) (scalarsBy (e - a) q (part t a (e - a)) a) (λ (cs : List ℕ). got (encodeBy scalarBytes cs))
-    (λ cs g. let z = from-got (λ (cs : List ℕ). length cs ≤ e - a) _ cs (scalars-few (e - a) q (part t a (e - a)) a) g in omega (arith, z, encoded-size cs))
+    (λ cs g. let z = from-got (λ (cs : List ℕ). length cs ≤ e - a) _ cs (scalars-few (e - a) q (part t a (e - a)) a) g in omega (arith, z, encoded-size modified cs))
 
 -- a test that is passed
 guard-le : {A : Type 0} (P : A → Type 0) (a b n p : ℕ) (o : Out A) → (a ≤ b → Holds P o) → Holds P (guard (leb a b) n p >> o)

@@ -2,7 +2,7 @@
 -- Assumes nothing.
 use borrow.Author.Needs.{needs}
 use mathlib.Core.Path.{_≡_, sym, ap, _∙_}
-use Rattle.form.specs.Form.{formNo}
+use Rattle.form.specs.Form.{wayNo}
 use Rattle.form.specs.Writing.{stringFine}
 use Rattle.form.specs.Table.{headOf}
 use Rattle.nbt_judging.specs.Steps.{fineOut}
@@ -10,19 +10,12 @@ use Rattle.nbt_judging.proofs.Pieces.{own-name, own-twice, own-on}
 use Rattle.nbt_judging.proofs.own_fine.Statement.{statement}
 use Rattle.nbt_judging.proofs.own_fine.Tie as tie
 
--- From where the name's place is read.
-abbrev start-of : tie.After-word → tie.Start
-start-of c = c .before .before .before
-
--- The name is the record's.
-named : (c : tie.After-string-fine) →
-    let a = start-of (c .before .before) .args in
+-- The name is judged.
+named : (c : tie.After-name-fine) →
+    let a = c .before .before .before .args in
     let h = headOf (a .table .now) (a .n) in
-    stringFine (formNo (a .form)) (a .doc .now) (h .name) (h .name-length) (a .n) ≡ fineOut (c .string-fine .result)
-named c =
-    let at-name = c .before .before in
-    let a = start-of at-name .args in
-    sym (c .string-fine .ensures ∙ (λ i. stringFine (formNo (a .form)) (a .doc .now) (at-name .word .ensures i) (c .before .word2 .ensures i) (a .n)))
+    stringFine (wayNo (a .way)) (a .doc .now) (h .name) (h .name-length) (a .n) ≡ fineOut (c .name-fine .result)
+named c = sym (c .name-fine .ensures)
 
 returns : tie.Need-returns
 returns c =
@@ -44,8 +37,6 @@ pub own-fine-spec : {M : Type 1} → statement M
 own-fine-spec =
     tie.close
     (tie.spec
-    (λ c κs. search needs)
-    (λ c κs. search needs)
     (λ c κs. search needs)
     (λ c. search needs)
     (λ c. search needs)

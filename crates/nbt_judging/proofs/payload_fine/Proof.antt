@@ -1,9 +1,9 @@
 -- Right since a string's span is judged, and no other.
 -- Assumes nothing.
 use borrow.Author.Needs.{needs}
-use mathlib.Core.Path.{sym, _∙_}
-use Rattle.form.specs.Form.{formNo}
-use Rattle.form.specs.Writing.{stringFine}
+use mathlib.Core.Path.{_≡_, sym, _∙_}
+use Rattle.form.specs.Form.{wayNo}
+use Rattle.form.specs.Writing.{stringFine, payloadFine}
 use Rattle.form.proofs.Writing.{payload-string, payload-other}
 use Rattle.form.specs.Table.{headOf}
 use Rattle.nbt_judging.proofs.payload_fine.Statement.{statement}
@@ -13,21 +13,24 @@ use Rattle.nbt_judging.proofs.payload_fine.Tie as tie
 abbrev start-of : tie.After-word → tie.Start
 start-of c = c .before .before .before
 
-returns : tie.Need-returns
-returns c =
-    let at-length = c .before in
-    let at-start = at-length .before in
+-- What is judged of a string's span is judged of the record.
+judged : (c : tie.After-word3) →
+    let string = c .before .before in
+    let a = start-of (string .before) .args in
+    let h = headOf (a .table .now) (a .n) in
+    stringFine (wayNo (a .way)) (a .doc .now) (c .before .word2 .result) (c .word3 .result) (a .n) ≡ payloadFine (wayNo (a .way)) (a .doc .now) h (a .n)
+judged c =
+    let at-start = c .before in
     let string = at-start .before in
     let at-kind = string .before in
     let a = start-of at-kind .args in
-    c .string-fine .ensures
-    ∙ (λ i. stringFine (formNo (a .form)) (a .doc .now) (at-start .word2 .ensures i) (at-length .word3 .ensures i) (a .n))
-    ∙ sym (payload-string (formNo (a .form)) (a .doc .now) (headOf (a .table .now) (a .n)) (a .n) (sym (at-kind .word .ensures) ∙ string .match .keys1))
+    (λ i. stringFine (wayNo (a .way)) (a .doc .now) (at-start .word2 .ensures i) (c .word3 .ensures i) (a .n))
+    ∙ sym (payload-string (wayNo (a .way)) (a .doc .now) (headOf (a .table .now) (a .n)) (a .n) (sym (at-kind .word .ensures) ∙ string .match .keys1))
 
-returns-2 : tie.Need-returns-2
-returns-2 c =
+returns-3 : tie.Need-returns-3
+returns-3 c =
     let a = start-of (c .before) .args in
-    sym (payload-other (formNo (a .form)) (a .doc .now) (headOf (a .table .now) (a .n)) (a .n) (λ q. c .match .rest .1 (c .before .word .ensures ∙ q)))
+    sym (payload-other (wayNo (a .way)) (a .doc .now) (headOf (a .table .now) (a .n)) (a .n) (λ q. c .match .rest .1 (c .before .word .ensures ∙ q)))
 
 pub payload-fine-spec : {M : Type 1} → statement M
 payload-fine-spec =
@@ -37,5 +40,7 @@ payload-fine-spec =
     (λ c κs. search needs)
     (λ c κs. search needs)
     (λ c κs. search needs)
-    returns
-    returns-2)
+    (λ c. c .long-fine .ensures ∙ judged (c .before .before))
+    (λ c κs. search needs)
+    (λ c. c .short-fine .ensures ∙ judged (c .before .before))
+    returns-3)

@@ -4,7 +4,7 @@ use borrow.Author.Needs.{needs}
 use native.Mathlib.Omega.{arith}
 use mathlib.Core.Path.{refl}
 use Prim.Native.Nat.{_+_}
-use Rattle.form.specs.Form.{big, formNo}
+use Rattle.form.specs.Form.{big, wayNo}
 use Rattle.form.proofs.Digits.{digits-length}
 use Rattle.form.specs.Table.{headOf}
 use Rattle.nbt_judging.specs.Pieces.{listBytes}
@@ -29,7 +29,7 @@ returns c =
     let a = start-of (id .before .before) .args in
     let h = headOf (a .table .now) (a .n) in
     let one = puts-number big 1 (h .list-kind) (a .at + 1) refl (id .before .word .ensures) (id .put-number .ensures) in
-    let two = puts-number (formNo (a .form) .order) 4 (h .count) (a .at + 5) (omega arith) (count .word2 .ensures) (put .put-count .ensures) in
+    let two = puts-number (wayNo (a .way) .to .order) 4 (h .count) (a .at + 5) (omega arith) (count .word2 .ensures) (put .put-count .ensures) in
     puts-then one (omega (arith, digits-length 1 (h .list-kind))) two
 
 pub put-list-spec : {M : Type 1} → statement M

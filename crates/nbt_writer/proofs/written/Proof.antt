@@ -4,7 +4,7 @@ use borrow.Author.Needs.{needs}
 use native.Mathlib.Omega.{arith}
 use mathlib.Core.Path.{refl, ap}
 use lib.ListN.{length}
-use Rattle.form.specs.Form.{formNo}
+use Rattle.form.specs.Form.{wayNo}
 use Rattle.nbt_writer.proofs.Documents.{root-room, root, table-placed, table-no, refused-gives, table-room, table-full, table-done}
 use Rattle.nbt_writer.proofs.written.Statement.{statement}
 use Rattle.nbt_writer.proofs.written.Tie as tie
@@ -50,7 +50,7 @@ returns c =
     let told = judged-of (passed .before .before) in
     let at-bytes = bytes-at told in
     let start = at-bytes .before in (
-      λ i. table-full _ _ (start .pre .small) i (formNo (start .args .form)) (start .args .out .now) (word-of told .word .ensures) (told .judged .result) (told .judged .ensures .0)
+      λ i. table-full _ _ (start .pre .small) i (wayNo (start .args .way)) (start .args .out .now) (word-of told .word .ensures) (told .judged .result) (told .judged .ensures .0)
           (passed .bytes .given .1) (λ k. omega (arith, at-bytes .shared-slice-known .given k)) (c .if1 .taken),
       told .judged .ensures .1,
     )
@@ -61,7 +61,7 @@ put-all-requires c κs =
     let passed = passed-of roomy in
     let told = judged-of (passed .before .before) in
     let start = bytes-at told .before in
-    table-room _ _ (start .pre .small) (start .pre .table) (formNo (start .args .form)) (start .args .out .now) (word-of told .word .ensures) (told .judged .result) (told .judged .ensures .0)
+    table-room _ _ (start .pre .small) (start .pre .table) (wayNo (start .args .way)) (start .args .out .now) (word-of told .word .ensures) (told .judged .result) (told .judged .ensures .0)
     (passed .bytes .given .1) (told .judged .ensures .1) (roomy .if1 .left)
 
 -- Where the records are judged, from where one of them is refused.
@@ -73,7 +73,7 @@ refused-requires c κs =
     let refusal = refusal-of c in
     let told = judged-of (refusal .before .before) in
     let start = bytes-at told .before in
-    table-placed _ _ (start .pre .small) (start .pre .table) (formNo (start .args .form)) (start .args .out .now) (word-of told .word .ensures) (told .judged .result) (told .judged .ensures .0)
+    table-placed _ _ (start .pre .small) (start .pre .table) (wayNo (start .args .way)) (start .args .out .now) (word-of told .word .ensures) (told .judged .result) (told .judged .ensures .0)
     (refusal .number .given .1) (told .judged .ensures .1)
 
 returns-2 : tie.Need-returns-2
@@ -82,7 +82,7 @@ returns-2 c =
     let told = judged-of (refusal .before .before) in
     let start = bytes-at told .before in (
       λ i. refused-gives _ _ _ (refusal .number .given .0 .0) (refusal .number .given .0 .1 .0)
-          (table-no _ _ (start .pre .small) i (formNo (start .args .form)) (start .args .out .now) (word-of told .word .ensures)
+          (table-no _ _ (start .pre .small) i (wayNo (start .args .way)) (start .args .out .now) (word-of told .word .ensures)
           (told .judged .result) (told .judged .ensures .0) (refusal .number .given .1))
           (told .judged .ensures .1) (c .refused .ensures),
       told .judged .ensures .1,
@@ -96,7 +96,7 @@ returns-3 c =
     let told = judged-of (passed .before .before) in
     let at-bytes = bytes-at told in
     let start = at-bytes .before in (
-      λ i. table-done _ _ (start .pre .small) i (formNo (start .args .form)) (start .args .out .now) (word-of told .word .ensures) (told .judged .result) (told .judged .ensures .0)
+      λ i. table-done _ _ (start .pre .small) i (wayNo (start .args .way)) (start .args .out .now) (word-of told .word .ensures) (told .judged .result) (told .judged .ensures .0)
           (passed .bytes .given .1) (λ k. omega (arith, at-bytes .shared-slice-known .given k)) (told .judged .ensures .1) (roomy .if1 .left) (put .put-all .ensures),
       told .judged .ensures .1,
     )

@@ -5,7 +5,7 @@ use mathlib.Core.Path.{_≡_, refl, sym, ap, subst, _∙_}
 use native.Mathlib.Omega.{arith}
 use borrow.Fn.Kinds.{In, Out}
 use lib.ListN.{length}
-use Rattle.form.specs.Form.{formNo}
+use Rattle.form.specs.Form.{wayNo}
 use Rattle.nbt_judging.specs.declared.Size.{Size}
 use Rattle.nbt_judging.specs.Pieces.{firstTwice}
 use Rattle.nbt_judging.specs.Steps.{Some}
@@ -21,11 +21,11 @@ use Rattle.nbt_judging.proofs.+judged+one_judged.Lts-judged as lts
 use Rattle.nbt_judging.proofs.+judged+one_judged.Proof.Common.{judged-at, one-judged-below}
 
 abbrev pub Inv-loop : lts.InvT-loop
-Inv-loop doc table₀ n end left list k form repeat i₀ total₀ table i total =
-    (table ≡ table₀) × ((p : Some doc table₀ list n end) → Walk (formNo form) doc table₀ left list k n end repeat (p .forest) i total)
+Inv-loop doc table₀ n end left list k way repeat i₀ total₀ table i total =
+    (table ≡ table₀) × ((p : Some doc table₀ list n end) → Walk (wayNo way) doc table₀ left list k n end repeat (p .forest) i total)
 
 abbrev pub μ-loop : lts.MeasureT-loop
-μ-loop doc table₀ n end left list k form repeat i₀ total₀ table i total = end - i
+μ-loop doc table₀ n end left list k way repeat i₀ total₀ table i total = end - i
 
 -- What the calls ask and give.
 abbrev pub claims : ℕ → lts.Claims
@@ -140,7 +140,7 @@ module _ (t : ℕ) where
   add-total c =
       let turn = turn-of (word-of (one-of (c .before .before .before))) in
       let p = some (search-of (turn .before)) in
-      omega (arith, walk-le _ _ _ _ _ _ _ _ (loop-again c .1 p), rows-bound (formNo (start-of (search-of (turn .before) .before) .args .form)) _ _ _ _ _ (p .forest) (p .small) (p .rows))
+      omega (arith, walk-le _ _ _ _ _ _ _ _ (loop-again c .1 p), rows-bound (wayNo (start-of (search-of (turn .before) .before) .args .way)) _ _ _ _ _ (p .forest) (p .small) (p .rows))
 
   -- ---- all are judged
 

@@ -7,7 +7,7 @@ use native.Mathlib.Omega.{arith}
 use borrow.Fn.Kinds.{In, Out}
 use lib.ListN.{length}
 use lib.Dec.{eqb}
-use Rattle.form.specs.Form.{formNo}
+use Rattle.form.specs.Form.{wayNo}
 use Rattle.form.specs.Answer.{got}
 use Rattle.form.specs.Table.{none, node, word as wordOf, holds, headOf}
 use Rattle.nbt_judging.specs.Pieces.{ownFine}
@@ -67,7 +67,7 @@ module _ (t : ℕ) where
       let s = passed-start (c .before) in
       let p = one-placed (s .pre .1) in
       let d = s .pre .1 .small .bytes in
-      (p .room, omega (arith, p .body, d), omega (arith, p .name, d))
+      (p, omega (arith, p .body, d), omega (arith, p .name, d))
 
   -- It is refused by itself.
   pub returns-2 : On t lts.Need-returns-2
@@ -80,7 +80,7 @@ module _ (t : ℕ) where
 
   fine : (c : On t lts.After-enum-told) →
       let a = passed-start c .args in
-      ownFine (formNo (a .form)) (a .doc .now) (a .left) (a .list) (a .k) (a .twice) (a .n) (headOf (a .table .now) (a .n)) ≡ got tt
+      ownFine (wayNo (a .way)) (a .doc .now) (a .left) (a .list) (a .k) (a .twice) (a .n) (headOf (a .table .now) (a .n)) ≡ got tt
   fine c = sym (fine-of c .own-fine .ensures) ∙ ap fineOut (c .enum-told .given .1)
 
   -- No records are in it.
@@ -158,4 +158,4 @@ module _ (t : ℕ) where
   add-whole c =
       let at-kind = kind-of (judged-of (c .before .before .before) .before) in
       let p = passed-start (passed-of (size-of at-kind)) .pre .1 in
-      omega (arith, returns-4 c .0 p .1, rows-bound (formNo (passed-start (passed-of (size-of at-kind)) .args .form)) _ _ _ _ _ (node (p .head) (p .inner) none) (p .small) (p .rows))
+      omega (arith, returns-4 c .0 p .1, rows-bound (wayNo (passed-start (passed-of (size-of at-kind)) .args .way)) _ _ _ _ _ (node (p .head) (p .inner) none) (p .small) (p .rows))

@@ -66,7 +66,10 @@ module _ (t : ℕ) where
   more c = let o = c .pre .1 .one in (omega (arith, rows-to _ _ _ _ _ (o .head) (o .inner) (o .rows)), o .rows .fits)
 
   pub put-name-requires : On t lts.Need-put-name-requires
-  put-name-requires c κs = let s = start-of (c .before) in (one-placed (s .pre .1 .one), name-room _ _ _ _ _ _ _ _ (s .pre .1))
+  put-name-requires c κs =
+      let s = start-of (c .before) in
+      let o = s .pre .1 .one in
+      (one-placed o, omega (arith, one-placed o .name, o .small .bytes), name-room _ _ _ _ _ _ _ _ (s .pre .1))
 
   pub word-requires : On t lts.Need-word-requires
   word-requires c κs =
@@ -162,7 +165,11 @@ module _ (t : ℕ) where
       let at-kind = c .before .before in
       let e = at-kind .word .ensures in
       let s = start-at at-kind in
-      (one-placed (s .pre .1 .one), leaf-room _ _ _ _ _ _ _ _ (s .pre .1) (name-of at-kind .put-name .ensures) (λ q. other .0 .1 (e ∙ q)) (λ q. other .1 (e ∙ q)))
+      let o = s .pre .1 .one in (
+        one-placed o,
+        omega (arith, one-placed o .body, o .small .bytes),
+        leaf-room _ _ _ _ _ _ _ _ (s .pre .1) (name-of at-kind .put-name .ensures) (λ q. other .0 .1 (e ∙ q)) (λ q. other .1 (e ∙ q)),
+      )
 
   pub returns-3 : On t lts.Need-returns-3
   returns-3 c =

@@ -1,9 +1,9 @@
--- `call_write::write` meets its contract: the words of the writer's answer.
+-- `call_write::convert` meets its contract: the words of the writer's answer.
 -- Assumes nothing.
 use borrow.Author.Needs.{needs}
 use Rattle.call_write.proofs.Words.{write-accepted, write-refused}
-use Rattle.call_write.proofs.write.Statement.{statement}
-use Rattle.call_write.proofs.write.Tie as tie
+use Rattle.call_write.proofs.convert.Statement.{statement}
+use Rattle.call_write.proofs.convert.Tie as tie
 
 returns : tie.Need-returns
 returns c =
@@ -19,8 +19,8 @@ returns-2 c =
     let at-write = at-told .before .before .before in
     write-refused _ _ _ _ _ _ (at-answer .refusal .given .1) (at-write .write .ensures)
 
-pub write-spec : {M : Type 1} → statement M
-write-spec =
+pub convert-spec : {M : Type 1} → statement M
+convert-spec =
     tie.close
     (tie.spec
     (λ c κs. search needs)

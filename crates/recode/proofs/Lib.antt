@@ -1,0 +1,4 @@
+pub mod Outputs
+pub mod Numbers
+pub mod Characters
+pub mod There
