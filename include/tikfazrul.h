@@ -16,19 +16,21 @@
  *    2  the root is no compound 0
  *    3  no such tag id          the id byte
  *    4  a broken string         it is not modified UTF-8 or, in the pocket form, not UTF-8 (02, [2]): where the first sequence that can't be read
- *                               begins (02, [3]), in tikfazrul_write too, which has the record in [2]: a stray byte or a bad lead itself; the
- *                               lead of one that is cut, overlong or wrongly continued; in modified UTF-8 a zero byte, a high half that no low
- *                               half follows, or a low half that follows none; in UTF-8 any half, and C0 80, which is overlong there
+ *                               begins (02, [3]), in tikfazrul_write and tikfazrul_convert too, which have the record in [2]: a stray byte or a
+ *                               bad lead itself; the lead of one that is cut, overlong or wrongly continued; in modified UTF-8 a zero byte, a
+ *                               high half that no low half follows, or a low half that follows none; in UTF-8 any half, and C0 80, which is
+ *                               overlong there
  *    5  a count below 0         its first byte
  *    6  a name twice            the id byte of the later entry (tikfazrul_write: the later record; tikfazrul_parse: the later key)
  *    7  over 512 deep           the first payload byte (tikfazrul_write, tikfazrul_query: the record; tikfazrul_parse: the opening brace)
  *    8  the table is full       the first payload byte (tikfazrul_read_lines: the line's number)
  *    9  over a limit            0: a document over 16,777,216 bytes, a table to check, to write, to store or to ask over 9,437,184 words, more
  *                               than 1,048,576 lines, or a text over 1,048,576 bytes
- *   10  no table                0: the words form no table, for which one wrong parent is enough (tikfazrul_write, tikfazrul_write_lines,
- *                               tikfazrul_lines_up, tikfazrul_lines_down, tikfazrul_query)
+ *   10  no table                0: the words form no table, for which one wrong parent is enough (tikfazrul_write, tikfazrul_convert,
+ *                               tikfazrul_write_lines, tikfazrul_lines_up, tikfazrul_lines_down, tikfazrul_query)
  *   11  a mixed list            the record of another kind than its list's first (tikfazrul_parse: the element's token)
- *   12  over 65,535 bytes       the record whose name or string it is (tikfazrul_parse: the token)
+ *   12  over 65,535 bytes       the record whose name or string it is, in the document or as tikfazrul_convert would write it
+ *                               (tikfazrul_parse: the token)
  *   13  the output is full      0 (tikfazrul_parse: the token whose bytes do not fit)
  *   14  a malformed query       the first byte of the step, as an offset in the query
  *   15  not UTF-8               tikfazrul_check_utf8: the first sequence that can't be read; elsewhere 0, also for a start off a character
@@ -116,6 +118,15 @@ void tikfazrul_write(const uint8_t *doc, size_t doc_len, uint32_t *table, size_t
  * TIKFAZRUL_JAVA. Names and payloads are judged by that form and copied as they stand; counts and lengths are put in it. */
 void tikfazrul_write_in(uint32_t form, const uint8_t *doc, size_t doc_len, uint32_t *table, size_t table_len, uint8_t *out, size_t out_len,
                         uint64_t answer[8]);
+
+/* Writes the document that a table stands for in another form, with all values kept (02, [2]): `from` is the form that `doc` is in, `to` the
+ * form that is written; where they are one form, this is tikfazrul_write_in. A string keeps its characters, which may take more bytes or fewer:
+ * U+0000 is C0 80 in Java's form and 00 in the pocket edition's, a character above U+FFFF six bytes and four. Integers are the same integers,
+ * floats the same bits; an empty list is written as five zero bytes. Accepted: [2] is the number of bytes written, from out[0] on; no other byte
+ * changes. Refused (9, 10; then by record 12, 4, 12 of what is written, 6, 7, 11, and 12, 4, 12 of a string; 13 last): the output is as it was.
+ * 12's place is the record; 4's is the offset in `doc`, with the record in [2]. The table comes back as in tikfazrul_write. */
+void tikfazrul_convert(uint32_t from, uint32_t to, const uint8_t *doc, size_t doc_len, uint32_t *table, size_t table_len, uint8_t *out,
+                       size_t out_len, uint64_t answer[8]);
 
 /* Writes a whole document of one that tikfazrul_read_in refuses with 1, cut in transfer: with every tag that was completely read before the
  * cut, in file order and with the value it had. `form` is the one that `doc` is in, and that is written (02, [2]). Containers open at the cut are

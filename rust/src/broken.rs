@@ -1,6 +1,8 @@
-//! Names and strings that can't be read: which they are, and the bytes of the sequence at fault (02, [3]).
+//! Names and strings that can't be read: which they are, and the bytes of the sequence at fault (02, [3]). And those that are too long in
+//! another form.
 use crate::form::{check_string, Form};
-use crate::node::Kind;
+use crate::node::{Kind, Node};
+use crate::path::MAX_NAME;
 use crate::refusal::{Place, Refusal};
 use crate::rescue::{rescue_in, Rescued};
 use crate::table::{read_in, Table};
@@ -18,7 +20,8 @@ pub enum Part {
     String,
 }
 
-/// A name or a string that is not modified UTF-8, or in the pocket edition's form not UTF-8: what a refusal 4 speaks of.
+/// A name or a string that is not modified UTF-8, or in the pocket edition's form not UTF-8: what a refusal 4 speaks of. Or one that is too
+/// long in Java's form, into which a document is converted: what 12 then speaks of.
 #[derive(Clone, Debug, PartialEq, Eq)]
 pub struct Broken {
     /// Where it is, as a path that [`Query`](crate::Query) reads: of the tag whose value it is, of the compound in which the entry stands
@@ -26,7 +29,8 @@ pub struct Broken {
     pub path: String,
     /// Which string it is.
     pub part: Part,
-    /// The bytes of the document that make up the sequence: its lead, and the continuation bytes that belong to it.
+    /// The bytes of the document that make up the sequence: its lead, and the continuation bytes that belong to it. Of a string that is too
+    /// long, all.
     pub bytes: Range<usize>,
 }
 
@@ -65,8 +69,8 @@ impl Refusal {
         Some(Broken { path, part, bytes: at..at + width(&doc[at..content.end]) })
     }
 
-    /// The name or the string that can't be read, where [`write()`](crate::write()) refuses this table over `doc` so. `None` for every other
-    /// refusal, table and document.
+    /// The name or the string that can't be read, or is too long in Java's form, where [`write()`](crate::write()) or
+    /// [`write_in`](crate::write_in) refuses this table over `doc` so. `None` for every other refusal, table and document.
     ///
     /// ```
     /// use tikfazrul::{write, Part, Place, Refusal, Table};
@@ -79,28 +83,43 @@ impl Refusal {
     /// assert_eq!((broken.path.as_str(), broken.part, broken.bytes), ("root/\"\"", Part::String, 2..3));
     /// ```
     pub fn broken_in(&self, doc: &[u8], table: &Table) -> Option<Broken> {
-        let (Place::In { byte, record }, Some(form)) = (self.place(), self.broken_form()) else {
-            return None;
-        };
-        let fits = form == table.form() && record < table.len();
-        let node = table.root(doc).ok().filter(|_| fits)?.at(record);
-        let (name, payload) = (node.name_range(), node.payload_range());
-        let breaks = |string: &Range<usize>| breaks(form, doc, string, byte);
-        // rule 8: a name is judged before the string
-        let (path, part, end) = match node.parent() {
-            None if breaks(&name) => (node.path(), Part::RootName, name.end),
-            Some(parent) if breaks(&name) => (parent.path(), Part::Name, name.end),
-            _ if node.kind() == Kind::String && breaks(&payload) => (node.path(), Part::String, payload.end),
+        let record = self.place().record().filter(|&record| record < table.len())?;
+        let node = table.root(doc).ok()?.at(record);
+        let form = table.form();
+        let (path, part, bytes) = match (*self, self.place()) {
+            (Refusal::StringTooLongInJava(_), _) => which(&node, |string| form == Form::Pocket && is_long_in_java(&doc[string]))?,
+            (_, Place::In { byte, .. }) if self.broken_form() == Some(form) => {
+                let (path, part, string) = which(&node, |string| breaks(form, doc, string, byte))?;
+                (path, part, byte..byte + width(&doc[byte..string.end]))
+            }
             _ => return None,
         };
-        Some(Broken { path, part, bytes: byte..byte + width(&doc[byte..end]) })
+        Some(Broken { path, part, bytes })
     }
 }
 
+/// The name of a tag, or else the string that is its value, of which that holds: where it is, which it is, and its bytes.
+fn which(node: &Node, holds: impl Fn(Range<usize>) -> bool) -> Option<(String, Part, Range<usize>)> {
+    let (name, payload) = (node.name_range(), node.payload_range());
+    // rule 8: a name is judged before the string
+    match node.parent() {
+        None if holds(name.clone()) => Some((node.path(), Part::RootName, name)),
+        Some(parent) if holds(name.clone()) => Some((parent.path(), Part::Name, name)),
+        _ if node.kind() == Kind::String && holds(payload.clone()) => Some((node.path(), Part::String, payload)),
+        _ => None,
+    }
+}
+
+/// Whether a string of the pocket edition's form has more bytes in Java's than one may have.
+fn is_long_in_java(string: &[u8]) -> bool {
+    Form::Pocket.decode(string).is_ok_and(|text| Form::Java.encode(&text).len() > MAX_NAME)
+}
+
 /// Whether what stands there is refused at that byte of the document.
-fn breaks(form: Form, doc: &[u8], string: &Range<usize>, byte: usize) -> bool {
-    let refused = check_string(form, &doc[string.clone()]).err();
-    refused.is_some_and(|refusal| string.start + refusal.place().number() == byte)
+fn breaks(form: Form, doc: &[u8], string: Range<usize>, byte: usize) -> bool {
+    let start = string.start;
+    let refused = check_string(form, &doc[string]).err();
+    refused.is_some_and(|refusal| start + refusal.place().number() == byte)
 }
 
 /// The content of the string for which a read refuses a document so, if it does.

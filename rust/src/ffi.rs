@@ -31,6 +31,17 @@ mod c {
             out_len: usize,
             answer: *mut u64,
         );
+        pub fn tikfazrul_convert(
+            from: u32,
+            to: u32,
+            doc: *const u8,
+            doc_len: usize,
+            table: *mut u32,
+            table_len: usize,
+            out: *mut u8,
+            out_len: usize,
+            answer: *mut u64,
+        );
         pub fn tikfazrul_rescue(
             form: u32,
             doc: *const u8,
@@ -125,6 +136,26 @@ pub fn write_in(form: u32, doc: &[u8], table: &mut [u32], out: &mut [u8]) -> Ans
     // SAFETY: the pointers stand for slices of the lengths given. The table is lent to be written to, since its words are used while the
     // call lasts, and so are the output and the answer; none overlaps another.
     unsafe { c::tikfazrul_write_in(form, doc.as_ptr(), doc.len(), table.as_mut_ptr(), words, out.as_mut_ptr(), room, answer.as_mut_ptr()) };
+    answer
+}
+
+pub fn convert(from: u32, to: u32, doc: &[u8], table: &mut [u32], out: &mut [u8]) -> Answer {
+    let mut answer = [0; 8];
+    // SAFETY: the pointers stand for slices of the lengths given. The table is lent to be written to, since its words are used while the
+    // call lasts, and so are the output and the answer; none overlaps another.
+    unsafe {
+        c::tikfazrul_convert(
+            from,
+            to,
+            doc.as_ptr(),
+            doc.len(),
+            table.as_mut_ptr(),
+            table.len(),
+            out.as_mut_ptr(),
+            out.len(),
+            answer.as_mut_ptr(),
+        )
+    };
     answer
 }
 

@@ -7,8 +7,8 @@ use std::borrow::Cow;
 
 /// The form that a document is in. Its tags are the same in each, and so is what the words of its table mean.
 ///
-/// A table remembers the form that it was read in, and all that is done with it follows that: the values of its tags, what is written, and the
-/// names that are looked for.
+/// A table remembers the form that it was read in, and all that is done with it follows that: the values of its tags, what is written unless
+/// [`write_in`](crate::write_in) is told otherwise, and the names that are looked for.
 ///
 /// ```
 /// use tikfazrul::{read, read_in, Form};

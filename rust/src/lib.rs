@@ -90,6 +90,18 @@
 //! # Ok::<(), tikfazrul::Refusal>(())
 //! ```
 //!
+//! [`convert`] takes a document from one form into the other with all values kept, and [`write_in`] does so with a table that is there:
+//!
+//! ```
+//! use tikfazrul::{convert, Form};
+//!
+//! let pocket = b"\x0A\x04\0tile\x03\x09\0OriginLon\xC0\xF2\xEA\x02\0";
+//! let java = convert(Form::Pocket, Form::Java, pocket)?;
+//! assert_eq!(java, b"\x0A\0\x04tile\x03\0\x09OriginLon\x02\xEA\xF2\xC0\0");
+//! assert_eq!(convert(Form::Java, Form::Pocket, &java)?, pocket);
+//! # Ok::<(), tikfazrul::Refusal>(())
+//! ```
+//!
 //! # Coming from quartz_nbt
 //!
 //! | there | here |
@@ -127,6 +139,7 @@ pub use path::{quoted, Fault, PathError, Query, MAX_NAME, MAX_STEPS};
 pub use refusal::{Place, Refusal};
 pub use rescue::{rescue, rescue_in, rescue_in_into, rescue_into, Change, Rescued, Saved, CHANGE, MAX_DEPTH};
 pub use table::{
-    query, query_into, read, read_in, read_in_into, read_into, write, write_into, Read, Table, MAX_DOCUMENT, MAX_RECORDS, WORDS,
+    convert, query, query_into, read, read_in, read_in_into, read_into, write, write_in, write_in_into, write_into, Read, Table,
+    MAX_DOCUMENT, MAX_RECORDS, WORDS,
 };
 pub use text::{content, parse, token, Parsed, Stops, Token, TokenData, MAX_TEXT};

@@ -91,6 +91,8 @@ macro_rules! refusals {
             MoreChanges(usize),
             /// 4 in the pocket edition's form: a string is not UTF-8.
             InvalidPocketString(Place),
+            /// 12 where a document in the pocket edition's form is written in Java's: a name or string would have more than 65,535 bytes there.
+            StringTooLongInJava(Place),
             /// 29 where lines of eight words are asked for: a line is not 64 digits (0 to 9, a to f) and a line feed.
             BadOldLine(Place),
             /// A number that the library does not give.
@@ -104,6 +106,7 @@ macro_rules! refusals {
                     $(Refusal::$case(_) => $number,)*
                     Refusal::MoreMatches(_) | Refusal::MoreChanges(_) => 24,
                     Refusal::InvalidPocketString(_) => 4,
+                    Refusal::StringTooLongInJava(_) => 12,
                     Refusal::BadOldLine(_) => 29,
                     Refusal::Unknown(number, _) => *number,
                 }
@@ -114,7 +117,10 @@ macro_rules! refusals {
                 match self {
                     $(Refusal::$case(place) => *place,)*
                     Refusal::MoreMatches(_) | Refusal::MoreChanges(_) => Place::Whole,
-                    Refusal::InvalidPocketString(place) | Refusal::BadOldLine(place) | Refusal::Unknown(_, place) => *place,
+                    Refusal::InvalidPocketString(place)
+                    | Refusal::StringTooLongInJava(place)
+                    | Refusal::BadOldLine(place)
+                    | Refusal::Unknown(_, place) => *place,
                 }
             }
 
@@ -125,6 +131,7 @@ macro_rules! refusals {
                     Refusal::MoreMatches(_) => "there are more matches than the list has room for",
                     Refusal::MoreChanges(_) => "more containers are open than the list of changes has room for",
                     Refusal::InvalidPocketString(_) => "a string is not UTF-8",
+                    Refusal::StringTooLongInJava(_) => "a name or string would have more than 65,535 bytes in Java's form",
                     Refusal::BadOldLine(_) => "a line is not 64 digits (0 to 9, a to f) and a line feed",
                     Refusal::Unknown(..) => "the library gave a number that this wrapper does not know",
                 }
@@ -353,6 +360,11 @@ mod tests {
         for line in [line, old] {
             assert!(line.what().contains(&format!(" {} digits ", line.digits())));
         }
+        let long = Refusal::StringTooLong(Place::Record(2));
+        assert_eq!(long.to_string(), "a name or string has more than 65,535 bytes, at record 2 (refusal 12)");
+        let long = Refusal::StringTooLongInJava(Place::Record(2));
+        assert_eq!((long.number(), long.place()), (12, Place::Record(2)));
+        assert_eq!(long.to_string(), "a name or string would have more than 65,535 bytes in Java's form, at record 2 (refusal 12)");
         let full = Refusal::TableFull(Place::Line(3));
         assert_eq!(full.to_string(), "the table has no room for another record, at line 3 (refusal 8)");
         assert_eq!(Refusal::NoTable(Place::Whole).to_string(), "the words form no table over this document (refusal 10)");

@@ -1,8 +1,8 @@
 //! Tables of records: read from a document, written as one, asked.
 use crate::ffi::{self, Answer};
 use crate::form::Form;
-use crate::node::Node;
-use crate::path::Query;
+use crate::node::{Kind, Node};
+use crate::path::{Query, MAX_NAME};
 use crate::refusal::{Place, Refusal};
 
 /// The words of a record.
@@ -11,6 +11,9 @@ pub const WORDS: usize = 9;
 pub const MAX_RECORDS: usize = 1_048_576;
 /// The most bytes that a document has.
 pub const MAX_DOCUMENT: usize = 16_777_216;
+
+/// A string's kind, as a record has it.
+const STRING: u32 = Kind::String as u32;
 
 /// A record's words, by what they hold.
 pub(crate) mod word {
@@ -260,17 +263,66 @@ pub fn read_in_into(form: Form, doc: &[u8], words: &mut [u32]) -> Result<Read, R
 /// # Ok::<(), tikfazrul::Refusal>(())
 /// ```
 pub fn write(doc: &[u8], table: &mut Table) -> Result<Vec<u8>, Refusal> {
-    let mut out = vec![0; bound(&table.words).min(MAX_DOCUMENT)];
-    let length = write_into(doc, table, &mut out)?;
-    out.truncate(length);
-    Ok(out)
+    write_in(table.form, doc, table)
 }
 
 /// Writes into bytes that the caller lends, and says how many. Refused: the output is as it was.
 pub fn write_into(doc: &[u8], table: &mut Table, out: &mut [u8]) -> Result<usize, Refusal> {
-    let answer = ffi::write_in(table.form.number(), doc, &mut table.words, out);
-    Refusal::check_in(table.form, &answer, |place| written_place(&answer, place))?;
-    Ok(answer[2] as usize)
+    write_in_into(table.form, doc, table, out)
+}
+
+/// Writes the document that a table stands for in a form, whatever form the table has: in its own as [`write()`] does, and in the other with
+/// all values kept. A string keeps its characters, which may take more bytes or fewer, and a float its bits. Refused as [`write()`] is, and
+/// with 12 also where a name or string has more than 65,535 bytes in the form that is written; strings are judged (4) by the table's.
+///
+/// ```
+/// use tikfazrul::{read_in, write_in, Form};
+/// let doc = b"\x0A\x01\0t\x03\x09\0OriginLon\xC0\xF2\xEA\x02\x08\x01\0s\x02\0a\0\0";
+/// let mut table = read_in(Form::Pocket, doc)?;
+/// // U+0000 is C0 80 in Java's form
+/// let java = b"\x0A\0\x01t\x03\0\x09OriginLon\x02\xEA\xF2\xC0\x08\0\x01s\0\x03a\xC0\x80\0";
+/// assert_eq!(write_in(Form::Java, doc, &mut table)?, java);
+/// assert_eq!(write_in(Form::Pocket, doc, &mut table)?, doc);
+/// # Ok::<(), tikfazrul::Refusal>(())
+/// ```
+pub fn write_in(form: Form, doc: &[u8], table: &mut Table) -> Result<Vec<u8>, Refusal> {
+    let mut out = vec![0; bound(table, form).min(MAX_DOCUMENT)];
+    let length = write_in_into(form, doc, table, &mut out)?;
+    out.truncate(length);
+    Ok(out)
+}
+
+/// Writes in a form into bytes that the caller lends, and says how many. Refused: the output is as it was.
+pub fn write_in_into(form: Form, doc: &[u8], table: &mut Table, out: &mut [u8]) -> Result<usize, Refusal> {
+    let own = table.form;
+    let answer = match form == own {
+        true => ffi::write_in(form.number(), doc, &mut table.words, out),
+        false => ffi::convert(own.number(), form.number(), doc, &mut table.words, out),
+    };
+    match Refusal::check_in(own, &answer, |place| written_place(&answer, place)) {
+        Ok(()) => Ok(answer[2] as usize),
+        // strings grow in Java's form alone
+        Err(Refusal::StringTooLong(Place::Record(record))) if !has_long_string(&table.words, record) => {
+            Err(Refusal::StringTooLongInJava(Place::Record(record)))
+        }
+        Err(refusal) => Err(refusal),
+    }
+}
+
+/// Converts a document from one form into another: it is read in the one and written in the other, as [`read_in`] and [`write_in`] do and
+/// with their refusals, whose records are those of the table that [`read_in`] gives. There and back gives what [`write()`] gives for the first
+/// document: an empty list forgets its id, and bytes that follow the root are left out.
+///
+/// ```
+/// use tikfazrul::{convert, Form};
+/// let java = b"\x0A\0\x06\xED\xA0\xBD\xED\xB8\x80\x02\0\x01s\x01\x02\0";
+/// let pocket = b"\x0A\x04\0\xF0\x9F\x98\x80\x02\x01\0s\x02\x01\0";
+/// assert_eq!(convert(Form::Java, Form::Pocket, java)?, pocket);
+/// assert_eq!(convert(Form::Pocket, Form::Java, pocket)?, java);
+/// # Ok::<(), tikfazrul::Refusal>(())
+/// ```
+pub fn convert(from: Form, to: Form, doc: &[u8]) -> Result<Vec<u8>, Refusal> {
+    write_in(to, doc, &mut read_in(from, doc)?)
 }
 
 /// 13 is the whole's; 4 is at a byte of a record's name or string (02, [3]); every other refusal of the writer is a record's.
@@ -282,10 +334,24 @@ fn written_place(answer: &Answer, place: usize) -> Place {
     }
 }
 
-/// At least as many bytes as the table takes when written: each record's id, name, list head or count or length, content and end byte.
-fn bound(words: &[u32]) -> usize {
-    let most = |record: &[u32]| 9 + record[word::NAME_LENGTH] as usize + record[word::LENGTH] as usize;
-    words.chunks_exact(WORDS).map(most).fold(0, usize::saturating_add)
+/// Whether a record's name or string is too long where it stands, before anything is converted.
+fn has_long_string(words: &[u32], record: usize) -> bool {
+    let words = &words[WORDS * record..][..WORDS];
+    let long = |length: usize| words[length] as usize > MAX_NAME;
+    long(word::NAME_LENGTH) || words[word::KIND] == STRING && long(word::LENGTH)
+}
+
+/// At least as many bytes as the table takes when written in a form: each record's id, name, list head or count or length, content and end
+/// byte.
+fn bound(table: &Table, form: Form) -> usize {
+    // 02, [2]: U+0000 has one byte in the pocket edition's form and two in Java's, a character above U+FFFF four and six, any other the same
+    let grows = table.form == Form::Pocket && form == Form::Java;
+    let string = |length: usize| if grows { length.saturating_mul(2).min(MAX_NAME) } else { length };
+    let most = |record: &[u32]| {
+        let (name, content) = (record[word::NAME_LENGTH] as usize, record[word::LENGTH] as usize);
+        9 + string(name) + if record[word::KIND] == STRING { string(content) } else { content }
+    };
+    table.words.chunks_exact(WORDS).map(most).fold(0, usize::saturating_add)
 }
 
 /// The records that match a query, by number, in file order and none twice. The query is given as the library's bytes, its names in the strings

@@ -53,7 +53,7 @@ fn every_document_is_answered_as_told() {
 #[test]
 fn every_pocket_document_is_answered_as_told() {
     let rows: Vec<_> = rows().into_iter().filter(|(file, _)| file.starts_with(POCKET)).collect();
-    assert_eq!(rows.len(), 3);
+    assert_eq!(rows.len(), 4);
     for (file, told) in rows {
         for (form, label) in [(Form::Pocket, "pocket: "), (Form::Java, "Java: ")] {
             let told = told.split("; ").find_map(|part| part.strip_prefix(label)).expect(&file);

@@ -251,7 +251,7 @@ fn wrong_command_lines_say_so() {
 #[test]
 fn a_wrong_use_of_lines_says_what_is_right() {
     for (args, words) in [
-        (&["hex", "--lines", "reef.nbt"][..], "--lines goes with list, check, query, write and lines"),
+        (&["hex", "--lines", "reef.nbt"][..], "--lines goes with list, check, query, write, convert and lines"),
         (&["list", "--lines"], "--lines wants a file or a folder"),
         (&["list", "--lines", "reef.nbt.lines", "reef.nbt", "kinds.nbt"], "several files want a folder that is there: --lines FOLDER"),
         (&["list", "--lines", "nowhere/", "reef.nbt"], "there is no folder nowhere/"),
@@ -311,7 +311,7 @@ fn a_move_wants_lines_and_places_to_go_to() {
         (&["reef-old.lines", "-o", "nowhere/"], "there is no folder nowhere/"),
         (&["reef-old.lines", "./reef-old.lines", "-o", "."], "two files would be saved as reef-old.lines"),
         (&["-", "-o", "."], "standard input has no name to be saved under in a folder"),
-        (&["--json", "reef-old.lines"], "--json goes with list, check, query and rescue"),
+        (&["--json", "reef-old.lines"], "--json goes with list, check, query, convert and rescue"),
         (&["--full", "reef-old.lines"], "--full goes with list and query"),
     ] {
         wrong_lines(&[&["--up", "--length", "110"], args].concat(), words);
@@ -322,7 +322,7 @@ fn a_move_wants_lines_and_places_to_go_to() {
 fn help_teaches() {
     let (help, err, status) = tile(&["--help"]);
     assert_eq!((err.as_str(), status), ("", 0));
-    for command in ["list", "check", "query", "text", "write", "rescue", "lines", "hex"] {
+    for command in ["list", "check", "query", "text", "write", "convert", "rescue", "lines", "hex"] {
         assert!(help.contains(&format!("tile {command} ")), "{command}");
         let (about, _, status) = tile(&[command, "--help"]);
         assert_eq!(status, 0);

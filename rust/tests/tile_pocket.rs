@@ -354,7 +354,7 @@ fn a_level_file_is_seen_without_the_option() {
 
 #[test]
 fn a_wrong_use_of_pocket_says_what_is_right() {
-    let goes = "--pocket goes with list, check, query, write, rescue and lines";
+    let goes = "--pocket goes with list, check, query, write, convert, rescue and lines";
     for (args, words) in [
         (&["text", "--pocket", "reef.snbt", "-o", "-"][..], goes),
         (&["hex", "--pocket", "pocket-reef.nbt"], goes),
@@ -381,6 +381,7 @@ fn help_tells_of_pocket() {
         &["check", "--help"],
         &["query", "--help"],
         &["write", "--help"],
+        &["convert", "--help"],
         &["rescue", "--help"],
         &["lines", "--help"],
     ] {

@@ -11,6 +11,7 @@ pub enum Command {
     Query,
     Text,
     Write,
+    Convert,
     Rescue,
     Lines,
     Hex,
@@ -34,6 +35,8 @@ pub struct Args {
     pub in_place: bool,
     /// The form that documents are in.
     pub form: Form,
+    /// The form that they are converted into.
+    pub to: Option<Form>,
     pub json: bool,
     pub full: bool,
     pub line: bool,
@@ -53,19 +56,21 @@ tile: looks into NBT documents, with every answer from a proved library.
   tile query PATH FILE…       the tags that a path leads to
   tile text FILE -o FILE      a text (SNBT) made a document
   tile write FILE -o FILE     a document read and written again
+  tile convert FILE… -o FILE  a document of Java's form in the pocket edition's (--to pocket), or the other way round (--to java)
   tile rescue FILE… -o FILE   a whole document of one that was cut in transfer
   tile lines FILE… [-o FILE]  the table as lines of digits, to be kept
   tile lines --up|--down …    lines that were kept before they named parents, brought along, or back
   tile hex FILE…              the bytes
 
-  -o FILE       where to write; - is standard output; a folder holds what is rescued, and lines, under the names of the files
-  --lines FILE  lines that were kept, taken in place of reading the document (list, query, write, lines), or compared with it (check);
-                of a folder, its NAME.lines
+  -o FILE       where to write; - is standard output; a folder holds what is rescued or converted, and lines, under the names of the files
+  --lines FILE  lines that were kept, taken in place of reading the document (list, query, write, convert, lines), or compared with it
+                (check); of a folder, its NAME.lines
   --pocket      documents are in the pocket edition's form: numbers little-endian, strings in UTF-8 (list, check, query, write, rescue,
-                lines); a level file's eight bytes before the document are passed over
+                lines; convert --to java takes them so by itself); a level file's eight bytes before the document are passed over
+  --to FORM     the form that documents are converted into, pocket or java; they are in the other (convert)
   --length N    how many bytes the document has that the lines to be moved are of (lines --up and --down)
   --in-place    the moved lines take the place of the old ones, in the same file (lines --up and --down)
-  --json        one JSON object for each file, on a line of its own (list, check, query, rescue)
+  --json        one JSON object for each file, on a line of its own (list, check, query, convert, rescue)
   --full        strings and arrays whole, however long (list, query)
   --line        the bytes as one line of digits (hex)
   --help        this; tile COMMAND --help tells more
@@ -155,6 +160,24 @@ from lines, which must be the document's own: tile lines --help tells more.
   tile write samples/reef.nbt.gz -o reef.nbt
 ";
 
+const ABOUT_CONVERT: &str = "\
+tile convert --to pocket|java [--json] [--lines FILE] FILE… -o FILE
+
+Writes a document in the other form with all values kept: with --to pocket one that is in Java's form, with --to java one that is in the
+pocket edition's, for which --pocket need not be said. Integers stay the same integers, floats the same bits, and strings the same
+characters, which may take more bytes or fewer: U+0000 is C0 80 in Java's form and 00 in the pocket edition's, a character above U+FFFF six
+bytes and four. So a name or string of the pocket edition's form may be too long for Java's, over 65,535 bytes: it is refused with 12.
+
+What is written is a document alone: inflated, without bytes that follow the root, with the id of empty lists 0, and without the eight
+bytes that a level file has before its document. With --to java they are passed over; with --to pocket none are made. Nothing is written of
+a document that is refused, or that is already in the form asked for: exit status 1. A text (.snbt) makes a document in Java's
+form, so --to pocket takes it too. Several files are saved in a folder, under their own names without .gz, a text's ending in .nbt. With
+--lines the table is not read but taken from lines, which must be the document's own: tile lines --help tells more.
+
+  tile convert --to java samples/pocket-reef.nbt -o reef.nbt
+  tile convert --to pocket world/*.dat -o pocket/
+";
+
 const ABOUT_RESCUE: &str = "\
 tile rescue [--pocket] [--json] FILE… -o FILE
 
@@ -178,11 +201,11 @@ several files want one. Nothing is written of a document that is refused, and no
 document's form: where it is the pocket edition's, --pocket goes with them too. They count bytes of the document, so not a level file's
 eight bytes before it.
 
-With --lines, list, query, write and lines take the table from such lines and do not read the document; of a folder, from its NAME.lines.
-Lines that are bad, or that form no table over a document of this length, are refused: exit status 1. No more than that is asked of them
-(rule 7: every name and payload lies in the document, and the records form a tree, in which each names its parent). So they must be the
-document's own, as it is now; tile check --lines reads it, and tells whether they are. Lines of eight words, as they were before they named
-parents, are bad: tile lines --up brings them along, and tile lines makes new ones of the document.
+With --lines, list, query, write, convert and lines take the table from such lines and do not read the document; of a folder, from its
+NAME.lines. Lines that are bad, or that form no table over a document of this length, are refused: exit status 1. No more than that is
+asked of them (rule 7: every name and payload lies in the document, and the records form a tree, in which each names its parent). So they
+must be the document's own, as it is now; tile check --lines reads it, and tells whether they are. Lines of eight words, as they were
+before they named parents, are bad: tile lines --up brings them along, and tile lines makes new ones of the document.
 
 With --up or --down, FILE is no document but such lines. --up moves lines of eight words to lines of nine, with the parents worked out;
 --down drops the parents, for whoever still reads eight words. Up and down again, or down and up, gives the first lines. --length N is how
@@ -215,6 +238,7 @@ impl Command {
             "query" => Some(Command::Query),
             "text" => Some(Command::Text),
             "write" => Some(Command::Write),
+            "convert" => Some(Command::Convert),
             "rescue" => Some(Command::Rescue),
             "lines" => Some(Command::Lines),
             "hex" => Some(Command::Hex),
@@ -229,6 +253,7 @@ impl Command {
             Command::Query => ABOUT_QUERY,
             Command::Text => ABOUT_TEXT,
             Command::Write => ABOUT_WRITE,
+            Command::Convert => ABOUT_CONVERT,
             Command::Rescue => ABOUT_RESCUE,
             Command::Lines => ABOUT_LINES,
             Command::Hex => ABOUT_HEX,
@@ -242,7 +267,7 @@ impl Command {
 
     /// Whether it makes something of several files, in a folder.
     pub fn fills_folders(self) -> bool {
-        matches!(self, Command::Rescue | Command::Lines)
+        matches!(self, Command::Convert | Command::Rescue | Command::Lines)
     }
 
     /// Whether it takes documents.
@@ -283,11 +308,13 @@ pub fn parse(words: impl Iterator<Item = OsString>) -> Result<Args, Instead> {
         length: None,
         in_place: false,
         form: Form::Java,
+        to: None,
         json: false,
         full: false,
         line: false,
     };
     options(&mut args, words)?;
+    conversion(&mut args)?;
     path(&mut args)?;
     complete(args)
 }
@@ -302,6 +329,7 @@ fn options(args: &mut Args, mut words: impl Iterator<Item = OsString>) -> Result
             Some("--full") => args.full = true,
             Some("--line") => args.line = true,
             Some("--pocket") => args.form = Form::Pocket,
+            Some("--to") => args.to = Some(form(words.next())?),
             Some("-o" | "--output") => args.out = Some(given(words.next(), "-o wants a file")?),
             Some("--up") => way(args, Way::Up)?,
             Some("--down") => way(args, Way::Down)?,
@@ -332,6 +360,40 @@ fn length(word: Option<OsString>) -> Result<usize, Instead> {
     match word.as_deref().and_then(OsStr::to_str) {
         Some(digits) if !digits.is_empty() && digits.bytes().all(|byte| byte.is_ascii_digit()) => Ok(digits.parse().unwrap_or(usize::MAX)),
         _ => fault("--length wants the number of bytes that the document has".to_owned()),
+    }
+}
+
+/// A form by its name.
+fn form(word: Option<OsString>) -> Result<Form, Instead> {
+    match word.as_deref().and_then(OsStr::to_str) {
+        Some("java") => Ok(Form::Java),
+        Some("pocket") => Ok(Form::Pocket),
+        _ => fault("--to wants a form: pocket or java".to_owned()),
+    }
+}
+
+/// What is converted into one form is in the other.
+fn conversion(args: &mut Args) -> Result<(), Instead> {
+    match (args.command, args.to) {
+        (Command::Convert, None) => fault("--to says which form is to be written: --to pocket or --to java".to_owned()),
+        (Command::Convert, Some(Form::Pocket)) if args.form == Form::Pocket => fault(
+            "--to pocket takes documents in Java's form, so --pocket has no place beside it: tile write --pocket writes one again"
+                .to_owned(),
+        ),
+        (Command::Convert, Some(to)) => {
+            args.form = other(to);
+            Ok(())
+        }
+        (_, Some(_)) => fault("--to goes with convert".to_owned()),
+        (_, None) => Ok(()),
+    }
+}
+
+/// The other form.
+pub fn other(form: Form) -> Form {
+    match form {
+        Form::Java => Form::Pocket,
+        Form::Pocket => Form::Java,
     }
 }
 
@@ -378,6 +440,7 @@ impl Args {
         match self.command {
             Command::Lines if self.way.is_some() => Path::new(file).file_name().unwrap_or_default().to_owned(),
             Command::Lines => lines_name(file),
+            Command::Convert if is_text(file) => Path::new(&own_name(file)).with_extension("nbt").into_os_string(),
             _ => own_name(file),
         }
     }
@@ -387,6 +450,11 @@ impl Args {
         let lines = self.lines.as_ref()?;
         Some(as_folder(lines).map_or(lines.clone(), |folder| folder.join(lines_name(file)).into_os_string()))
     }
+}
+
+/// Whether a file is a text by its name.
+pub fn is_text(file: &OsStr) -> bool {
+    file.to_string_lossy().to_lowercase().ends_with(".snbt")
 }
 
 /// A folder that is there.
@@ -501,17 +569,17 @@ fn output(args: &Args) -> Result<(), Instead> {
         return fault("-o FILE says where to write; -o - is standard output".to_owned());
     }
     if !writes && args.out.is_some() {
-        return fault("-o goes with text, write, rescue and lines alone".to_owned());
+        return fault("-o goes with text, write, convert, rescue and lines alone".to_owned());
     }
     folder(args)
 }
 
 fn complete(args: Args) -> Result<Args, Instead> {
     if args.lines.is_some() && !args.command.takes_lines() {
-        return fault("--lines goes with list, check, query, write and lines".to_owned());
+        return fault("--lines goes with list, check, query, write, convert and lines".to_owned());
     }
     if args.form != Form::Java && !args.command.takes_documents() {
-        return fault("--pocket goes with list, check, query, write, rescue and lines".to_owned());
+        return fault("--pocket goes with list, check, query, write, convert, rescue and lines".to_owned());
     }
     moves(&args)?;
     if args.files.is_empty() {
@@ -520,7 +588,7 @@ fn complete(args: Args) -> Result<Args, Instead> {
     output(&args)?;
     lines(&args)?;
     if args.json && matches!(args.command, Command::Text | Command::Write | Command::Lines | Command::Hex) {
-        return fault("--json goes with list, check, query and rescue".to_owned());
+        return fault("--json goes with list, check, query, convert and rescue".to_owned());
     }
     if args.json && args.out.as_deref() == Some(OsStr::new("-")) {
         return fault("--json speaks on standard output, so -o wants a file".to_owned());

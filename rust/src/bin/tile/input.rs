@@ -1,4 +1,5 @@
 //! Files and standard input, inflated where they are gzip'd.
+use crate::args::other;
 use crate::head::{Head, HEAD};
 use std::ffi::OsStr;
 use std::fs::File;
@@ -14,6 +15,10 @@ pub enum Trouble {
     Packed(String),
     /// The library refuses the document in it; the place counts the document's bytes.
     Refused(Refusal, Input),
+    /// The library refuses to write this name or string of the document in it, which is too long in the form to be written.
+    Long(Refusal, Input, Box<Broken>),
+    /// It is a level file of the pocket edition, and to be converted into that form.
+    Level,
     /// The library refuses it as a text; with the bytes that the place counts.
     Text(Refusal, Vec<u8>),
     /// The library refuses these lines, or what is done with their table; with the bytes that the place counts.
@@ -95,7 +100,7 @@ impl Input {
         if self.head.is_some() {
             return None;
         }
-        let other = if self.form == Form::Java { Form::Pocket } else { Form::Java };
+        let other = other(self.form);
         let before = self.head_in(other).map_or(0, |_| HEAD);
         read_in(other, &self.bytes[before..]).is_ok().then_some(other)
     }

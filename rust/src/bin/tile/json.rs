@@ -1,6 +1,7 @@
 //! The same for machines: one JSON object for each file.
 use crate::head::Head;
 use crate::input::{Input, Trouble};
+use crate::load::Loaded;
 use crate::show;
 use std::fmt::Write;
 use tikfazrul::{Broken, Change, Form, Kind, Node, Part, Place, Refusal, Rescued, Trail};
@@ -96,19 +97,34 @@ pub fn form(input: &Input) -> String {
     form.to_owned() + &input.head.map_or(String::new(), head)
 }
 
-/// The form in which a document is accepted that is refused in another.
-pub fn accepted_in(form: Option<Form>) -> &'static str {
+/// A form by its name.
+fn form_name(form: Form) -> &'static str {
     match form {
-        None => "",
-        Some(Form::Java) => ",\"accepted_in\":\"java\"",
-        Some(Form::Pocket) => ",\"accepted_in\":\"pocket\"",
+        Form::Java => "java",
+        Form::Pocket => "pocket",
     }
+}
+
+/// The form in which a document is accepted that is refused in another.
+pub fn accepted_in(form: Option<Form>) -> String {
+    form.map_or(String::new(), |form| format!(",\"accepted_in\":{}", string(form_name(form))))
+}
+
+/// What was written of a document in another form, so many bytes.
+pub fn converted(loaded: &Loaded, to: Form, bytes: usize) -> String {
+    let Loaded { input, table, lines } = loaded;
+    let from = format!("{}{}", form(input), if lines.is_some() { "\"lines\":true," } else { "" });
+    format!("{from}\"to\":{},\"bytes\":{bytes},\"count\":{},\"inflated\":{}", string(form_name(to)), table.len(), input.inflated)
 }
 
 pub fn trouble(trouble: &Trouble) -> String {
     match trouble {
         Trouble::Io(words) => format!("\"error\":{}", string(words)),
         Trouble::Packed(words) => format!("\"message\":{}", string(words)),
+        Trouble::Level => format!("\"message\":{}{}", string(show::LEVEL), accepted_in(Some(Form::Pocket))),
+        Trouble::Long(refusal, input, long) => {
+            format!("{}{}{}", form(input), refused(refusal, &refusal.to_string()), unreadable(long))
+        }
         Trouble::Refused(refusal, input) => {
             let broken = refusal.broken(input.document()).map_or(String::new(), |broken| unreadable(&broken));
             // places are the file's, whatever stands before the document
@@ -164,7 +180,7 @@ fn sort(place: Place) -> &'static str {
 mod tests {
     use super::*;
 
-    /// What only a write refuses so, and no command that writes speaks JSON as yet.
+    /// What only a write refuses so, of a table from lines.
     #[test]
     fn a_record_stands_beside_its_byte() {
         let refusal = Refusal::InvalidString(Place::In { byte: 23, record: 1 });

@@ -1,5 +1,5 @@
 //! Documents with their tables: read, or taken from lines that were kept.
-use crate::args::{Args, Command};
+use crate::args::{is_text, Args, Command};
 use crate::input::{self, Input, Trouble};
 use crate::show;
 use std::ffi::OsStr;
@@ -21,10 +21,13 @@ impl Loaded {
         }
     }
 
-    /// What is refused of a table that was taken from lines is the lines' fault.
+    /// What is refused of a table that was taken from lines is the lines' fault, but for a string that is too long in the form to be written.
     pub fn refused(&self, refusal: Refusal) -> Trouble {
         let before = self.input.before();
         match (&self.lines, refusal.broken_in(self.input.document(), &self.table)) {
+            (_, Some(long)) if matches!(refusal, Refusal::StringTooLongInJava(_)) => {
+                Trouble::Long(refusal, self.input.clone(), Box::new(long))
+            }
             (Some(lines), Some(broken)) => {
                 let broken = Broken { bytes: broken.bytes.start + before..broken.bytes.end + before, ..broken };
                 Trouble::Unreadable(lines.clone(), refusal.behind(before), self.input.bytes.clone(), Box::new(broken))
@@ -53,11 +56,16 @@ pub fn load(args: &Args, file: &OsStr) -> Result<Loaded, Trouble> {
 
 /// A name that ends in .snbt is a text's, which makes a document in Java's form.
 fn document(args: &Args, file: &OsStr) -> Result<Input, Trouble> {
-    if !file.to_string_lossy().to_lowercase().ends_with(".snbt") {
+    if !is_text(file) {
         return Ok(input::document(file)?.in_form(args.form));
     }
-    if args.command == Command::Write && args.form != Form::Java {
-        return Err(Trouble::Io("is a text, which makes a document in Java's form: --pocket has no place beside it".to_owned()));
+    let way_out = match args.command {
+        Command::Write => "--pocket has no place beside it",
+        Command::Convert => "tile text writes it",
+        _ => "",
+    };
+    if args.form != Form::Java && !way_out.is_empty() {
+        return Err(Trouble::Io(format!("is a text, which makes a document in Java's form: {way_out}")));
     }
     Ok(Input::plain(input::raw(file).and_then(parsed)?))
 }

@@ -1,5 +1,6 @@
 //! tile: looks into NBT documents. `tile --help` teaches it.
 mod args;
+mod convert;
 mod head;
 mod input;
 mod json;
@@ -84,7 +85,7 @@ fn complaint(args: &Args, file: &OsStr, trouble: &Trouble, said: &mut Vec<u8>) -
         return Ok(None);
     }
     let other = trouble.other_form();
-    let hint = other.map_or(String::new(), |form| format!("\n{}", show::accepted_in(form)));
+    let hint = other.map_or(String::new(), |form| format!("\n{}", show::accepted_in(form, args.to.is_some())));
     let words = format!("{}: {}{hint}", name(file), show::trouble(trouble)).replace('\n', "\n  ");
     if args.command == Command::Check && !matches!(trouble, Trouble::Io(_)) {
         writeln!(said, "{words}")?;
@@ -109,6 +110,7 @@ fn one(args: &Args, file: &OsStr, said: &mut Vec<u8>) -> Result<(), Trouble> {
         Command::Hex => dump(args, &input::shown(file)?, said),
         Command::Text => save(args, file, &load::parsed(input::raw(file)?)?, said)?,
         Command::Write => make(args, file, again, said)?,
+        Command::Convert => convert::bring(args, file, said)?,
         Command::Rescue => salvage(args, file, input::arrived(file)?.in_form(args.form), said)?,
         Command::Lines => match args.moving() {
             Some((way, length)) => moves::bring(args, file, way, length, said)?,
@@ -173,7 +175,7 @@ fn salvage(args: &Args, file: &OsStr, input: Input, said: &mut Vec<u8>) -> Resul
     }
 }
 
-/// What is rescued, and lines, never take the place of what they are made from; nothing takes that of the lines it is made from.
+/// What is rescued or converted, and lines, never take the place of what they are made from; nothing takes that of the lines it is made from.
 fn over_itself(args: &Args, file: &OsStr) -> Result<(), Trouble> {
     let real = |path: &Path| std::fs::canonicalize(path).ok();
     let Some(target) = args.target(file).and_then(|target| real(&target)) else {
@@ -205,7 +207,7 @@ fn report(
         let more = format!("{}{size},{}{}", json::form(input), json::open(rescued), json::accepted_in(other));
         return writeln!(said, "{}", json::file(&file.to_string_lossy(), true, &more)).map_err(Trouble::unwritten);
     }
-    let hint = other.map_or(String::new(), |form| format!("\n  {}", show::accepted_in(form)));
+    let hint = other.map_or(String::new(), |form| format!("\n  {}", show::accepted_in(form, false)));
     let head = input.head.map_or(String::new(), |head| format!("; {}, and not written", show::passed_over(head)));
     let size = format!("{}{}{head}", show::size(bytes, records), show::gzip(input));
     let words = format!("{}: saved {size}; {}{hint}", name(file), show::open(rescued));

@@ -58,13 +58,25 @@ pub fn passed_over(head: Head) -> String {
     format!("the {head} before the document are passed over")
 }
 
-/// What to do where a document is refused in one form and accepted in this.
-pub fn accepted_in(form: Form) -> &'static str {
+pub fn form(form: Form) -> &'static str {
     match form {
-        Form::Java => "the file is accepted in Java's form, without --pocket",
-        Form::Pocket => "the file is accepted in the pocket edition's form, with --pocket",
+        Form::Java => "Java's form",
+        Form::Pocket => "the pocket edition's form",
     }
 }
+
+/// What to do where a document is refused in one form and accepted in this, in which it is to be written if it is converted.
+pub fn accepted_in(accepted: Form, converted: bool) -> String {
+    let way_out = match accepted {
+        _ if converted => "so there is nothing to convert",
+        Form::Java => "without --pocket",
+        Form::Pocket => "with --pocket",
+    };
+    format!("the file is accepted in {}, {way_out}", form(accepted))
+}
+
+/// That a level file of the pocket edition is to be converted into that form.
+pub const LEVEL: &str = "this is a level file, whose document is in the pocket edition's form already, so there is nothing to convert";
 
 /// A tag's value on one line.
 pub fn value(node: &Node, full: bool) -> String {
@@ -152,6 +164,8 @@ pub fn trouble(trouble: &Trouble) -> String {
     match trouble {
         Trouble::Io(words) => words.clone(),
         Trouble::Packed(words) => format!("refused: {words}"),
+        Trouble::Long(refusal, _, long) => format!("refused: {refusal}, {long}"),
+        Trouble::Level => format!("refused: {LEVEL}"),
         Trouble::Lines(lines, refusal, bytes) => format!("refused: {}{}", unfit(lines, refusal), window(refusal, bytes)),
         Trouble::Unreadable(lines, refusal, bytes, broken) => {
             format!("refused: {}, {broken}\n{}", unfit(lines, refusal), hex::window_of(bytes, broken.bytes.clone()))
