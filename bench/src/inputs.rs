@@ -150,9 +150,9 @@ fn arrays(n: usize, elements: usize) -> Doc {
     d.end()
 }
 
-fn strings(n: usize, length: usize, each: &str) -> Doc {
+fn strings(n: usize, length: usize, each: &[u8]) -> Doc {
     let mut d = Doc::new();
-    let text: Vec<u8> = each.bytes().cycle().take(length / each.len() * each.len()).collect();
+    let text = each.repeat(length / each.len());
     for i in 0..n {
         d.head(8, format!("s{i}").as_bytes());
         d.string(&text);
@@ -198,8 +198,17 @@ pub fn payloads() -> [(&'static str, Doc); 4] {
     [
         ("100 arrays of 1,000 longs", arrays(100, 1_000)),
         ("10 arrays of 200,000 longs", arrays(10, 200_000)),
-        ("100 strings of 60,000 bytes, ASCII", strings(100, 60_000, "a scene over the reef, ")),
-        ("100 strings of 60,000 bytes, mixed", strings(100, 60_000, "Größe und Höhe über dem Riff, ")),
+        ("100 strings of 60,000 bytes, ASCII", strings(100, 60_000, b"a scene over the reef, ")),
+        ("100 strings of 60,000 bytes, mixed", strings(100, 60_000, "Größe und Höhe über dem Riff, ".as_bytes())),
+    ]
+}
+
+/// Documents with characters that take another number of bytes in the pocket edition's form: U+0000 two and one, U+1F600 six and four.
+pub fn changing() -> [(&'static str, Doc); 3] {
+    [
+        ("100 strings of 60,000 bytes, ASCII, each 23rd character U+0000", strings(100, 60_000, b"a scene over the reef,\xC0\x80")),
+        ("100 strings of 60,000 bytes, U+0000", strings(100, 60_000, b"\xC0\x80")),
+        ("100 strings of 60,000 bytes, U+1F600", strings(100, 60_000, b"\xED\xA0\xBD\xED\xB8\x80")),
     ]
 }
 

@@ -2,7 +2,9 @@
 #[path = "../../rust/src/ffi.rs"]
 mod ffi;
 
-pub use ffi::{check_mutf8, check_utf8, lines_down, lines_up, query, read, read_in, read_lines, rescue, write, write_in, write_lines, Answer};
+pub use ffi::{
+    check_mutf8, check_utf8, convert, lines_down, lines_up, query, read, read_in, read_lines, rescue, write, write_in, write_lines, Answer,
+};
 
 /// The words of a record.
 pub const WORDS: usize = 9;

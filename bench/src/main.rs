@@ -1,5 +1,6 @@
 //! Prints the tables of docs/BENCHMARKS.md, section by section: see bench/run.
 mod by_hand;
+mod convert;
 mod goals;
 mod growth;
 mod harness;
@@ -31,11 +32,12 @@ pub struct Bench {
 
 type Section = (&'static str, fn(&mut Bench));
 
-const SECTIONS: [Section; 11] = [
+const SECTIONS: [Section; 12] = [
     ("strings", strings::section),
     ("read", read::section),
     ("write", write::section),
     ("pocket", pocket::section),
+    ("convert", convert::section),
     ("rescue", rescue::section),
     ("lines", lines::section),
     ("moves", moves::section),

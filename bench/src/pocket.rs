@@ -7,8 +7,8 @@ use crate::markdown::{self, grouped};
 use crate::Bench;
 use std::hint::black_box;
 
-const JAVA: u32 = 0;
-const POCKET: u32 = 2;
+pub const JAVA: u32 = 0;
+pub const POCKET: u32 = 2;
 
 pub fn section(bench: &mut Bench) {
     markdown::section("Both forms", "pocket");
@@ -22,16 +22,19 @@ pub fn section(bench: &mut Bench) {
         "pocket written",
         "pocket / Java",
     ]);
-    for n in [10, 1_000, bench.plan.size(50_000, 5_000)] {
-        row(bench, &format!("tiles, {}", grouped(n)), &tiles(n));
-    }
-    for (what, doc) in payloads() {
-        row(bench, what, &doc);
-    }
-    row(bench, "one compound, names of 7 bytes, random, 10,000", &wide(10_000, 0, 0, Order::Random));
-    for (what, doc) in odd_shapes(bench.plan.size(1_000_000, 100_000)) {
+    for (what, doc) in documents(bench) {
         row(bench, &what, &doc);
     }
+}
+
+/// Documents in Java's form, whose strings are the same bytes in both.
+pub fn documents(bench: &Bench) -> Vec<(String, Doc)> {
+    let sizes = [10, 1_000, bench.plan.size(50_000, 5_000)];
+    let mut all: Vec<(String, Doc)> = sizes.map(|n| (format!("tiles, {}", grouped(n)), tiles(n))).into();
+    all.extend(payloads().map(|(what, doc)| (what.into(), doc)));
+    all.push(("one compound, names of 7 bytes, random, 10,000".into(), wide(10_000, 0, 0, Order::Random)));
+    all.extend(odd_shapes(bench.plan.size(1_000_000, 100_000)));
+    all
 }
 
 fn row(bench: &mut Bench, what: &str, java: &Doc) {
@@ -65,7 +68,7 @@ fn row(bench: &mut Bench, what: &str, java: &Doc) {
 }
 
 /// The same values in the pocket edition's form; the strings of these documents are the same in both.
-fn turned(bytes: &[u8]) -> Vec<u8> {
+pub fn turned(bytes: &[u8]) -> Vec<u8> {
     let mut out = bytes.to_vec();
     let at = string(&mut out, 1);
     payload(&mut out, 10, at);
