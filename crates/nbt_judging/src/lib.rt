@@ -1,6 +1,6 @@
 // Rule 8, the first half: a table's records judged, and their bytes counted, as they are written in the form of the document or another
-// (02, [2]). Each function has the name of the definition that it meets,
-// in form/specs/Writing.antt or specs/Pieces.antt; io.rs of the crate judges in the same order.
+// (02, [2]). Each function cites the definition that it meets, in form/specs/Writing.antt or specs/Pieces.antt; io.rs of the crate judges in
+// the same order.
 ghost use mathlib.Core.Path.{_≡_};
 ghost use mathlib.Core.Bool.{false};
 ghost use Prim.Native.Nat.{_+_, _≤_};
@@ -191,7 +191,7 @@ fn own_fine(
     }
 }
 
-// How many bytes a name or a string payload takes as it is written, without its length.
+// How many bytes a name or a string payload takes as it is written, without its length; what is written as it stands is counted without a call.
 fn text_size(doc: &[u8], start: usize, size: usize, way: u32) -> usize
     requires { ⌜ (start + size ≤ length (now doc)) × (size ≤ 16777216) ⌝ }
     ensures { λ r. ⌜ r ≡ length (recoded (wayNo way) (part (now (doc .entry)) start size)) ⌝ }
