@@ -1,6 +1,6 @@
 #!/usr/bin/env python3
-"""Compares the proved library with quartz_nbt: documents, tokens and texts; and with the JDK: strings, by rule 2 and of Java units. Run by
-compare/run; prints counts and seeds, and exits 1 on any difference that docs/DIFFERENCES.md does not list.
+"""Compares the proved library with quartz_nbt: documents, tokens and texts; and strings with the JDK. Run by compare/run; prints counts and seeds, and exits 1 on any
+difference that docs/DIFFERENCES.md does not list.
 
 Where the two agree nothing more is asked. Where they differ, the reading of document 01 in tests/replay must say what the library says, and
 the same with the crate's ways switched on must say what the crate says: so every difference is one of those ways, and is counted under
@@ -18,11 +18,10 @@ import sys
 ROOT = os.path.dirname(os.path.dirname(os.path.abspath(__file__)))
 sys.path.insert(0, os.path.join(ROOT, "tests", "replay"))
 import crate  # noqa: E402
-import forms  # noqa: E402
 import listing  # noqa: E402
 import snbt  # noqa: E402
 import texts as made  # noqa: E402
-from library import UNITS, Library  # noqa: E402
+from library import Library  # noqa: E402
 from listing import Refused  # noqa: E402
 
 STOPS = list(snbt.STOPS)
@@ -241,8 +240,8 @@ def texts(r, quick):
 
 # ---- strings, by the JDK
 
-def strings(r, quick, form=forms.JAVA):
-    yield from (text for text, _ in [*listing.broken_strings(form), *listing.far_strings(form)])
+def strings(r, quick):
+    yield from (text for text, _ in [*listing.broken_strings(), *listing.far_strings()])
     edges = bytes.fromhex("00017F808F909FA0AFB0BFC0C1C2DFE0EDEFF0F4F8FF")
     for n in range(3 if quick else 5):
         for body in itertools.product(edges, repeat=n):
@@ -253,39 +252,8 @@ def strings(r, quick, form=forms.JAVA):
         yield b"".join(r.choices(pieces, weights, k=r.randrange(1, 60)))
 
 
-# ---- units, by the JDK: a case is some units, or bytes that may be none
-
-def any_units(r):
-    """Edges, any units and pairs; of halves by themselves none in a third of the strings, some in another, and in the last as many as all else."""
-    halves = r.choice([0, 1, 12])
-    for kind in r.choices("edge any pair half".split(), [4, 6, 2, halves], k=r.randrange(41)):
-        if kind == "pair":
-            yield from (r.randrange(0xD800, 0xDC00), r.randrange(0xDC00, 0xE000))
-        elif kind == "half":
-            yield r.randrange(0xD800, 0xE000)
-        else:
-            unit = r.choice([0, 1, 0x7F, 0x80, 0x7FF, 0x800, 0xD7FF, 0xE000, 0xFFFF]) if kind == "edge" else r.randrange(0x10000)
-            yield unit if halves or not 0xD800 <= unit < 0xE000 else 0
-
-
-def units(r, quick):
-    yield from (tuple(range(n, n + 32)) for n in range(0, 0x10000, 32))
-    for _ in range(10000 if quick else 100000):
-        yield tuple(any_units(r))
-    yield from strings(r, quick, forms.UNITS)
-
-
-def unit_line(case):
-    return f"units {case.hex()}" if isinstance(case, bytes) else "write " + "".join(f"{unit:04X}" for unit in case)
-
-
-def unit_answer(lib, case):
-    return lib.string_in(UNITS, case) if isinstance(case, bytes) else lib.units(forms.modified(map(chr, case)))
-
-
 PARTS = {
-    "strings": (strings, lambda s: f"mutf8 {s.hex()}", lambda line: line, lambda lib, s: lib.string(s), lambda case, ours, theirs: None),
-    "units": (units, unit_line, lambda line: line, unit_answer, lambda case, ours, theirs: None),
+    "strings": (strings, bytes.hex, lambda line: line, lambda lib, s: lib.string(s), lambda case, ours, theirs: None),
     "documents": (documents, document_line, crate_document, lambda lib, d: lib.rewrite(d), document_entry),
     "tokens": (tokens, token_line, crate_token, lambda lib, c: lib.token(c[2], c[1], c[0]), token_entry),
     "texts": (texts, text_line, crate_text, lambda lib, t: lib.parse(t), text_entry),
@@ -299,7 +267,7 @@ def chunk(job):
     sys.setrecursionlimit(20000)
     lib = Library(options.lib)
     asked = "\n".join(map(line_of, cases)) + "\n"
-    judge = ["java", "-cp", options.judge, "Mutf8"] if part in ("strings", "units") else [options.oracle]
+    judge = ["java", "-cp", options.judge, "Mutf8"] if part == "strings" else [options.oracle]
     lines = subprocess.run(judge, input=asked, capture_output=True, text=True, check=True).stdout.splitlines()
     assert len(lines) == len(cases)
     refusals, entries, wrong = collections.Counter(), collections.Counter(), []

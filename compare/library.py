@@ -1,9 +1,8 @@
 """The proved library by way of ctypes: each function answers as compare.py prints and compares it."""
 import ctypes
 
-# The words of a record; two of the forms.
+# The words of a record.
 WORDS = 9
-JAVA, UNITS = 0, 1
 KINDS = ["end", "{", "}", "[", "]", ",", ":", ";", "string", "quoted", "byte", "short", "int", "long", "float", "double"]
 
 
@@ -14,13 +13,10 @@ class Library:
         self.table = (ctypes.c_uint32 * (WORDS * records))()
         self.out = (ctypes.c_uint8 * room)()
         self.room = room
-        form, size, data, words = ctypes.c_uint32, ctypes.c_size_t, ctypes.c_char_p, ctypes.c_void_p
+        size, data, words = ctypes.c_size_t, ctypes.c_char_p, ctypes.c_void_p
         self.lib.tikfazrul_read.argtypes = [data, size, words, size, words]
         self.lib.tikfazrul_check_mutf8.argtypes = [data, size, words]
         self.lib.tikfazrul_write.argtypes = [data, size, words, size, words, size, words]
-        self.lib.tikfazrul_read_in.argtypes = [form, data, size, words, size, words]
-        self.lib.tikfazrul_check_string.argtypes = [form, data, size, words]
-        self.lib.tikfazrul_write_in.argtypes = [form, data, size, words, size, words, size, words]
         self.lib.tikfazrul_token.argtypes = [data, size, size, ctypes.c_uint32, words]
         self.lib.tikfazrul_content.argtypes = [data, size, size, size, ctypes.c_uint8, words, size, words]
         self.lib.tikfazrul_parse.argtypes = [data, size, words, size, words]
@@ -33,28 +29,14 @@ class Library:
         self.lib.tikfazrul_check_mutf8(s, len(s), self.answer)
         return f"bad {self.answer[1]}" if self.answer[0] else "ok"
 
-    def string_in(self, form, s):
-        """Whether a string's content is of a form, or where it is not."""
-        self.lib.tikfazrul_check_string(form, s, len(s), self.answer)
-        return f"bad {self.answer[1]}" if self.answer[0] else "ok"
-
-    def units(self, s):
-        """A string's content, where it is of units and comes back in a document that is read and written so; and what Java's mode says of it."""
-        doc = bytes.fromhex("0A0000080000") + len(s).to_bytes(2, "big") + s + b"\0"
-        said, back = self.string_in(UNITS, s), self.rewrite(doc, UNITS)
-        if said != "ok" or back != f"ok {len(doc)} {doc.hex().upper()}":
-            return f"{said}, {back}"
-        return f"{s.hex().upper()} {self.string_in(JAVA, s)}"
-
-    def rewrite(self, doc, form=None):
-        """Reads a document and writes it, by the functions that take a form where one is told: the bytes consumed and what is written."""
-        a, lib = self.answer, self.lib
-        read, write, told = (lib.tikfazrul_read, lib.tikfazrul_write, ()) if form is None else (lib.tikfazrul_read_in, lib.tikfazrul_write_in, (form,))
-        read(*told, doc, len(doc), self.table, len(self.table), a)
+    def rewrite(self, doc):
+        """Reads a document and writes it: the bytes consumed and what is written."""
+        a = self.answer
+        self.lib.tikfazrul_read(doc, len(doc), self.table, len(self.table), a)
         if a[0]:
             return self.refused()
         consumed, records = a[2], a[3]
-        write(*told, doc, len(doc), self.table, WORDS * records, self.out, self.room, a)
+        self.lib.tikfazrul_write(doc, len(doc), self.table, WORDS * records, self.out, self.room, a)
         if a[0]:
             return "write " + self.refused()
         return f"ok {consumed} {bytes(self.out[:a[2]]).hex().upper()}"

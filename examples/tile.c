@@ -1,5 +1,5 @@
-/* tile [--units | --pocket] FILE...: lists the records of documents, in Java's form, in that with strings of any units (02, [5]) or in the pocket
- * edition's (02, [2]): record, kind, name, value. From the repository's folder:
+/* tile [--pocket] FILE...: lists the records of documents, in Java's form or the pocket edition's (02, [2]): record, kind, name, value. From the
+ * repository's folder:
  *
  *   cc -Wall -Wextra -Werror -Iinclude examples/tile.c target/native/libnbt.a -o tile && ./tile samples/reef.nbt
  *
@@ -109,9 +109,9 @@ static int list(const char *name, uint32_t form)
 
 int main(int count, char **names)
 {
-    int status = 0, units = count > 1 && !strcmp(names[1], "--units"), pocket = count > 1 && !strcmp(names[1], "--pocket");
-    for (int i = 1 + (units || pocket); i < count; i++) {
-        int result = list(names[i], units ? TIKFAZRUL_UNITS : pocket ? TIKFAZRUL_POCKET : TIKFAZRUL_JAVA);
+    int status = 0, pocket = count > 1 && !strcmp(names[1], "--pocket");
+    for (int i = 1 + pocket; i < count; i++) {
+        int result = list(names[i], pocket ? TIKFAZRUL_POCKET : TIKFAZRUL_JAVA);
         status = result > status ? result : status;
     }
     return status;

@@ -15,11 +15,11 @@
  *    1  the data ends           the first byte of the field that is not whole
  *    2  the root is no compound 0
  *    3  no such tag id          the id byte
- *    4  a broken string         it is no string of the document's form (TIKFAZRUL_JAVA, below): where the first sequence that can't be read
+ *    4  a broken string         it is not modified UTF-8 or, in the pocket form, not UTF-8 (02, [2]): where the first sequence that can't be read
  *                               begins (02, [3]), in tikfazrul_write and tikfazrul_convert too, which have the record in [2]: a stray byte or a
- *                               bad lead itself; the lead of one that is cut, overlong or wrongly continued; in modified UTF-8 a zero byte and,
- *                               where it is of whole characters, a high half that no low half follows, or a low half that follows none; in
- *                               UTF-8 any half, and C0 80, which is overlong there
+ *                               bad lead itself; the lead of one that is cut, overlong or wrongly continued; in modified UTF-8 a zero byte, a
+ *                               high half that no low half follows, or a low half that follows none; in UTF-8 any half, and C0 80, which is
+ *                               overlong there
  *    5  a count below 0         its first byte
  *    6  a name twice            the id byte of the later entry (tikfazrul_write: the later record; tikfazrul_parse: the later key)
  *    7  over 512 deep           the first payload byte (tikfazrul_write, tikfazrul_query: the record; tikfazrul_parse: the opening brace)
@@ -81,15 +81,9 @@ enum {
 
 /* The form that a document is in (02, [2]): the same tags, laid out alike but for the bytes of numbers and of strings. Any other number means
  * TIKFAZRUL_JAVA, which is also the form of every function that takes none. A table does not know its form, since its words count bytes: whoever
- * writes or asks it states the form that it was read in.
- *
- * Modified UTF-8 (java.io.DataInput) is made of 16-bit units, each in one way alone, so that names are the same exactly when their units are: 1
- * to 7F in one byte; 0, as C0 80, and 80 to 7FF in two; the rest, halves of surrogate pairs among them, in three. In TIKFAZRUL_UNITS a string is
- * any list of units (02, [5]), in TIKFAZRUL_JAVA one in which each half is in a pair, a high half and the low half behind it: the two part only
- * where a half is in none. A table read in the one may be written and asked in the other. Texts and tikfazrul_convert stay with whole characters. */
+ * writes or asks it states the form that it was read in. */
 enum {
-    TIKFAZRUL_JAVA = 0,  /* numbers, counts and lengths big-endian; strings in modified UTF-8 of whole characters */
-    TIKFAZRUL_UNITS = 1, /* numbers, counts and lengths big-endian; strings in modified UTF-8 of any units */
+    TIKFAZRUL_JAVA = 0,  /* numbers, counts and lengths big-endian; strings in modified UTF-8 */
     TIKFAZRUL_POCKET = 2 /* numbers, counts and lengths little-endian; strings in UTF-8, a zero byte being U+0000 */
 };
 
@@ -126,12 +120,11 @@ void tikfazrul_write_in(uint32_t form, const uint8_t *doc, size_t doc_len, uint3
                         uint64_t answer[8]);
 
 /* Writes the document that a table stands for in another form, with all values kept (02, [2]): `from` is the form that `doc` is in, `to` the
- * form that is written. TIKFAZRUL_UNITS counts as TIKFAZRUL_JAVA on either side (02, [5]), so that a half in no pair is 4; where the two are then
- * one form, this is tikfazrul_write_in. A string keeps its characters, which may take more bytes or fewer: U+0000 is C0 80 in Java's form and 00 in
- * the pocket edition's, a character above U+FFFF six bytes and four. Integers are the same integers, floats the same bits; an empty list is
- * written as five zero bytes. Accepted: [2] is the number of bytes written, from out[0] on; no other byte changes. Refused (9, 10; then by record
- * 12, 4, 12 of what is written, 6, 7, 11, and 12, 4, 12 of a string; 13 last): the output is as it was. 12's place is the record; 4's is the
- * offset in `doc`, with the record in [2]. The table comes back as in tikfazrul_write. */
+ * form that is written; where they are one form, this is tikfazrul_write_in. A string keeps its characters, which may take more bytes or fewer:
+ * U+0000 is C0 80 in Java's form and 00 in the pocket edition's, a character above U+FFFF six bytes and four. Integers are the same integers,
+ * floats the same bits; an empty list is written as five zero bytes. Accepted: [2] is the number of bytes written, from out[0] on; no other byte
+ * changes. Refused (9, 10; then by record 12, 4, 12 of what is written, 6, 7, 11, and 12, 4, 12 of a string; 13 last): the output is as it was.
+ * 12's place is the record; 4's is the offset in `doc`, with the record in [2]. The table comes back as in tikfazrul_write. */
 void tikfazrul_convert(uint32_t from, uint32_t to, const uint8_t *doc, size_t doc_len, uint32_t *table, size_t table_len, uint8_t *out,
                        size_t out_len, uint64_t answer[8]);
 
@@ -185,8 +178,9 @@ void tikfazrul_lines_down(size_t doc_len, const uint8_t *lines, size_t lines_len
 void tikfazrul_query(const uint8_t *doc, size_t doc_len, const uint32_t *table, size_t table_len, const uint8_t *query, size_t query_len,
                      uint32_t *list, size_t list_len, uint64_t answer[8]);
 
-/* Asks the table of a document in a form (02, [2]); all else is as in tikfazrul_query, which is this in TIKFAZRUL_JAVA. A name in the query is a
- * string of that form, or else 14, and is compared byte by byte; the length before it, and an index, are big-endian in each form. */
+/* Asks the table of a document in a form (02, [2]); all else is as in tikfazrul_query, which is this in TIKFAZRUL_JAVA. A name in the query is in
+ * the document's strings, so in TIKFAZRUL_POCKET in UTF-8, and is compared byte by byte; the length before it, and an index, are big-endian in
+ * each form. */
 void tikfazrul_query_in(uint32_t form, const uint8_t *doc, size_t doc_len, const uint32_t *table, size_t table_len, const uint8_t *query,
                         size_t query_len, uint32_t *list, size_t list_len, uint64_t answer[8]);
 
@@ -238,11 +232,12 @@ void tikfazrul_content(const uint8_t *text, size_t text_len, size_t start, size_
  * level, which is 0.6 MB where a text is 512 deep. */
 void tikfazrul_parse(const uint8_t *text, size_t text_len, uint8_t *out, size_t out_len, uint64_t answer[8]);
 
-/* Whether bytes are modified UTF-8 of whole characters, that is of Unicode scalar values. Refused: 4, at the offset where the first sequence that
+/* Whether bytes are modified UTF-8 (java.io.DataInput) of Unicode scalar values. Refused: 4, at the offset where the first sequence that
  * can't be read begins. */
 void tikfazrul_check_mutf8(const uint8_t *bytes, size_t len, uint64_t answer[8]);
 
-/* Whether bytes are a string of a form (02, [2]); all else is as in tikfazrul_check_mutf8, which is this in TIKFAZRUL_JAVA. */
+/* Whether bytes are a string of a form (02, [2]): in TIKFAZRUL_JAVA as tikfazrul_check_mutf8 has it; in TIKFAZRUL_POCKET UTF-8. Refused: 4, at the
+ * offset where the first sequence that can't be read begins. */
 void tikfazrul_check_string(uint32_t form, const uint8_t *bytes, size_t len, uint64_t answer[8]);
 
 /* Whether bytes are UTF-8, as a text is. Refused: 15, at the offset where the first sequence that can't be read begins. */

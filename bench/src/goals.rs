@@ -41,7 +41,6 @@ pub enum Goal {
     WriteTiles,
     WriteArrays,
     PocketBesideJava,
-    UnitsBesideJava,
     Rescue,
     RescueGrowth,
     WriteLines,
@@ -58,7 +57,7 @@ pub enum Goal {
 }
 
 /// The bound of the texts' growth, and the tenth over a copy, are what "linear" and "at the speed of" are taken for here.
-const GOALS: [(Goal, &str, Wanted); 22] = [
+const GOALS: [(Goal, &str, Wanted); 21] = [
     (Goal::Strings, "string checks, throughput over from_utf8's", Wanted::AtLeast(0.8)),
     (Goal::ReadTiles, "reading tiles, the crate's time over ours", Wanted::AtLeast(10.0)),
     (Goal::ReadNeverSlower, "reading anything, the crate's time over ours", Wanted::AtLeast(1.0)),
@@ -67,7 +66,6 @@ const GOALS: [(Goal, &str, Wanted); 22] = [
     (Goal::WriteTiles, "writing tiles, the crate's time over ours", Wanted::AtLeast(5.0)),
     (Goal::WriteArrays, "writing long arrays, time over a copy's", Wanted::AtMost(1.1)),
     (Goal::PocketBesideJava, "the pocket edition's form read and written, time over Java's form's", Wanted::AtMost(1.1)),
-    (Goal::UnitsBesideJava, "Java units read and written, time over 01's mode", Wanted::AtMost(1.1)),
     (Goal::Rescue, "rescuing many records, time over a read of the same bytes", Wanted::AtMost(4.0)),
     (Goal::RescueGrowth, "rescuing tiles and one compound in sorted order, time a record at 10^6 over 10^3", Wanted::AtMost(3.0)),
     (Goal::WriteLines, "writing lines, Rust's own formatting's time over ours", Wanted::AtLeast(1.0)),

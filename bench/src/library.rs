@@ -3,8 +3,7 @@
 mod ffi;
 
 pub use ffi::{
-    check_mutf8, check_string, check_utf8, convert, lines_down, lines_up, query, read, read_in, read_lines, rescue, write, write_in,
-    write_lines, Answer,
+    check_mutf8, check_utf8, convert, lines_down, lines_up, query, read, read_in, read_lines, rescue, write, write_in, write_lines, Answer,
 };
 
 /// The words of a record.

@@ -1,5 +1,4 @@
-//! The forms side by side (02, [2], [5]): documents in Java's form, the same values in the pocket edition's, and the same bytes in Java units,
-//! read and written.
+//! Both forms side by side (02, [2]): documents in Java's form and the same values in the pocket edition's, read and written.
 use crate::goals::Goal;
 use crate::harness::each;
 use crate::inputs::{odd_shapes, payloads, tiles, wide, Doc, Order};
@@ -9,39 +8,22 @@ use crate::Bench;
 use std::hint::black_box;
 
 pub const JAVA: u32 = 0;
-pub const UNITS: u32 = 1;
 pub const POCKET: u32 = 2;
 
-/// A form beside Java's: its name and number, the goal for it, and a document of Java's form in it.
-struct Beside {
-    name: &'static str,
-    form: u32,
-    goal: Goal,
-    there: fn(&[u8]) -> Vec<u8>,
-}
-
 pub fn section(bench: &mut Bench) {
-    markdown::section("The forms", "pocket");
-    table(bench, &Beside { name: "pocket", form: POCKET, goal: Goal::PocketBesideJava, there: turned });
-    markdown::caption("Java units:");
-    table(bench, &Beside { name: "units", form: UNITS, goal: Goal::UnitsBesideJava, there: <[u8]>::to_vec });
-}
-
-fn table(bench: &mut Bench, beside: &Beside) {
-    let name = beside.name;
-    let over = format!("{name} / Java");
+    markdown::section("Both forms", "pocket");
     markdown::head(&[
         "document",
         "tags",
         "Java read, ns a tag",
-        &format!("{name} read"),
-        &over,
+        "pocket read",
+        "pocket / Java",
         "Java written, ns a tag",
-        &format!("{name} written"),
-        &over,
+        "pocket written",
+        "pocket / Java",
     ]);
     for (what, doc) in documents(bench) {
-        row(bench, &what, &doc, beside);
+        row(bench, &what, &doc);
     }
 }
 
@@ -55,23 +37,23 @@ pub fn documents(bench: &Bench) -> Vec<(String, Doc)> {
     all
 }
 
-fn row(bench: &mut Bench, what: &str, java: &Doc, beside: &Beside) {
-    let there = (beside.there)(&java.bytes);
+fn row(bench: &mut Bench, what: &str, java: &Doc) {
+    let pocket = turned(&java.bytes);
     let (mut ours, mut theirs) = (java.table(), vec![0; WORDS * java.tags]);
-    assert_eq!(library::read_in(beside.form, &there, &mut theirs)[0], 0, "{what}");
+    assert_eq!(library::read_in(POCKET, &pocket, &mut theirs)[0], 0, "{what}");
     assert!(ours == theirs, "{what}: both forms have the same records");
     let read = bench.plan.measure(&mut [
         &mut || assert_eq!(library::read_in(JAVA, black_box(&java.bytes), &mut ours)[0], 0),
-        &mut || assert_eq!(library::read_in(beside.form, black_box(&there), &mut theirs)[0], 0),
+        &mut || assert_eq!(library::read_in(POCKET, black_box(&pocket), &mut theirs)[0], 0),
     ]);
-    let (mut out, mut other) = (vec![0u8; there.len()], vec![0u8; there.len()]);
+    let (mut out, mut other) = (vec![0u8; pocket.len()], vec![0u8; pocket.len()]);
     let written = bench.plan.measure(&mut [
         &mut || assert_eq!(library::write_in(JAVA, black_box(&java.bytes), &mut ours, &mut out)[0], 0),
-        &mut || assert_eq!(library::write_in(beside.form, black_box(&there), &mut theirs, &mut other)[0], 0),
+        &mut || assert_eq!(library::write_in(POCKET, black_box(&pocket), &mut theirs, &mut other)[0], 0),
     ]);
-    assert!(out == java.bytes && other == there, "{what}");
+    assert!(out == java.bytes && other == pocket, "{what}");
     for (deed, times) in [("read", &read), ("written", &written)] {
-        bench.goals.note(beside.goal, times.ratio(1, 0), &format!("{what}, {deed}"));
+        bench.goals.note(Goal::PocketBesideJava, times.ratio(1, 0), &format!("{what}, {deed}"));
     }
     markdown::row(&[
         what.into(),

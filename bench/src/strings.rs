@@ -1,7 +1,6 @@
-//! The checks of modified UTF-8, in both modes (02, [5]), and of UTF-8 beside Rust's from_utf8 on the same text.
+//! The checks of modified UTF-8 and of UTF-8 beside Rust's from_utf8 on the same text.
 use crate::goals::Goal;
 use crate::library;
-use crate::pocket::UNITS;
 use crate::{markdown, Bench};
 use std::hint::black_box;
 
@@ -31,7 +30,6 @@ pub fn section(bench: &mut Bench) {
         "from_utf8, MB/s",
         "modified UTF-8, MB/s",
         "ours / from_utf8",
-        "Java units, MB/s",
         "UTF-8, MB/s",
         "ours / from_utf8",
         "a copy, MB/s",
@@ -105,7 +103,6 @@ fn row(bench: &mut Bench, what: &str, parts: &[Vec<u8>]) {
         &mut || all(parts, |b| std::str::from_utf8(b).is_ok()),
         &mut || all(&own, |b| library::check_mutf8(b)[0] == 0),
         &mut || all(parts, |b| library::check_utf8(b)[0] == 0),
-        &mut || all(&own, |b| library::check_string(UNITS, b)[0] == 0),
         &mut || copies.iter_mut().zip(parts).for_each(|(to, from)| black_box(&mut to[..]).copy_from_slice(black_box(from))),
     ]);
     let by_modified = times.ratio(0, 1).times(total(&own) / total(parts));
@@ -118,9 +115,8 @@ fn row(bench: &mut Bench, what: &str, parts: &[Vec<u8>]) {
         speed(total(parts), 0),
         speed(total(&own), 1),
         by_modified.to_string(),
-        speed(total(&own), 3),
         speed(total(parts), 2),
         by_utf8.to_string(),
-        speed(total(parts), 4),
+        speed(total(parts), 3),
     ]);
 }

@@ -1,6 +1,5 @@
-//! tile [--units | --pocket] FILE…: lists the records of documents, in Java's form, in that with strings of any units (02, [5]) or in the pocket
-//! edition's (02, [2]): record, kind, name, value. examples/tile.c prints the same, character by character (tests/rust/run compares them).
-//! `cargo run --example tile ../samples/reef.nbt`
+//! tile [--pocket] FILE…: lists the records of documents, in Java's form or the pocket edition's (02, [2]): record, kind, name, value.
+//! examples/tile.c prints the same, character by character (tests/rust/run compares them). `cargo run --example tile ../samples/reef.nbt`
 use std::process::ExitCode;
 use tikfazrul::{read_in, Form, Kind, Node};
 
@@ -51,11 +50,7 @@ fn list(name: &str, form: Form) -> u8 {
 
 fn main() -> ExitCode {
     let mut names: Vec<String> = std::env::args().skip(1).collect();
-    let form = match names.first().map(String::as_str) {
-        Some("--units") => Form::Units,
-        Some("--pocket") => Form::Pocket,
-        _ => Form::Java,
-    };
-    names.drain(..usize::from(form != Form::Java));
+    let form = if names.first().is_some_and(|name| name == "--pocket") { Form::Pocket } else { Form::Java };
+    names.drain(..usize::from(form == Form::Pocket));
     ExitCode::from(names.iter().map(|name| list(name, form)).max().unwrap_or(0))
 }

@@ -21,12 +21,11 @@ pub enum Part {
 }
 
 /// A name or a string that is not modified UTF-8, or in the pocket edition's form not UTF-8: what a refusal 4 speaks of. Or one that is too
-/// long in Java's form, into which a document is converted: what 12 then speaks of. Half of a pair that stands alone is broken but in
-/// [`Form::Units`].
+/// long in Java's form, into which a document is converted: what 12 then speaks of.
 #[derive(Clone, Debug, PartialEq, Eq)]
 pub struct Broken {
-    /// Where it is, as a path that [`Query`](crate::Query) reads in the document's form: of the tag whose value it is, of the compound in which
-    /// the entry stands that has it as its name, or of the root.
+    /// Where it is, as a path that [`Query`](crate::Query) reads: of the tag whose value it is, of the compound in which the entry stands
+    /// that has it as its name, or of the root.
     pub path: String,
     /// Which string it is.
     pub part: Part,
@@ -71,8 +70,7 @@ impl Refusal {
     }
 
     /// The name or the string that can't be read, or is too long in Java's form, where [`write()`](crate::write()) or
-    /// [`write_in`](crate::write_in) refuses this table over `doc` so, or [`convert`](crate::convert) refuses `doc`, of which it is the table.
-    /// `None` for every other refusal, table and document.
+    /// [`write_in`](crate::write_in) refuses this table over `doc` so. `None` for every other refusal, table and document.
     ///
     /// ```
     /// use tikfazrul::{write, Part, Place, Refusal, Table};
@@ -90,10 +88,8 @@ impl Refusal {
         let form = table.form();
         let (path, part, bytes) = match (*self, self.place()) {
             (Refusal::StringTooLongInJava(_), _) => which(&node, |string| form == Form::Pocket && is_long_in_java(&doc[string]))?,
-            (_, Place::In { byte, .. }) => {
-                // 02, [5]: a table of Java's units may be judged by Java's rule, and the other way round
-                let judged = self.broken_form().filter(|judged| judged.is_spelt_as(form))?;
-                let (path, part, string) = which(&node, |string| breaks(judged, doc, string, byte))?;
+            (_, Place::In { byte, .. }) if self.broken_form() == Some(form) => {
+                let (path, part, string) = which(&node, |string| breaks(form, doc, string, byte))?;
                 (path, part, byte..byte + width(&doc[byte..string.end]))
             }
             _ => return None,

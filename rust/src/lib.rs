@@ -102,25 +102,6 @@
 //! # Ok::<(), tikfazrul::Refusal>(())
 //! ```
 //!
-//! Java's own strings are 16-bit units, and a text that was cut between the two halves of a surrogate pair ends in one of them. That is no text,
-//! and refused with 4, but in [`Form::Units`]; there it comes back by its units, or with replacement characters:
-//!
-//! ```
-//! use tikfazrul::{read, read_in, Form, Query};
-//!
-//! let doc = b"\x0A\0\0\x08\0\x05Text1\0\x07reef\xED\xA0\xBD\x01\0\x04a\xED\xA0\xBD\x07\0";
-//! assert_eq!(read(doc).unwrap_err().number(), 4);
-//! let table = read_in(Form::Units, doc)?;
-//! let text = table.root(doc)?.get("Text1").unwrap();
-//! assert_eq!(text.as_str(), None);
-//! assert_eq!(text.as_str_lossy().unwrap(), "reef\u{FFFD}");
-//! assert_eq!(text.units().unwrap(), [0x72, 0x65, 0x65, 0x66, 0xD83D]);
-//! // such a name is an escape in a path
-//! let query = Query::parse_in(Form::Units, r#"root/"a\ud83d""#)?;
-//! assert_eq!(table.find(doc, &query)?[0].path(), r#"root/"a\ud83d""#);
-//! # Ok::<(), Box<dyn std::error::Error>>(())
-//! ```
-//!
 //! # Coming from quartz_nbt
 //!
 //! | there | here |
@@ -154,7 +135,7 @@ pub use form::{check_string, Form};
 pub use lines::{lines_into, read_lines_into, LINE};
 pub use moves::{lines_down, lines_down_into, lines_up, lines_up_into, OLD_LINE};
 pub use node::{Children, Kind, Link, Node, Trail, Walk};
-pub use path::{quoted, quoted_units, Fault, PathError, Query, MAX_NAME, MAX_STEPS};
+pub use path::{quoted, Fault, PathError, Query, MAX_NAME, MAX_STEPS};
 pub use refusal::{Place, Refusal};
 pub use rescue::{rescue, rescue_in, rescue_in_into, rescue_into, Change, Rescued, Saved, CHANGE, MAX_DEPTH};
 pub use table::{

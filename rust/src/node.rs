@@ -198,23 +198,10 @@ impl<'a> Node<'a> {
         self.list().is_none().then(|| self.name_span())
     }
 
-    /// The name as text, borrowed where UTF-8 writes it the same. `None` for a list's element; in [`Form::Units`] for a name that is no text,
-    /// since half of a pair stands alone in it ([`Node::name_units`] and [`Node::name_lossy`] have it); and for a name that is no string of its
-    /// form, which no read table has.
+    /// The name as text, borrowed where UTF-8 writes it the same. `None` for a list's element, and for a name that is no string of its form,
+    /// which no read table has.
     pub fn name(&self) -> Option<Cow<'a, str>> {
         self.form.decode(self.name_bytes()?).ok()
-    }
-
-    /// The name as text, with U+FFFD for each half of a pair that stands alone. `None` for a list's element, and for a name that is no string of
-    /// its form.
-    pub fn name_lossy(&self) -> Option<Cow<'a, str>> {
-        self.form.decode_lossy(self.name_bytes()?).ok()
-    }
-
-    /// The name's 16-bit units, in the pocket edition's form those of its UTF-16. `None` for a list's element, and for a name that is no string
-    /// of its form.
-    pub fn name_units(&self) -> Option<Vec<u16>> {
-        self.form.units(self.name_bytes()?).ok()
     }
 
     /// The payload's bytes as they stand in the document, without a length or a count. Empty for a list or a compound.
@@ -285,26 +272,13 @@ impl<'a> Node<'a> {
         }
     }
 
-    /// A string's bytes.
-    fn string(&self) -> Option<&'a [u8]> {
-        (self.kind() == Kind::String).then(|| self.payload())
-    }
-
-    /// The text of a string, borrowed where UTF-8 writes it the same. `None` too, in [`Form::Units`], for a string that is no text, since half
-    /// of a pair stands alone in it ([`Node::units`] and [`Node::as_str_lossy`] have it); and for one that is no string of its form, which no
-    /// read table has.
+    /// The text of a string, borrowed where UTF-8 writes it the same. `None` too for one that is no string of its form, which no read table
+    /// has.
     pub fn as_str(&self) -> Option<Cow<'a, str>> {
-        self.form.decode(self.string()?).ok()
-    }
-
-    /// The text of a string, with U+FFFD for each half of a pair that stands alone. `None` too for one that is no string of its form.
-    pub fn as_str_lossy(&self) -> Option<Cow<'a, str>> {
-        self.form.decode_lossy(self.string()?).ok()
-    }
-
-    /// The 16-bit units of a string, in the pocket edition's form those of its UTF-16. `None` too for one that is no string of its form.
-    pub fn units(&self) -> Option<Vec<u16>> {
-        self.form.units(self.string()?).ok()
+        if self.kind() != Kind::String {
+            return None;
+        }
+        self.form.decode(self.payload()).ok()
     }
 
     /// An array's elements of `N` bytes each, the highest first, if the tag is an array of that kind.
@@ -344,28 +318,11 @@ impl<'a> Node<'a> {
 
     /// A compound's entry of this name. In a table that no read made there may be two: the first.
     pub fn get(&self, name: &str) -> Option<Node<'a>> {
-        self.entry(&self.form.encode(name))
-    }
-
-    /// A compound's entry whose name has these 16-bit units, of which a half of a pair may stand alone in [`Form::Units`].
-    ///
-    /// ```
-    /// use tikfazrul::{read_in, Form};
-    /// let doc = b"\x0A\0\0\x01\0\x04a\xED\xA0\xBD\x07\0";
-    /// let table = read_in(Form::Units, doc)?;
-    /// let found = table.root(doc)?.get_units(&[0x61, 0xD83D]).unwrap();
-    /// assert_eq!((found.as_i8(), found.name(), found.path().as_str()), (Some(7), None, r#"root/"a\ud83d""#));
-    /// # Ok::<(), tikfazrul::Refusal>(())
-    /// ```
-    pub fn get_units(&self, name: &[u16]) -> Option<Node<'a>> {
-        self.entry(&self.form.encode_units(name)?)
-    }
-
-    fn entry(&self, name: &[u8]) -> Option<Node<'a>> {
         if self.kind() != Kind::Compound {
             return None;
         }
-        self.children().find(|child| child.name_span() == name)
+        let wanted = self.form.encode(name);
+        self.children().find(|child| child.name_span() == &*wanted)
     }
 
     /// Whether a compound has an entry of this name.
@@ -426,9 +383,8 @@ impl<'a> Node<'a> {
         line
     }
 
-    /// Where it is, as a path that [`Query`](crate::Query) reads in the table's form: `root/Tiles[3]/SceneId`. It is found by climbing to the
-    /// root; on the way an index is counted as [`Node::link`] does. A half of a pair that stands alone in a name is an escape. A name that is no
-    /// string of its form, which no read table has, is shown as far as it can be.
+    /// Where it is, as a path that [`Query`](crate::Query) reads: `root/Tiles[3]/SceneId`. It is found by climbing to the root; on the way
+    /// an index is counted as [`Node::link`] does. A name that is no string of its form, which no read table has, is shown as far as it can be.
     pub fn path(&self) -> String {
         let mut trail = Trail::new();
         trail.step(self);
@@ -441,20 +397,10 @@ impl<'a> Node<'a> {
             Link::Root => path.push_str("root"),
             Link::Element(index) => path.push_str(&format!("[{index}]")),
             Link::Entry => {
+                let name = self.form.decode(self.name_span()).unwrap_or_else(|_| String::from_utf8_lossy(self.name_span()));
                 path.push('/');
-                match self.form.decode(self.name_span()) {
-                    Ok(name) => path.push_str(&path::quoted(&name)),
-                    Err(_) => path.push_str(&self.no_text()),
-                }
+                path.push_str(&path::quoted(&name));
             }
-        }
-    }
-
-    /// A name that is no text, as a path has it.
-    fn no_text(&self) -> String {
-        match self.form.units(self.name_span()) {
-            Ok(units) => path::quoted_units(&units),
-            Err(_) => path::quoted(&String::from_utf8_lossy(self.name_span())).into_owned(),
         }
     }
 }

@@ -1,8 +1,6 @@
 //! Queries, and the readable paths that they are made from.
 use crate::form::Form;
-use crate::mutf8;
 use std::borrow::Cow;
-use std::char::DecodeUtf16Error;
 use std::fmt;
 use std::str::FromStr;
 
@@ -32,8 +30,7 @@ mod sort {
 ///
 /// A path may begin with `root`, the root tag itself, whatever its name: `root/Tiles[3]` and `Tiles[3]` are the same, and `root` or nothing at
 /// all is the root alone. An entry of the root that is called root is `root/root` or `"root"`. A name with blanks, quotes, backslashes or
-/// any of `/[]*` stands in quotes of either sort, with the escapes `\\ \" \' \n \r \t \uXXXX`. Two of the last that are a pair of surrogates are
-/// one character, and one that stands alone is half of it, as only names in [`Form::Units`] may have it.
+/// any of `/[]*` stands in quotes of either sort, with the escapes `\\ \" \' \n \r \t \uXXXX`.
 ///
 /// ```
 /// use tikfazrul::Query;
@@ -44,7 +41,7 @@ mod sort {
 /// ```
 ///
 /// Its bytes have names in the strings of a form, Java's unless another is asked for. [`Table::find`](crate::Table::find) takes a query of
-/// any form for a table of any:
+/// either form for a table of either:
 ///
 /// ```
 /// use tikfazrul::{Form, Query};
@@ -53,17 +50,6 @@ mod sort {
 /// let pocket = Query::parse_in(Form::Pocket, "reef\u{1F600}")?;
 /// assert_eq!(pocket.as_bytes(), b"\x01\0\x08reef\xF0\x9F\x98\x80");
 /// assert_eq!(query.in_form(Form::Pocket)?.as_ref(), &pocket);
-/// # Ok::<(), tikfazrul::PathError>(())
-/// ```
-///
-/// A name with half of a pair in it, as a path and by its units:
-///
-/// ```
-/// use tikfazrul::{Fault, Form, Query};
-/// let query = Query::parse_in(Form::Units, r#"root/"reef\ud83d""#)?;
-/// assert_eq!(query.as_bytes(), b"\x01\0\x07reef\xED\xA0\xBD");
-/// assert_eq!(query, Query::new_in(Form::Units).name_units(&[0x72, 0x65, 0x65, 0x66, 0xD83D])?);
-/// assert_eq!(query.in_form(Form::Java).unwrap_err().fault(), Fault::Half);
 /// # Ok::<(), tikfazrul::PathError>(())
 /// ```
 ///
@@ -99,8 +85,7 @@ impl Query {
         Scan { path, at: 0 }.query(Query::new_in(form))
     }
 
-    /// The same steps with names in the strings of that form, of which one may have more bytes there than a name has, or half of a pair, which
-    /// stands alone in [`Form::Units`] only.
+    /// The same steps with names in the strings of that form, of which one may have more bytes there than a name has.
     pub fn in_form(&self, form: Form) -> Result<Cow<'_, Query>, PathError> {
         if form == self.form {
             return Ok(Cow::Borrowed(self));
@@ -111,7 +96,7 @@ impl Query {
             (query, rest) = match (sort, more) {
                 (sort::NAME, [high, low, more @ ..]) => {
                     let (name, more) = more.split_at(usize::from(u16::from_be_bytes([*high, *low])));
-                    (query.name_units(&self.form.units(name).expect("a name is a string of its form"))?, more)
+                    (query.name(&self.form.decode(name).expect("a name is made of a text"))?, more)
                 }
                 _ => {
                     let (index, more) = more.split_at(if sort == sort::INDEX { 4 } else { 0 });
@@ -125,22 +110,9 @@ impl Query {
     /// Then to the entry of a compound so named.
     pub fn name(self, name: &str) -> Result<Query, PathError> {
         let name = self.form.encode(name);
-        self.named(&name)
-    }
-
-    /// Then to the entry of a compound whose name has these 16-bit units. A half of a pair stands alone in [`Form::Units`] only.
-    pub fn name_units(self, name: &[u16]) -> Result<Query, PathError> {
-        match self.form.encode_units(name) {
-            Some(name) => self.named(&name),
-            None => Err(PathError::bare(Fault::Half)),
-        }
-    }
-
-    /// Then to the entry whose name is this string of the query's form.
-    fn named(self, name: &[u8]) -> Result<Query, PathError> {
         match u16::try_from(name.len()) {
             // 02, [2]: lengths and indices of a query are big-endian in each form
-            Ok(length) => self.step(sort::NAME, &[&length.to_be_bytes(), name]),
+            Ok(length) => self.step(sort::NAME, &[&length.to_be_bytes(), &*name]),
             Err(_) => Err(PathError::bare(Fault::LongName)),
         }
     }
@@ -210,8 +182,6 @@ pub enum Fault {
     Quote,
     /// There is no such escape.
     Escape,
-    /// Half of a surrogate pair stands alone, in a name that is not in [`Form::Units`].
-    Half,
     /// What stands between brackets is no index.
     Index,
     /// A bracket is opened and not closed.
@@ -230,7 +200,6 @@ impl fmt::Display for Fault {
             Fault::Odd(c) => write!(f, "a name with {c:?} stands in quotes"),
             Fault::Quote => write!(f, "this quote is not closed"),
             Fault::Escape => write!(f, "there is no such escape: \\\\ \\\" \\' \\n \\r \\t \\uXXXX are"),
-            Fault::Half => write!(f, "half of a surrogate pair stands alone, as it may only in Java's units"),
             Fault::Index => write!(f, "an index is a number from 0 to {}", i32::MAX),
             Fault::Bracket => write!(f, "this bracket is not closed"),
             Fault::Steps => write!(f, "a query has at most {MAX_STEPS} steps, and this is one more"),
@@ -297,37 +266,19 @@ pub fn quoted(name: &str) -> Cow<'_, str> {
     if !name.is_empty() && !name.chars().any(|c| odd(c) || hidden(c)) {
         return Cow::Borrowed(name);
     }
-    Cow::Owned(in_quotes(name.chars().map(Ok)))
-}
-
-/// A name of these 16-bit units as a path has it: in quotes too where half of a pair stands alone in it, which is an escape there.
-///
-/// ```
-/// assert_eq!(tikfazrul::quoted_units(&[0x61, 0xD83D]), r#""a\ud83d""#);
-/// assert_eq!(tikfazrul::quoted_units(&[0x61, 0xD83D, 0xDE00]), "a\u{1F600}");
-/// ```
-pub fn quoted_units(name: &[u16]) -> String {
-    match String::from_utf16(name) {
-        Ok(text) => quoted(&text).into_owned(),
-        Err(_) => in_quotes(char::decode_utf16(name.iter().copied())),
-    }
-}
-
-fn in_quotes(name: impl Iterator<Item = Result<char, DecodeUtf16Error>>) -> String {
     let mut text = String::from("\"");
-    for character in name {
-        match character {
-            Ok(c @ ('"' | '\\')) => text.extend(['\\', c]),
-            Ok('\n') => text.push_str("\\n"),
-            Ok('\r') => text.push_str("\\r"),
-            Ok('\t') => text.push_str("\\t"),
-            Ok(c) if hidden(c) => text.push_str(&format!("\\u{:04X}", c as u32)),
-            Ok(c) => text.push(c),
-            Err(half) => text.push_str(&mutf8::escape(half.unpaired_surrogate())),
+    for c in name.chars() {
+        match c {
+            '"' | '\\' => text.extend(['\\', c]),
+            '\n' => text.push_str("\\n"),
+            '\r' => text.push_str("\\r"),
+            '\t' => text.push_str("\\t"),
+            c if hidden(c) => text.push_str(&format!("\\u{:04X}", c as u32)),
+            c => text.push(c),
         }
     }
     text.push('"');
-    text
+    Cow::Owned(text)
 }
 
 /// A path that is being read, and how far.
@@ -396,13 +347,7 @@ impl<'a> Scan<'a> {
                     query.any()
                 }
             }
-            Some(quote @ ('"' | '\'')) => {
-                let (name, places) = self.quoted_name(quote)?;
-                match mutf8::lone_half(&name) {
-                    Some(half) if query.form != Form::Units => return self.fault(places[half], Fault::Half),
-                    _ => query.name_units(&name),
-                }
-            }
+            Some(quote @ ('"' | '\'')) => query.name(&self.quoted_name(quote)?),
             Some(_) => query.name(self.bare_name()?),
         };
         self.placed(at, made)
@@ -446,48 +391,45 @@ impl<'a> Scan<'a> {
         Ok(&rest[..length])
     }
 
-    /// The units of a name, and where in the path each comes from.
-    fn quoted_name(&mut self, quote: char) -> Result<(Vec<u16>, Vec<usize>), PathError> {
+    fn quoted_name(&mut self, quote: char) -> Result<String, PathError> {
         let opened = self.at;
         self.at += 1;
-        let (mut name, mut places) = (Vec::new(), Vec::new());
+        let mut name = String::new();
         while let Some(c) = self.rest().chars().next() {
-            let at = self.at;
             if c == '\\' {
                 name.push(self.escape()?);
-            } else {
-                self.at += c.len_utf8();
-                if c == quote {
-                    return Ok((name, places));
-                }
-                name.extend_from_slice(c.encode_utf16(&mut [0; 2]));
+                continue;
             }
-            places.resize(name.len(), at);
+            self.at += c.len_utf8();
+            if c == quote {
+                return Ok(name);
+            }
+            name.push(c);
         }
         self.fault(opened, Fault::Quote)
     }
 
-    /// The unit that an escape stands for: a character, or half of one.
-    fn escape(&mut self) -> Result<u16, PathError> {
+    /// The character that an escape stands for.
+    fn escape(&mut self) -> Result<char, PathError> {
         let at = self.at;
-        let (unit, length) = match self.rest().as_bytes().get(1) {
-            Some(&c @ (b'\\' | b'"' | b'\'')) => (Some(c.into()), 2),
-            Some(b'n') => (Some(b'\n'.into()), 2),
-            Some(b'r') => (Some(b'\r'.into()), 2),
-            Some(b't') => (Some(b'\t'.into()), 2),
-            Some(b'u') => (self.path.get(at + 2..at + 6).and_then(hex_unit), 6),
+        let (c, length) = match self.rest().chars().nth(1) {
+            Some(c @ ('\\' | '"' | '\'')) => (Some(c), 2),
+            Some('n') => (Some('\n'), 2),
+            Some('r') => (Some('\r'), 2),
+            Some('t') => (Some('\t'), 2),
+            Some('u') => (self.path.get(at + 2..at + 6).and_then(hex_character), 6),
             _ => (None, 0),
         };
         self.at += length;
-        match unit {
-            Some(unit) => Ok(unit),
+        match c {
+            Some(c) => Ok(c),
             None => self.fault(at, Fault::Escape),
         }
     }
 }
 
-/// The unit of four hexadecimal digits.
-fn hex_unit(digits: &str) -> Option<u16> {
+/// The character of four hexadecimal digits, unless they name half of one.
+fn hex_character(digits: &str) -> Option<char> {
     let all = digits.bytes().all(|b| b.is_ascii_hexdigit());
-    all.then(|| u16::from_str_radix(digits, 16).ok())?
+    char::from_u32(all.then(|| u32::from_str_radix(digits, 16).ok())??)
 }

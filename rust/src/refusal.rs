@@ -89,8 +89,6 @@ macro_rules! refusals {
             MoreMatches(usize),
             /// 24: more containers are open than the list of changes has room for. The true number of them.
             MoreChanges(usize),
-            /// 4 in Java's units: a string is not modified UTF-8 (halves of pairs may stand alone).
-            InvalidUnits(Place),
             /// 4 in the pocket edition's form: a string is not UTF-8.
             InvalidPocketString(Place),
             /// 12 where a document in the pocket edition's form is written in Java's: a name or string would have more than 65,535 bytes there.
@@ -107,7 +105,7 @@ macro_rules! refusals {
                 match self {
                     $(Refusal::$case(_) => $number,)*
                     Refusal::MoreMatches(_) | Refusal::MoreChanges(_) => 24,
-                    Refusal::InvalidUnits(_) | Refusal::InvalidPocketString(_) => 4,
+                    Refusal::InvalidPocketString(_) => 4,
                     Refusal::StringTooLongInJava(_) => 12,
                     Refusal::BadOldLine(_) => 29,
                     Refusal::Unknown(number, _) => *number,
@@ -119,8 +117,7 @@ macro_rules! refusals {
                 match self {
                     $(Refusal::$case(place) => *place,)*
                     Refusal::MoreMatches(_) | Refusal::MoreChanges(_) => Place::Whole,
-                    Refusal::InvalidUnits(place)
-                    | Refusal::InvalidPocketString(place)
+                    Refusal::InvalidPocketString(place)
                     | Refusal::StringTooLongInJava(place)
                     | Refusal::BadOldLine(place)
                     | Refusal::Unknown(_, place) => *place,
@@ -133,7 +130,6 @@ macro_rules! refusals {
                     $(Refusal::$case(_) => $what,)*
                     Refusal::MoreMatches(_) => "there are more matches than the list has room for",
                     Refusal::MoreChanges(_) => "more containers are open than the list of changes has room for",
-                    Refusal::InvalidUnits(_) => "a string is not modified UTF-8 (halves of pairs may stand alone)",
                     Refusal::InvalidPocketString(_) => "a string is not UTF-8",
                     Refusal::StringTooLongInJava(_) => "a name or string would have more than 65,535 bytes in Java's form",
                     Refusal::BadOldLine(_) => "a line is not 64 digits (0 to 9, a to f) and a line feed",
@@ -145,7 +141,7 @@ macro_rules! refusals {
             fn at_byte(&self) -> &'static str {
                 match self {
                     $(Refusal::$case(_) => $byte,)*
-                    Refusal::InvalidUnits(place) | Refusal::InvalidPocketString(place) => Refusal::InvalidString(*place).at_byte(),
+                    Refusal::InvalidPocketString(place) => Refusal::InvalidString(*place).at_byte(),
                     _ => "",
                 }
             }
@@ -160,7 +156,6 @@ macro_rules! refusals {
             pub fn behind(self, bytes: usize) -> Refusal {
                 match self {
                     $(Refusal::$case(place) => Refusal::$case(place.behind(bytes)),)*
-                    Refusal::InvalidUnits(place) => Refusal::InvalidUnits(place.behind(bytes)),
                     Refusal::InvalidPocketString(place) => Refusal::InvalidPocketString(place.behind(bytes)),
                     other => other,
                 }
@@ -219,7 +214,6 @@ impl Refusal {
     /// The same where a document, or a string, is in a form: of a string, 4 says by which rule it was judged.
     pub(crate) fn check_in(form: Form, answer: &Answer, place: impl Fn(usize) -> Place) -> Result<(), Refusal> {
         match (form, Refusal::check(answer, place)) {
-            (Form::Units, Err(Refusal::InvalidString(place))) => Err(Refusal::InvalidUnits(place)),
             (Form::Pocket, Err(Refusal::InvalidString(place))) => Err(Refusal::InvalidPocketString(place)),
             (_, checked) => checked,
         }
@@ -229,7 +223,6 @@ impl Refusal {
     pub(crate) fn broken_form(&self) -> Option<Form> {
         match self {
             Refusal::InvalidString(_) => Some(Form::Java),
-            Refusal::InvalidUnits(_) => Some(Form::Units),
             Refusal::InvalidPocketString(_) => Some(Form::Pocket),
             _ => None,
         }
@@ -384,11 +377,7 @@ mod tests {
         let place = Place::In { byte: 23, record: 1 };
         let mut answer = [0; 8];
         (answer[0], answer[1]) = (4, 23);
-        for (form, refusal) in [
-            (Form::Java, Refusal::InvalidString(place)),
-            (Form::Units, Refusal::InvalidUnits(place)),
-            (Form::Pocket, Refusal::InvalidPocketString(place)),
-        ] {
+        for (form, refusal) in [(Form::Java, Refusal::InvalidString(place)), (Form::Pocket, Refusal::InvalidPocketString(place))] {
             assert_eq!(Refusal::check_in(form, &answer, |byte| Place::In { byte, record: 1 }), Err(refusal));
             assert_eq!((refusal.number(), refusal.place(), refusal.broken_form()), (4, place, Some(form)));
             let words = "at byte 31, in record 1, where the first sequence that can't be read begins (refusal 4)";
@@ -396,9 +385,7 @@ mod tests {
         }
         // every other is the same in each form
         answer[0] = 6;
-        for form in [Form::Units, Form::Pocket] {
-            assert_eq!(Refusal::check_in(form, &answer, Place::Byte), Err(Refusal::RepeatedName(Place::Byte(23))));
-        }
+        assert_eq!(Refusal::check_in(Form::Pocket, &answer, Place::Byte), Err(Refusal::RepeatedName(Place::Byte(23))));
         assert_eq!(Refusal::RepeatedName(place).broken_form(), None);
     }
 

@@ -37,7 +37,7 @@ struct Line {
 pub struct Change<'a> {
     /// Its record in the new document.
     pub record: usize,
-    /// Where it is, as a path that [`Query`](crate::Query) reads in the document's form.
+    /// Where it is, as a path that [`Query`](crate::Query) reads.
     pub path: &'a str,
     /// A list or a compound.
     pub kind: Kind,

@@ -169,9 +169,7 @@ impl Table {
     }
 
     /// The tags that match a query, in file order. Each says where it is: [`Node::parent`], [`Node::path`], and for many a
-    /// [`Trail`](crate::Trail). Names of the query are looked for in the table's form, whatever form it was made for. Where one of them has no
-    /// string there, since it is too long or half of a pair stands alone in it, the library is asked for all of them as they are: no tag of a
-    /// table that was read has such a name.
+    /// [`Trail`](crate::Trail). Names of the query are looked for in the table's form, whatever form it was made for.
     ///
     /// ```
     /// use tikfazrul::Query;
@@ -183,9 +181,9 @@ impl Table {
     /// ```
     pub fn find<'a>(&'a self, doc: &'a [u8], query: &Query) -> Result<Vec<Node<'a>>, Refusal> {
         let records = match query.in_form(self.form) {
-            Ok(query) => query_in(self.form, doc, self, query.as_bytes())?,
-            // names are compared by their bytes, so none that this form can't spell is found by mistake
-            Err(_) => query_in(query.form(), doc, self, query.as_bytes())?,
+            Ok(query) => self::query(doc, self, query.as_bytes())?,
+            // no name of this form is so long; what else is wrong is asked all the same
+            Err(_) => self::query(doc, self, &[]).map(|_| Vec::new())?,
         };
         let root = self.root(doc)?;
         Ok(records.into_iter().map(|record| root.at(record as usize)).collect())
@@ -273,12 +271,9 @@ pub fn write_into(doc: &[u8], table: &mut Table, out: &mut [u8]) -> Result<usize
     write_in_into(table.form, doc, table, out)
 }
 
-/// Writes the document that a table stands for in a form, whatever form the table has: in its own as [`write()`] does, and in another with
+/// Writes the document that a table stands for in a form, whatever form the table has: in its own as [`write()`] does, and in the other with
 /// all values kept. A string keeps its characters, which may take more bytes or fewer, and a float its bits. Refused as [`write()`] is, and
-/// with 12 also where a name or string has more than 65,535 bytes in the form that is written.
-///
-/// Between Java's form and [`Form::Units`] all bytes stay, and strings are judged (4) by the form that is written: half of a pair that stands
-/// alone is refused in Java's. Between either and the pocket edition's they are judged by the table's, and must be whole characters.
+/// with 12 also where a name or string has more than 65,535 bytes in the form that is written; strings are judged (4) by the table's.
 ///
 /// ```
 /// use tikfazrul::{read_in, write_in, Form};
@@ -290,63 +285,33 @@ pub fn write_into(doc: &[u8], table: &mut Table, out: &mut [u8]) -> Result<usize
 /// assert_eq!(write_in(Form::Pocket, doc, &mut table)?, doc);
 /// # Ok::<(), tikfazrul::Refusal>(())
 /// ```
-///
-/// ```
-/// use tikfazrul::{read_in, write_in, Form, Place, Refusal};
-/// let doc = b"\x0A\0\0\x08\0\x01s\0\x03\xED\xA0\xBD\0";
-/// let mut table = read_in(Form::Units, doc)?;
-/// assert_eq!(write_in(Form::Units, doc, &mut table)?, doc);
-/// for form in [Form::Java, Form::Pocket] {
-///     assert_eq!(write_in(form, doc, &mut table), Err(Refusal::InvalidString(Place::In { byte: 9, record: 1 })));
-/// }
-/// # Ok::<(), tikfazrul::Refusal>(())
-/// ```
 pub fn write_in(form: Form, doc: &[u8], table: &mut Table) -> Result<Vec<u8>, Refusal> {
-    made(form, table, |table, out| write_in_into(form, doc, table, out))
-}
-
-/// What is written into as many bytes as a table may take in a form.
-fn made(form: Form, table: &mut Table, write: impl Fn(&mut Table, &mut [u8]) -> Result<usize, Refusal>) -> Result<Vec<u8>, Refusal> {
     let mut out = vec![0; bound(table, form).min(MAX_DOCUMENT)];
-    let length = write(table, &mut out)?;
+    let length = write_in_into(form, doc, table, &mut out)?;
     out.truncate(length);
     Ok(out)
 }
 
 /// Writes in a form into bytes that the caller lends, and says how many. Refused: the output is as it was.
 pub fn write_in_into(form: Form, doc: &[u8], table: &mut Table, out: &mut [u8]) -> Result<usize, Refusal> {
-    if !form.is_spelt_as(table.form) {
-        return convert_into(form, doc, table, out);
-    }
-    let answer = ffi::write_in(form.number(), doc, &mut table.words, out);
-    written(form, &answer)
-}
-
-/// Converts into bytes that the caller lends, and says how many.
-fn convert_into(to: Form, doc: &[u8], table: &mut Table, out: &mut [u8]) -> Result<usize, Refusal> {
-    let answer = ffi::convert(table.form.number(), to.number(), doc, &mut table.words, out);
-    // 02, [5]: a conversion stays with whole characters
-    match written(table.form.in_characters(), &answer) {
+    let own = table.form;
+    let answer = match form == own {
+        true => ffi::write_in(form.number(), doc, &mut table.words, out),
+        false => ffi::convert(own.number(), form.number(), doc, &mut table.words, out),
+    };
+    match Refusal::check_in(own, &answer, |place| written_place(&answer, place)) {
+        Ok(()) => Ok(answer[2] as usize),
         // strings grow in Java's form alone
         Err(Refusal::StringTooLong(Place::Record(record))) if !has_long_string(&table.words, record) => {
             Err(Refusal::StringTooLongInJava(Place::Record(record)))
         }
-        answered => answered,
+        Err(refusal) => Err(refusal),
     }
-}
-
-/// How many bytes a call has written, whose strings were judged by a form.
-fn written(judged: Form, answer: &Answer) -> Result<usize, Refusal> {
-    Refusal::check_in(judged, answer, |place| written_place(answer, place))?;
-    Ok(answer[2] as usize)
 }
 
 /// Converts a document from one form into another: it is read in the one and written in the other, as [`read_in`] and [`write_in`] do and
 /// with their refusals, whose records are those of the table that [`read_in`] gives. There and back gives what [`write()`] gives for the first
 /// document: an empty list forgets its id, and bytes that follow the root are left out.
-///
-/// A conversion stays with whole characters, also from [`Form::Units`] and into it: half of a pair that stands alone is refused with 4, as
-/// [`Refusal::InvalidString`].
 ///
 /// ```
 /// use tikfazrul::{convert, Form};
@@ -357,7 +322,7 @@ fn written(judged: Form, answer: &Answer) -> Result<usize, Refusal> {
 /// # Ok::<(), tikfazrul::Refusal>(())
 /// ```
 pub fn convert(from: Form, to: Form, doc: &[u8]) -> Result<Vec<u8>, Refusal> {
-    made(to, &mut read_in(from, doc)?, |table, out| convert_into(to, doc, table, out))
+    write_in(to, doc, &mut read_in(from, doc)?)
 }
 
 /// 13 is the whole's; 4 is at a byte of a record's name or string (02, [3]); every other refusal of the writer is a record's.
@@ -380,7 +345,7 @@ fn has_long_string(words: &[u32], record: usize) -> bool {
 /// byte.
 fn bound(table: &Table, form: Form) -> usize {
     // 02, [2]: U+0000 has one byte in the pocket edition's form and two in Java's, a character above U+FFFF four and six, any other the same
-    let grows = table.form == Form::Pocket && form != Form::Pocket;
+    let grows = table.form == Form::Pocket && form == Form::Java;
     let string = |length: usize| if grows { length.saturating_mul(2).min(MAX_NAME) } else { length };
     let most = |record: &[u32]| {
         let (name, content) = (record[word::NAME_LENGTH] as usize, record[word::LENGTH] as usize);
@@ -400,14 +365,9 @@ fn bound(table: &Table, form: Form) -> usize {
 /// # Ok::<(), tikfazrul::Refusal>(())
 /// ```
 pub fn query(doc: &[u8], table: &Table, query: &[u8]) -> Result<Vec<u32>, Refusal> {
-    query_in(table.form, doc, table, query)
-}
-
-/// The same of a query with names in the strings of that form.
-fn query_in(form: Form, doc: &[u8], table: &Table, query: &[u8]) -> Result<Vec<u32>, Refusal> {
     // with room for every record the library walks once, and no more can match
     let mut list = vec![0; table.len()];
-    let count = query_in_into(form, doc, table, query, &mut list)?;
+    let count = query_into(doc, table, query, &mut list)?;
     list.truncate(count);
     list.shrink_to_fit();
     Ok(list)
@@ -415,11 +375,7 @@ fn query_in(form: Form, doc: &[u8], table: &Table, query: &[u8]) -> Result<Vec<u
 
 /// Asks into a list that the caller lends, and says how many match. Refused: the list is as it was, and 24 says how many there are.
 pub fn query_into(doc: &[u8], table: &Table, query: &[u8], list: &mut [u32]) -> Result<usize, Refusal> {
-    query_in_into(table.form, doc, table, query, list)
-}
-
-fn query_in_into(form: Form, doc: &[u8], table: &Table, query: &[u8], list: &mut [u32]) -> Result<usize, Refusal> {
-    let answer = ffi::query_in(form.number(), doc, &table.words, query, list);
+    let answer = ffi::query_in(table.form.number(), doc, &table.words, query, list);
     let place = if answer[0] == 14 { Place::Query } else { Place::Record };
     Refusal::check(&answer, place)?;
     Ok(answer[2] as usize)

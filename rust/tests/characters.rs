@@ -1,12 +1,12 @@
-//! Names and strings that can't be read, in each form: the place of refusal 4 in reading and writing (02, [3]), which string it is, and the
+//! Names and strings that can't be read, in both forms: the place of refusal 4 in reading and writing (02, [3]), which string it is, and the
 //! bytes marked.
-use tikfazrul::{check_string, mutf8, read, read_in, rescue_in, write, Broken, Form, Part, Place, Refusal, Table, MAX_DEPTH, MAX_DOCUMENT};
+use tikfazrul::{check_string, read, read_in, rescue_in, write, Broken, Form, Part, Place, Refusal, Table, MAX_DEPTH, MAX_DOCUMENT};
 
 mod common;
 #[path = "common/pocket.rs"]
 mod layout;
 
-const FORMS: [Form; 3] = [Form::Java, Form::Units, Form::Pocket];
+const FORMS: [Form; 2] = [Form::Java, Form::Pocket];
 
 /// A string, the offset of the first sequence that can't be read, and the number of bytes that belong to it.
 type Sequence = (&'static [u8], usize, usize);
@@ -38,29 +38,6 @@ const JAVA: [Sequence; 22] = [
     (b"ab\xE2\x82\xAC\x80", 5, 1),
 ];
 
-/// The same in Java's units, from 02, [5]: halves of pairs are read, alone too, and what is no unit stands where it stands.
-const UNITS: [Sequence; 19] = [
-    (b"\0", 0, 1),
-    (b"\x80", 0, 1),
-    (b"\xBF\xBF", 0, 1),
-    (b"\xF8\x88\x80\x80\x80", 0, 1),
-    (b"\xFF", 0, 1),
-    (b"\xC3", 0, 1),
-    (b"\xC3(", 0, 1),
-    (b"\xE2\x82", 0, 2),
-    (b"\xE2\x82a", 0, 2),
-    (b"\xE2a\x82", 0, 1),
-    (b"\xC1\xBF", 0, 2),
-    (b"\xE0\x9F\xBF", 0, 3),
-    (b"\xF0\x9F\x98\x80", 0, 4),
-    (b"\xF0\x9F\x98\x80\x80", 0, 4),
-    (b"\xED\xA0\xBD\0", 3, 1),
-    (b"\xED\xA0\xBD\xED\xB8", 3, 2),
-    (b"\xED\xA0\xBD\xED\xB8a", 3, 2),
-    (b"\xED\xB8\x80\xED\xA0\xBD\xC0\x81", 6, 2),
-    (b"ab\xE2\x82\xAC\x80", 5, 1),
-];
-
 /// The same that are not UTF-8, from 02, [2].
 const POCKET: [Sequence; 23] = [
     (b"\x80", 0, 1),
@@ -88,21 +65,14 @@ const POCKET: [Sequence; 23] = [
     (b"ab\xE2\x82\xAC\x80", 5, 1),
 ];
 
-/// What may stand around one: nothing, a letter, and characters of every length, in Java's units between halves of pairs.
+/// What may stand around one: nothing, a letter, and characters of every length.
 fn around(form: Form) -> [Vec<u8>; 3] {
-    let text = "r\u{E9}\u{20AC}\0\u{1F600}";
-    let halves: Vec<u16> = [0xDE00].into_iter().chain(text.encode_utf16()).chain([0xD83D]).collect();
-    let long = if form == Form::Units { mutf8::encode_units(&halves) } else { form.encode(text).into_owned() };
-    [Vec::new(), b"a".to_vec(), long]
+    [Vec::new(), b"a".to_vec(), form.encode("r\u{E9}\u{20AC}\0\u{1F600}").into_owned()]
 }
 
 /// Each sequence at the start of a string, within it and at its end: the string, the offset and the number of bytes.
 fn strings(form: Form) -> Vec<(Vec<u8>, usize, usize)> {
-    let sequences = match form {
-        Form::Java => &JAVA[..],
-        Form::Units => &UNITS,
-        Form::Pocket => &POCKET,
-    };
+    let sequences = if form == Form::Java { &JAVA[..] } else { &POCKET };
     let mut strings = Vec::new();
     for before in around(form) {
         for behind in around(form) {
@@ -116,7 +86,7 @@ fn strings(form: Form) -> Vec<(Vec<u8>, usize, usize)> {
 /// The document with a string between these bytes, its length before it, and where its content begins.
 fn with(form: Form, before: &[u8], string: &[u8], behind: &[u8]) -> (Vec<u8>, usize) {
     let length = u16::try_from(string.len()).unwrap();
-    let length = if form == Form::Pocket { length.to_le_bytes() } else { length.to_be_bytes() };
+    let length = if form == Form::Java { length.to_be_bytes() } else { length.to_le_bytes() };
     ([before, &length, string, behind].concat(), before.len() + 2)
 }
 
@@ -124,7 +94,6 @@ fn with(form: Form, before: &[u8], string: &[u8], behind: &[u8]) -> (Vec<u8>, us
 fn invalid(form: Form, place: Place) -> Refusal {
     match form {
         Form::Java => Refusal::InvalidString(place),
-        Form::Units => Refusal::InvalidUnits(place),
         Form::Pocket => Refusal::InvalidPocketString(place),
     }
 }
@@ -143,7 +112,7 @@ fn broken(path: &str, part: Part, bytes: std::ops::Range<usize>) -> Option<Broke
     Some(Broken { path: path.to_owned(), part, bytes })
 }
 
-/// Where a string stands: what comes before the length in each byte order, and behind the content, the path, and which string it is.
+/// Where a string stands: what comes before the length in each form, and behind the content, the path, and which string it is.
 type Standing = ([&'static [u8]; 2], &'static [u8], &'static str, Part);
 
 const PLACES: [Standing; 12] = [
@@ -171,12 +140,12 @@ const PLACES: [Standing; 12] = [
     ),
 ];
 
-/// Every string that can't be read, in every place and in each form.
+/// Every string that can't be read, in every place and in both forms.
 fn everywhere(judge: impl Fn(Form, &str, Part, Vec<u8>, std::ops::Range<usize>, (usize, usize))) {
     for form in FORMS {
         for (before, behind, path, part) in PLACES {
             for (string, offset, width) in strings(form) {
-                let (doc, start) = with(form, before[usize::from(form == Form::Pocket)], &string, behind);
+                let (doc, start) = with(form, before[form as usize], &string, behind);
                 judge(form, path, part, doc, start..start + string.len(), (start + offset, width));
             }
         }
@@ -191,10 +160,10 @@ fn a_read_says_where_and_which() {
         // what follows the string is not looked at, and a rescue hands the place on
         assert_eq!(refused_in(form, &doc[..content.end]), wanted);
         assert_eq!(rescue_in(form, &doc), Err(wanted.0));
-        // a refusal of another form is none of this document's
-        for other in FORMS.map(|other| invalid(other, Place::Byte(at))) {
-            let refused = FORMS.iter().any(|&form| read_in(form, &doc) == Err(other));
-            assert_eq!(other.broken(&doc).is_some(), refused, "{other} {doc:X?}");
+        // a refusal of the other form is none of this document's
+        let other = if form == Form::Java { Form::Pocket } else { Form::Java };
+        if read_in(other, &doc).err().map(|refusal| refusal.place()) != Some(Place::Byte(at)) {
+            assert_eq!(invalid(other, Place::Byte(at)).broken(&doc), None);
         }
     });
 }
@@ -235,7 +204,7 @@ fn no_byte_behind_the_string_is_marked() {
     // the next element's length begins as the euro sign goes on
     let pocket = b"\x0A\0\0\x09\x01\0l\x08\x02\0\0\0\x02\0a\xE2\x82\xAC";
     let doc = b"\x0A\0\0\x09\0\x01l\x08\0\0\0\x02\0\x02a\xE2\x82\xAC";
-    for (form, doc) in [(Form::Pocket, pocket), (Form::Units, doc), (Form::Java, doc)] {
+    for (form, doc) in [(Form::Pocket, pocket), (Form::Java, doc)] {
         let (refusal, found) = refused_in(form, doc);
         assert_eq!((refusal, found), (invalid(form, Place::Byte(15)), broken("root/l[0]", Part::String, 15..16)));
         assert_eq!(marked(&refusal.window(doc).unwrap()), "E2");
@@ -260,15 +229,13 @@ fn a_sequence_across_two_lines() {
     );
 }
 
-/// Each name and each string of the samples, in each form, broken at each of its bytes: the path is the one that the tag had.
+/// Each name and each string of the samples, in both forms, broken at each of its bytes: the path is the one that the tag had.
 #[test]
 fn every_string_of_the_samples() {
     let mut tried = [0; 3];
     let java = common::samples();
     let pocket = java.iter().map(|doc| (Form::Pocket, layout::pocket(doc)));
-    let sign = std::fs::read(concat!(env!("CARGO_MANIFEST_DIR"), "/../samples/cut-sign.nbt")).unwrap();
-    let units = java.iter().cloned().chain([sign]).map(|doc| (Form::Units, doc));
-    for (form, doc) in pocket.chain(units).chain(java.iter().map(|doc| (Form::Java, doc.clone()))) {
+    for (form, doc) in pocket.chain(java.iter().map(|doc| (Form::Java, doc.clone()))) {
         let table = read_in(form, &doc).unwrap();
         for (_, node) in table.root(&doc).unwrap().walk() {
             let record = node.record();

@@ -35,8 +35,6 @@ fn odd_names_stand_in_quotes() {
     assert_eq!(bytes("\"\""), b"\x01\0\0");
     assert_eq!(bytes("'a/b'[1]"), b"\x01\0\x03a/b\x02\0\0\0\x01");
     assert_eq!(bytes(r#""it's \"x\" \\ \n\r\t\u0000""#), b"\x01\0\x10it's \"x\" \\ \n\r\t\xC0\x80");
-    // two escapes that are a pair are one character
-    assert_eq!(bytes(r#""a\uD83D\uDE00""#), bytes("a\u{1F600}"));
     let plain = ["", "root", "a b", "a/b", "[0]", "*", "**", "\"", "'", "\\", "\\u0041"];
     let rare = ["\0", "\n\r\t", "\u{85}", "\u{1F600}", "\u{202E}x", "e\u{301}", "\u{FFFF}"];
     for name in plain.into_iter().chain(rare) {
@@ -69,10 +67,7 @@ fn errors_point_at_the_character() {
     assert_eq!(fault("\"\\"), (Fault::Escape, 1));
     assert_eq!(fault("\"\\u00é\""), (Fault::Escape, 1));
     assert_eq!(fault("\"\\u+041\""), (Fault::Escape, 1));
-    assert_eq!(fault("\"\\uD800\""), (Fault::Half, 1));
-    assert_eq!(fault("é/'é\\ude00\\ud83d\\ude00'"), (Fault::Half, 4));
-    assert_eq!(fault("'\\ud83d\\ude00\\ud83d'"), (Fault::Half, 13));
-    assert_eq!(fault("'\\ud83d"), (Fault::Quote, 0));
+    assert_eq!(fault("\"\\uD800\""), (Fault::Escape, 1));
     assert_eq!(fault("a[1"), (Fault::Bracket, 1));
     for index in ["[]", "[**]", "[* ]", "[-1]", "[+1]", "[ 1]", "[x]", "[2147483648]", "[99999999999999999999]"] {
         assert_eq!(fault(index), (Fault::Index, 1), "{index}");

@@ -46,18 +46,7 @@ fn as_told(ending: &str, count: usize, document: impl Fn(Vec<u8>) -> Result<Vec<
 
 #[test]
 fn every_document_is_answered_as_told() {
-    as_told(".nbt", 16, Ok);
-}
-
-/// Of a document with halves of pairs it is told how it is answered in Java's units too.
-#[test]
-fn every_document_of_units_is_answered_as_told() {
-    let told = |answer: &str| answer.split("; ").find_map(|part| part.strip_prefix("units: ")).map(str::to_owned);
-    let rows: Vec<_> = rows().into_iter().filter_map(|(file, answer)| Some((file, told(&answer)?))).collect();
-    assert_eq!(rows.len(), 2);
-    for (file, told) in rows {
-        is_answered(&file, &told, Form::Units, Ok);
-    }
+    as_told(".nbt", 15, Ok);
 }
 
 /// Of a document in the pocket edition's form it is told how it is answered in both.

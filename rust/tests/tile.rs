@@ -708,8 +708,7 @@ broken-character.nbt: refused: {}, in root/Tiles[2]/SceneId
     }
     let (out, _, _) = tile(&["check", "broken-name.nbt"]);
     assert!(out.starts_with(&format!("broken-name.nbt: refused: {}, in the name of an entry of root/Scene\n", unreadable(33))), "{out}");
-    let units = "  the file is accepted with --units, where half of a pair may stand alone\n";
-    assert!(out.ends_with(&format!("\n               ^^ ^^ ^^\n{units}")), "{out}");
+    assert!(out.ends_with("\n               ^^ ^^ ^^\n"), "{out}");
     let out = String::from_utf8(fed(&["check", "-"], b"\x0A\0\x03S2\xFF\0").stdout).unwrap();
     assert!(out.starts_with(&format!("standard input: refused: {}, in the root's name\n", unreadable(5))), "{out}");
 }
@@ -721,7 +720,7 @@ fn json_tells_which_string_is_broken() {
     };
     for (file, at, more) in [
         ("broken-character.nbt", 97, r#"MESSAGE,"path":"root/Tiles[2]/SceneId","part":"string","length":2"#),
-        ("broken-name.nbt", 33, r#"MESSAGE,"path":"root/Scene","part":"name","length":3,"accepted_in":"units""#),
+        ("broken-name.nbt", 33, r#"MESSAGE,"path":"root/Scene","part":"name","length":3"#),
         ("plain-emoji.nbt", 24, r#"MESSAGE,"path":"root/SceneId","part":"string","length":4"#),
     ] {
         let wanted = format!("{{\"file\":\"{file}\",\"ok\":false,{}", json(at, &unreadable(at), more));

@@ -1,5 +1,5 @@
-/* Tables, strings and documents built, and tables judged, by the rules alone: no call of the library is in it. Words stand by nines; where a table
- * of eight words is meant (02, [8]), the ninth is not looked at. See tests/ffi/run. */
+/* Tables and documents built, and tables judged, by the rules alone: no call of the library is in it. Words stand by nines; where a table of eight
+ * words is meant (02, [8]), the ninth is not looked at. See tests/ffi/run. */
 #ifndef BUILT_H
 #define BUILT_H
 
@@ -166,29 +166,6 @@ static inline uint32_t *any_table(uint32_t records, uint32_t doc_len, uint32_t d
     dress(t, records, doc_len);
     free(level);
     return t;
-}
-
-/* A value of 16 bits or fewer, in one, two or three bytes. */
-static inline size_t put_unit(uint8_t *out, uint32_t unit, int zero_in_two)
-{
-    if (unit < 0x80 && (unit || !zero_in_two)) {
-        out[0] = unit;
-        return 1;
-    }
-    if (unit < 0x800) {
-        out[0] = 0xC0 | unit >> 6;
-        out[1] = 0x80 | (unit & 0x3F);
-        return 2;
-    }
-    out[0] = 0xE0 | unit >> 12;
-    out[1] = 0x80 | (unit >> 6 & 0x3F);
-    out[2] = 0x80 | (unit & 0x3F);
-    return 3;
-}
-
-static inline int is_half(uint32_t c)
-{
-    return c >= 0xD800 && c < 0xE000;
 }
 
 /* A document that is being written. */

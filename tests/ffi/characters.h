@@ -1,6 +1,5 @@
-/* Sequences that are not modified UTF-8, each with the offset of the first that can't be read, worked out from 01's rule 2 and 02, [3], such as are
- * not even of any units (02, [5]), and such as are not UTF-8 (02, [2]); and strings with one at their start, within them and at their end. See
- * tests/ffi/run. */
+/* Sequences that are not modified UTF-8, each with the offset of the first that can't be read, worked out from 01's rule 2 and 02, [3], and such
+ * that are not UTF-8 (02, [2]); and strings with one at their start, within them and at their end. See tests/ffi/run. */
 #ifndef CHARACTERS_H
 #define CHARACTERS_H
 
@@ -41,42 +40,6 @@ static const struct sequence sequences[] = {
 };
 enum { SEQUENCES = sizeof sequences / sizeof *sequences };
 
-/* The same in units, where a half can be read, alone too. */
-static const struct sequence unit_sequences[] = {
-    {"a zero byte", "\0", 1, 0},
-    {"a stray continuation byte", "\x80", 1, 0},
-    {"the last continuation byte, stray", "\xBF", 1, 0},
-    {"no lead", "\xFF", 1, 0},
-    {"two bytes cut to one", "\xC3", 1, 0},
-    {"three bytes cut to two", "\xE2\x82", 2, 0},
-    {"a half cut to one", "\xED", 1, 0},
-    {"a high half cut to two", "\xED\xA0", 2, 0},
-    {"a low half cut to two", "\xED\xB8", 2, 0},
-    {"three bytes, the third no continuation", "\xE2\x82" "a", 3, 0},
-    {"three bytes, the second no continuation", "\xE2" "a\x82", 3, 0},
-    {"a half, the third byte no continuation", "\xED\xA0" "a", 3, 0},
-    {"a half, the third byte a half's lead", "\xED\xA0\xED\xB8\x80", 5, 0},
-    {"two bytes, the second a zero byte", "\xC3\0", 2, 0},
-    {"C1BF, overlong", "\xC1\xBF", 2, 0},
-    {"C081, overlong", "\xC0\x81", 2, 0},
-    {"E09FBF, overlong", "\xE0\x9F\xBF", 3, 0},
-    {"E08080, overlong", "\xE0\x80\x80", 3, 0},
-    {"four bytes", "\xF0\x9F\x98\x80", 4, 0},
-    {"a high half, then a zero byte", "\xED\xA0\xBD\0", 4, 3},
-    {"a low half, then a zero byte", "\xED\xB8\x80\0", 4, 3},
-    {"a high half, then a stray byte", "\xED\xA0\xBD\x80", 4, 3},
-    {"a high half, then four bytes", "\xED\xA0\xBD\xF0\x9F\x98\x80", 7, 3},
-    {"a high half, then C1BF", "\xED\xA0\xBD\xC1\xBF", 5, 3},
-    {"a high half, then a low one cut to a byte", "\xED\xA0\xBD\xED", 4, 3},
-    {"a high half, then a low one cut to two", "\xED\xA0\xBD\xED\xB8", 5, 3},
-    {"a high half, then a low one wrongly continued", "\xED\xA0\xBD\xED\xB8" "a", 6, 3},
-    {"a reversed pair, then a stray byte", "\xED\xB8\x80\xED\xA0\xBD\x80", 7, 6},
-    {"a pair, then a half cut to two", "\xED\xA0\xBD\xED\xB8\x80\xED\xA0", 8, 6},
-    {"three halves, then no lead", "\xED\xA0\xBD\xED\xA0\xBD\xED\xB8\x80\xFF", 10, 9},
-    {"two that can't be read", "\x80\xFF", 2, 0},
-};
-enum { UNIT_SEQUENCES = sizeof unit_sequences / sizeof *unit_sequences };
-
 /* The same in the pocket form. */
 static const struct sequence utf8_sequences[] = {
     {"a stray continuation byte", "\x80", 1, 0},
@@ -104,23 +67,16 @@ static const struct sequence utf8_sequences[] = {
 };
 enum { UTF8_SEQUENCES = sizeof utf8_sequences / sizeof *utf8_sequences };
 
-/* What stands before and behind: nothing, a letter, and characters of every length; in units with a half at each end, in no pair. */
+/* What stands before and behind: nothing, a letter, and characters of every length. */
 #define WELL "r\xC3\xA9\xE2\x82\xAC\xC0\x80\xED\xA0\xBD\xED\xB8\x80"
-#define UNIT_WELL "\xED\xB8\x80" WELL "\xED\xA0\xBD"
 #define UTF8_WELL "r\xC3\xA9\xE2\x82\xAC\0\xF0\x9F\x98\x80"
 static const struct around {
     const char *bytes;
     size_t n;
-} around[] = {{"", 0}, {"a", 1}, {WELL, sizeof WELL - 1}}, unit_around[] = {{"", 0}, {"a", 1}, {UNIT_WELL, sizeof UNIT_WELL - 1}},
-  utf8_around[] = {{"", 0}, {"a", 1}, {UTF8_WELL, sizeof UTF8_WELL - 1}};
-enum {
-    AROUND = 3,
-    STRINGS = SEQUENCES * AROUND * AROUND,
-    UNIT_STRINGS = UNIT_SEQUENCES * AROUND * AROUND,
-    UTF8_STRINGS = UTF8_SEQUENCES * AROUND * AROUND
-};
+} around[] = {{"", 0}, {"a", 1}, {WELL, sizeof WELL - 1}}, utf8_around[] = {{"", 0}, {"a", 1}, {UTF8_WELL, sizeof UTF8_WELL - 1}};
+enum { AROUND = 3, STRINGS = SEQUENCES * AROUND * AROUND, UTF8_STRINGS = UTF8_SEQUENCES * AROUND * AROUND };
 
-/* A string that can't be read by one of these rules, and where. */
+/* A string that is not modified UTF-8, or not UTF-8, and where. */
 struct broken {
     uint8_t bytes[64];
     size_t n, offset;
@@ -144,54 +100,11 @@ static inline struct broken broken_string(size_t which)
     return broken_by(&sequences[which / (AROUND * AROUND)], &around[which / AROUND % AROUND], &around[which % AROUND]);
 }
 
-/* One of the UNIT_STRINGS. */
-static inline struct broken broken_units(size_t which)
-{
-    return broken_by(&unit_sequences[which / (AROUND * AROUND)], &unit_around[which / AROUND % AROUND], &unit_around[which % AROUND]);
-}
-
 /* One of the UTF8_STRINGS. */
 static inline struct broken broken_utf8(size_t which)
 {
     return broken_by(&utf8_sequences[which / (AROUND * AROUND)], &utf8_around[which / AROUND % AROUND], &utf8_around[which % AROUND]);
 }
-
-/* A document as far as a string's length, which is added to it with the string. Its content begins at `start`. */
-struct before {
-    const char *what, *bytes;
-    size_t n, start;
-};
-
-static const struct before befores[] = {
-    {"the root's name", "\x0A", 1, 3},
-    {"a name, of an id that there is not, too", "\x0A\0\0\xFF", 4, 6},
-    {"a name in the root", "\x0A\0\1t\1\0\1b\7\x0A", 10, 12},
-    {"a string in the root", "\x0A\0\0\x08\0\1s", 7, 9},
-    {"the first element of a list", "\x0A\0\0\x09\0\1l\x08\0\0\0\2", 12, 14},
-    {"the second element of a list", "\x0A\0\0\x09\0\1l\x08\0\0\0\2\0\1a", 15, 17},
-    {"a name in a list's compound", "\x0A\0\0\x09\0\1l\x0A\0\0\0\1\x08", 13, 15},
-    {"a string in a list's compound", "\x0A\0\0\x09\0\1l\x0A\0\0\0\1\x08\0\1s", 16, 18},
-};
-enum { BEFORES = sizeof befores / sizeof *befores };
-
-/* The document with the string, and behind it bytes that would go on with its last sequence; where the string ends. */
-static inline size_t begun(const struct before *at, const struct broken *b, uint8_t *doc)
-{
-    memcpy(doc, at->bytes, at->n);
-    doc[at->n] = b->n >> 8;
-    doc[at->n + 1] = b->n & 255;
-    memcpy(doc + at->start, b->bytes, b->n);
-    memset(doc + at->start + b->n, 0x80, 2);
-    return at->start + b->n;
-}
-
-/* Where the table below has a string: the record, and the first word of its span. */
-static const struct {
-    const char *what;
-    uint32_t record, span;
-} nop_strings[] = {{"the root's name", 0, TIKFAZRUL_NAME}, {"a name", 1, TIKFAZRUL_NAME},      {"a string", 1, TIKFAZRUL_START},
-                   {"a list's name", 3, TIKFAZRUL_NAME},   {"an element", 5, TIKFAZRUL_START}};
-enum { NOP_STRINGS = sizeof nop_strings / sizeof *nop_strings };
 
 /* A document of "nop", a string and bytes that would go on with it, and a table over it: the root, n, o and p, the last a list of two strings. */
 static inline void nop(const struct broken *b, uint8_t *doc, uint32_t *t)

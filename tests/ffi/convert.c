@@ -156,18 +156,20 @@ static void counted(void)
  * "nop", the string and bytes that would go on with it; the table is the root, n, o and p, the last a list of two strings. */
 static void broken(uint32_t from, const struct broken *b, const void *wanted)
 {
+    static const struct {
+        uint32_t record, span;
+    } in[] = {{0, TIKFAZRUL_NAME}, {1, TIKFAZRUL_NAME}, {1, TIKFAZRUL_START}, {3, TIKFAZRUL_NAME}, {5, TIKFAZRUL_START}};
     uint8_t doc[128];
     uint32_t t[6 * WORDS];
     struct source s = {from, from == JAVA ? POCKET : JAVA, doc, b->n + 5, t, 6 * WORDS};
-    for (size_t i = 0; i < NOP_STRINGS; i++) {
-        const uint32_t record = nop_strings[i].record, span = nop_strings[i].span;
+    for (size_t i = 0; i < 5; i++) {
         nop(b, doc, t);
         convert_is("without such a string the table is converted", s, 99, 0, 0, 35, wanted);
-        t[WORDS * record + span] = 3;
-        t[WORDS * record + span + 1] = b->n;
-        refused_is(b->what, s, 4, 3 + b->offset, record);
+        t[WORDS * in[i].record + in[i].span] = 3;
+        t[WORDS * in[i].record + in[i].span + 1] = b->n;
+        refused_is(b->what, s, 4, 3 + b->offset, in[i].record);
         s.to = from;
-        refused_is("and in its own form", s, 4, 3 + b->offset, record);
+        refused_is("and in its own form", s, 4, 3 + b->offset, in[i].record);
         s.to = from == JAVA ? POCKET : JAVA;
     }
 }

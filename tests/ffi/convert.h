@@ -4,7 +4,7 @@
 
 #include "forms.h"
 
-enum { JAVA = TIKFAZRUL_JAVA, UNITS = TIKFAZRUL_UNITS, POCKET = TIKFAZRUL_POCKET, WORDS = TIKFAZRUL_WORDS };
+enum { JAVA = TIKFAZRUL_JAVA, POCKET = TIKFAZRUL_POCKET, WORDS = TIKFAZRUL_WORDS };
 
 /* A table over a document of one form, to be written in another. */
 struct source {

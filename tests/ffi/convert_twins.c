@@ -22,6 +22,24 @@ static void number(struct twins *t, uint64_t value, size_t bytes)
     t->m += bytes;
 }
 
+/* A value of 16 bits or fewer, in one, two or three bytes. */
+static size_t put_unit(uint8_t *out, uint32_t unit, int zero_in_two)
+{
+    if (unit < 0x80 && (unit || !zero_in_two)) {
+        out[0] = unit;
+        return 1;
+    }
+    if (unit < 0x800) {
+        out[0] = 0xC0 | unit >> 6;
+        out[1] = 0x80 | (unit & 0x3F);
+        return 2;
+    }
+    out[0] = 0xE0 | unit >> 12;
+    out[1] = 0x80 | (unit >> 6 & 0x3F);
+    out[2] = 0x80 | (unit & 0x3F);
+    return 3;
+}
+
 /* A character in UTF-8. */
 static size_t put_utf8(uint8_t *out, uint32_t c)
 {
@@ -42,6 +60,11 @@ static size_t put_mutf8(uint8_t *out, uint32_t c)
     put_unit(out, 0xD800 + ((c - 0x10000) >> 10), 1);
     put_unit(out + 3, 0xDC00 + (c - 0x10000) % 0x400, 1);
     return 6;
+}
+
+static int is_half(uint32_t c)
+{
+    return c >= 0xD800 && c < 0xE000;
 }
 
 /* U+0000 and characters above U+FFFF more often than others. */

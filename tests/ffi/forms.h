@@ -100,32 +100,12 @@ static inline void rescue_is(const char *what, uint32_t form, const void *doc, s
     free(out);
 }
 
-/* A string that can't be read, from `start` up to `n`, with two bytes behind it that would go on with its last sequence. */
-static inline void broken_is(const char *what, uint32_t form, const uint8_t *doc, size_t n, size_t start, size_t offset)
-{
-    read_is(what, form, doc, n, 90, 4, start + offset, 0, 0, NULL);
-    /* what is behind the string is not looked at */
-    read_is(what, form, doc, n + 2, 90, 4, start + offset, 0, 0, NULL);
-    /* and of a string that is not whole nothing is said but that */
-    read_is(what, form, doc, n - 1, 90, 1, start, 0, 0, NULL);
-    rescue_is(what, form, doc, n, 90, 99, 30, 4, start + offset, 0, 0, NULL, NULL);
-}
-
-/* The offset at which a string that is taken can't be read. */
-#define TAKEN SIZE_MAX
-
-/* Whether a string is taken, or the first sequence that can't be read begins at that offset. */
-static inline int reads(uint32_t form, const void *bytes, size_t n, size_t at)
+static inline void string_is(const char *what, uint32_t form, const void *bytes, size_t n, uint64_t number, uint64_t place)
 {
     uint64_t a[8];
     memset(a, 0x55, sizeof a);
     tikfazrul_check_string(form, bytes, n, a);
-    return answers(a, at == TAKEN ? 0 : 4, at == TAKEN ? 0 : at, 0, 0);
-}
-
-static inline void string_is(const char *what, uint32_t form, const void *bytes, size_t n, size_t at)
-{
-    expect(what, reads(form, bytes, n, at));
+    expect(what, answers(a, number, place, 0, 0));
 }
 
 #endif

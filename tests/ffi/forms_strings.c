@@ -3,7 +3,10 @@
 #include "characters.h"
 #include "forms.h"
 
-/* Strings without a half that is in no pair, with the offset of the first sequence that can't be read in each form; in units it is Java's. */
+/* Where a string is taken by a rule. */
+#define TAKEN SIZE_MAX
+
+/* Strings, with the offset of the first sequence that can't be read in each form. */
 static const struct {
     const char *bytes;
     size_t n, java, pocket;
@@ -22,6 +25,7 @@ static const struct {
     {"a\xED\xA0\xBD\xED\xB8\x80", 7, TAKEN, 1},
     {"\xF0\x90\x80\x80\xF4\x8F\xBF\xBF", 8, 0, TAKEN},
     {"\xF4\x90\x80\x80", 4, 0, 0},
+    {"\xED\xA0\xBD", 3, 0, 0},
     {"abcdefgh\0ijklmnop\xC0\x80qrstuvwxyz", 29, 8, 17},
     {"abcdefghijklmnopqrstuvwx\xC0\x80yz\0", 29, 28, 24},
 };
@@ -31,15 +35,15 @@ static void rules(void)
     for (size_t i = 0; i < sizeof strings / sizeof *strings; i++)
         for (uint32_t form = 0; form < 8; form++) {
             size_t at = form == TIKFAZRUL_POCKET ? strings[i].pocket : strings[i].java;
-            string_is("a string of a form", form, strings[i].bytes, strings[i].n, at);
+            string_is("a string of a form", form, strings[i].bytes, strings[i].n, at == TAKEN ? 0 : 4, at == TAKEN ? 0 : at);
         }
     for (size_t i = 0; i < STRINGS; i++) {
         struct broken b = broken_string(i);
-        string_is(b.what, TIKFAZRUL_JAVA, b.bytes, b.n, b.offset);
+        string_is(b.what, TIKFAZRUL_JAVA, b.bytes, b.n, 4, b.offset);
     }
     for (size_t i = 0; i < UTF8_STRINGS; i++) {
         struct broken b = broken_utf8(i);
-        string_is(b.what, TIKFAZRUL_POCKET, b.bytes, b.n, b.offset);
+        string_is(b.what, TIKFAZRUL_POCKET, b.bytes, b.n, 4, b.offset);
     }
 }
 
@@ -61,8 +65,11 @@ static void two_bytes(void)
     expect("two bytes in Java's form", java);
 }
 
-/* The same documents in the pocket form. */
-static const struct before pocket_befores[BEFORES] = {
+/* A document in the pocket form as far as a string's length, which is added to it with the string. Its content begins at `start`. */
+static const struct {
+    const char *what, *bytes;
+    size_t n, start;
+} befores[] = {
     {"the root's name", "\x0A", 1, 3},
     {"a name, of an id that there is not, too", "\x0A\0\0\xFF", 4, 6},
     {"a name in the root", "\x0A\1\0t\1\1\0b\7\x0A", 10, 12},
@@ -72,26 +79,36 @@ static const struct before pocket_befores[BEFORES] = {
     {"a name in a list's compound", "\x0A\0\0\x09\1\0l\x0A\1\0\0\0\x08", 13, 15},
     {"a string in a list's compound", "\x0A\0\0\x09\1\0l\x0A\1\0\0\0\x08\1\0s", 16, 18},
 };
+enum { BEFORES = sizeof befores / sizeof *befores };
 
 static void in_documents(void)
 {
     char what[256];
     for (size_t i = 0; i < BEFORES * UTF8_STRINGS; i++) {
-        const struct before *at = &pocket_befores[i / UTF8_STRINGS];
         struct broken b = broken_utf8(i % UTF8_STRINGS);
+        size_t n = befores[i / UTF8_STRINGS].n, start = befores[i / UTF8_STRINGS].start;
         uint8_t doc[128];
-        size_t n = begun(at, &b, doc);
-        memcpy(doc + at->n, (uint8_t[]){b.n & 255, b.n >> 8}, 2);
-        snprintf(what, sizeof what, "%s: %s", at->what, b.what);
-        broken_is(what, TIKFAZRUL_POCKET, doc, n, at->start, b.offset);
+        memcpy(doc, befores[i / UTF8_STRINGS].bytes, n);
+        memcpy(doc + n, (uint8_t[]){b.n & 255, b.n >> 8}, 2);
+        memcpy(doc + start, b.bytes, b.n);
+        /* bytes that would go on with the sequence, if they were the string's, are not looked at */
+        memset(doc + start + b.n, 0x80, 2);
+        snprintf(what, sizeof what, "%s: %s", befores[i / UTF8_STRINGS].what, b.what);
+        read_is(what, TIKFAZRUL_POCKET, doc, start + b.n, 90, 4, start + b.offset, 0, 0, NULL);
+        read_is(what, TIKFAZRUL_POCKET, doc, start + b.n + 2, 90, 4, start + b.offset, 0, 0, NULL);
+        read_is(what, TIKFAZRUL_POCKET, doc, start + b.n - 1, 90, 1, start, 0, 0, NULL);
+        rescue_is(what, TIKFAZRUL_POCKET, doc, start + b.n, 90, 99, 30, 4, start + b.offset, 0, 0, NULL, NULL);
     }
 }
 
 /* The document is "nop", the string and bytes that would go on with it; the table is the root, n, o and p, the last a list of two strings. */
 static void in_tables(void)
 {
-    for (size_t i = 0; i < NOP_STRINGS * UTF8_STRINGS; i++) {
-        const uint32_t record = nop_strings[i / UTF8_STRINGS].record, span = nop_strings[i / UTF8_STRINGS].span;
+    static const struct {
+        uint32_t record, span;
+    } in[] = {{0, TIKFAZRUL_NAME}, {1, TIKFAZRUL_NAME}, {1, TIKFAZRUL_START}, {3, TIKFAZRUL_NAME}, {5, TIKFAZRUL_START}};
+    for (size_t i = 0; i < 5 * UTF8_STRINGS; i++) {
+        const uint32_t record = in[i / UTF8_STRINGS].record, span = in[i / UTF8_STRINGS].span;
         struct broken b = broken_utf8(i % UTF8_STRINGS);
         uint8_t doc[128];
         uint32_t t[6 * TIKFAZRUL_WORDS];

@@ -1,4 +1,5 @@
 /* Calls the library from C: marked documents of 01, and the limits that are too large for the other programs. See tests/ffi/run. */
+#include "built.h"
 #include "characters.h"
 #include "tree.h"
 
@@ -134,21 +135,43 @@ static void strings(void)
     expect("C080 is 15 at 0", answers(a, 15, 0, 0, 0));
 }
 
+/* A document as far as a string's length, which is added to it with the string. Its content begins at `start`. */
+struct before {
+    const char *what, *bytes;
+    size_t n, start;
+};
+
+static const struct before befores[] = {
+    {"the root's name", "\x0A", 1, 3},
+    {"a name, of an id that there is not, too", "\x0A\0\0\xFF", 4, 6},
+    {"a name in the root", "\x0A\0\1t\1\0\1b\7\x0A", 10, 12},
+    {"a string in the root", "\x0A\0\0\x08\0\1s", 7, 9},
+    {"the first element of a list", "\x0A\0\0\x09\0\1l\x08\0\0\0\2", 12, 14},
+    {"the second element of a list", "\x0A\0\0\x09\0\1l\x08\0\0\0\2\0\1a", 15, 17},
+    {"a name in a list's compound", "\x0A\0\0\x09\0\1l\x0A\0\0\0\1\x08", 13, 15},
+    {"a string in a list's compound", "\x0A\0\0\x09\0\1l\x0A\0\0\0\1\x08\0\1s", 16, 18},
+};
+
 /* Every string that can't be read, wherever a string stands: 4 at its content's start and the offset (02, [3]), whatever follows it. */
 static void characters(void)
 {
     char what[256];
-    for (size_t i = 0; i < BEFORES * STRINGS; i++) {
+    for (size_t i = 0; i < sizeof befores / sizeof *befores * STRINGS; i++) {
         const struct before *at = &befores[i / STRINGS];
         struct broken b = broken_string(i % STRINGS);
         uint8_t doc[128];
-        size_t n = begun(at, &b, doc);
+        struct document d = {doc, at->n};
+        memcpy(doc, at->bytes, at->n);
+        add(&d, b.n, 2);
+        memcpy(doc + d.n, b.bytes, b.n);
+        d.n += b.n;
         snprintf(what, sizeof what, "%s: %s", at->what, b.what);
-        read_is(what, doc, n, 90, 4, at->start + b.offset, 0, 0, NULL);
+        read_is(what, doc, d.n, 90, 4, at->start + b.offset, 0, 0, NULL);
         /* bytes that would go on with the sequence, if they were the string's, are not looked at */
-        read_is(what, doc, n + 2, 90, 4, at->start + b.offset, 0, 0, NULL);
+        add(&d, 0x8080, 2);
+        read_is(what, doc, d.n, 90, 4, at->start + b.offset, 0, 0, NULL);
         /* and of a string that is not whole nothing is said but that */
-        read_is(what, doc, n - 1, 90, 1, at->start, 0, 0, NULL);
+        read_is(what, doc, d.n - 3, 90, 1, at->start, 0, 0, NULL);
     }
 }
 

@@ -184,8 +184,13 @@ static void depth(uint32_t deep, uint64_t number, uint64_t place)
 static void characters(void)
 {
     char what[256];
-    for (size_t i = 0; i < NOP_STRINGS * STRINGS; i++) {
-        const uint32_t record = nop_strings[i / STRINGS].record, span = nop_strings[i / STRINGS].span;
+    for (size_t i = 0; i < 5 * STRINGS; i++) {
+        static const struct {
+            const char *what;
+            uint32_t record, span;
+        } in[] = {{"the root's name", 0, TIKFAZRUL_NAME}, {"a name", 1, TIKFAZRUL_NAME},      {"a string", 1, TIKFAZRUL_START},
+                  {"a list's name", 3, TIKFAZRUL_NAME},   {"an element", 5, TIKFAZRUL_START}};
+        const uint32_t record = in[i / STRINGS].record, span = in[i / STRINGS].span;
         struct broken b = broken_string(i % STRINGS);
         uint8_t doc[128];
         uint32_t t[6 * TIKFAZRUL_WORDS];
@@ -193,7 +198,7 @@ static void characters(void)
         write_is("without such a string the table is written", doc, b.n + 5, t, 54, 99, 0, 0, 35, NULL);
         t[TIKFAZRUL_WORDS * record + span] = 3;
         t[TIKFAZRUL_WORDS * record + span + 1] = b.n;
-        snprintf(what, sizeof what, "%s: %s", nop_strings[i / STRINGS].what, b.what);
+        snprintf(what, sizeof what, "%s: %s", in[i / STRINGS].what, b.what);
         write_is(what, doc, b.n + 5, t, 54, 99, 4, 3 + b.offset, record, NULL);
         write_is(what, doc, b.n + 5, t, 54, 0, 4, 3 + b.offset, record, NULL);
     }

@@ -1,11 +1,11 @@
-"""The forms of a document (02, [2] and [5]), for the makers of recorded answers: the order of a number's bytes, and the rule that strings keep.
+"""The forms of a document (02, [2]), for the makers of recorded answers: the order of a number's bytes, and the rule that strings keep.
 
 Written from documents 01 and 02 alone. Everything else of documents, tables and queries is the same in each form.
 """
 
 
 def units(b):
-    """The 16-bit units of modified UTF-8, halves of pairs among them, or None."""
+    """The 16-bit units of modified UTF-8, or None."""
     out, i = [], 0
     while i < len(b):
         a = b[i]
@@ -45,23 +45,18 @@ def is_modified(b):
 
 
 def modified(s):
-    """A string in rule 2's form; a half by itself as any other unit (02, [5])."""
+    """A string in rule 2's form."""
     out = b""
     for c in s:
         u = ord(c)
         if u == 0:
             out += b"\xC0\x80"
         elif u < 0x10000:
-            out += c.encode("utf-8", "surrogatepass")
+            out += c.encode()
         else:
             for half in (0xD800 + (u - 0x10000 >> 10), 0xDC00 + (u & 0x3FF)):
                 out += bytes([0xE0 | half >> 12, 0x80 | half >> 6 & 63, 0x80 | half & 63])
     return out
-
-
-def is_units(b):
-    """Whether bytes are 16-bit units, each in its one form (02, [5])."""
-    return units(b) is not None
 
 
 def is_utf8(b):
@@ -76,10 +71,10 @@ def is_utf8(b):
 class Form:
     """`well_formed` is the rule that strings keep, `text` gives characters in it. `faults` are bytes that can't be read, each with the offset in
     it at which the first such sequence begins, by 02, [3]: whatever good characters stand before it and behind it, or none. The first of
-    them is a single byte. `own` are strings that no other form can have."""
+    them is a single byte."""
 
-    def __init__(self, order, well_formed, text, faults, own=()):
-        self.order, self.well_formed, self.text, self.own = order, well_formed, text, own
+    def __init__(self, order, well_formed, text, faults):
+        self.order, self.well_formed, self.text = order, well_formed, text
         self.faults = [(bytes.fromhex(fault), offset) for fault, offset in faults]
 
     def number(self, b, signed=False):
@@ -105,19 +100,6 @@ JAVA = Form("big", is_modified, modified, [
     ("EDA0BD 00", 0), ("EDA0BD 80", 0), ("EDA0BD FF", 0), ("EDA0BD EDB861", 0), ("EDA0BD C1BF", 0), ("EDA0BD EDA0BD", 0), ("EDA0BD EDA0BDEDB880", 0),
     ("EDB880", 0), ("EDBFBF", 0), ("EDB880 EDA0BD", 0), ("EDA0BDEDB880 EDB880", 6), ("EDA0BDEDB880 EDA0BD", 6),  # a low half, and behind a pair
 ])
-
-# A half is a unit as any other, so that what can't be read behind one is at its own place, whether or not the two would make a pair.
-UNITS = Form("big", is_units, modified, [
-    ("00", 0), ("80", 0), ("BF", 0), ("F8", 0), ("FF", 0), ("C080 00", 2), ("E282AC 82", 3),  # at their own offsets
-    ("C3", 0), ("E2", 0), ("E282", 0), ("E28261", 0), ("E26182", 0), ("C2 C3A9", 0), ("E2 E282AC", 0), ("C300", 0), ("E282FF", 0),  # at the lead
-    ("ED", 0), ("EDA0", 0), ("EDB8", 0), ("EDA061", 0), ("ED61BD", 0), ("EDA000", 0), ("EDA0 EDB880", 0), ("ED EDA0BD", 0), ("EDB8C0", 0),  # of halves
-    ("C1BF", 0), ("C081", 0), ("E09FBF", 0), ("E08080", 0),  # overlong
-    ("F09F9880", 0), ("F48FBFBF", 0), ("F09F98", 0), ("F0808080", 0),  # four bytes
-    ("EDA0BD 00", 3), ("EDA0BD 80", 3), ("EDA0BD FF", 3), ("EDA0BD C1BF", 3), ("EDA0BD F09F9880", 3), ("EDA0BD E282", 3),  # behind a high half
-    ("EDA0BD ED", 3), ("EDA0BD EDB8", 3), ("EDA0BD EDB861", 3), ("EDA0BD EDA0", 3), ("EDA0BD EDA0BD ED", 6), ("EDAFBF 61 C3", 4),
-    ("EDB880 00", 3), ("EDB880 BF", 3), ("EDBFBF E09FBF", 3), ("EDB880 EDA0", 3), ("EDB880 EDA0BD FF", 6), ("EDB880 EDA0BD EDB8", 6),  # a low one
-    ("EDA0BDEDB880 00", 6), ("EDA0BDEDB880 EDB8", 6), ("EDA0BDEDB880 EDB880 80", 9), ("EDA0BDEDB880 EDA0BD C3", 9),  # and a pair
-], own=("\uDE00", "\uD83D", "Rif\uD83D", "\uDE00\uD83D"))
 
 POCKET = Form("little", is_utf8, str.encode, [
     ("80", 0), ("BF", 0), ("F8", 0), ("FE", 0), ("FF", 0), ("00 80", 1), ("E282AC 82", 3), ("F09F9880 BF", 4),  # at their own offsets

@@ -131,7 +131,7 @@ string = JAVA.string
 
 def characters(form):
     """Good characters of each length, with U+0000 among them."""
-    return [form.text(c) for c in (*"aé€😀\0", *form.own)]
+    return [form.text(c) for c in "aé€😀\0"]
 
 
 def broken_strings(form=JAVA):
@@ -206,7 +206,7 @@ def random_payload(r, kind, deep, form=JAVA):
     if kind <= 6:
         return bytes(r.randrange(256) for _ in range(WIDTH[kind]))
     if kind == 8:
-        return form.string(form.text(r.choice(["", "reef", "Größe", "\0", "😀", "€", *form.own])))
+        return form.string(form.text(r.choice(["", "reef", "Größe", "\0", "😀", "€"])))
     if kind in (7, 11, 12):
         n = r.choice([0, 1, 3])
         return form.bytes(n, 4) + bytes(r.randrange(256) for _ in range(n * WIDTH[kind]))
@@ -219,7 +219,7 @@ def random_payload(r, kind, deep, form=JAVA):
 
 def random_entries(r, deep, form=JAVA):
     out = b""
-    names = r.sample(["", "a", "b", "SceneId", "OriginLon", "OriginLat", "\0", "ä", *form.own], r.randrange(5))
+    names = r.sample(["", "a", "b", "SceneId", "OriginLon", "OriginLat", "\0", "ä"], r.randrange(5))
     for name in names:
         kind = r.randrange(1, 13)
         out += bytes([kind]) + form.string(form.text(name)) + random_payload(r, kind, deep, form)

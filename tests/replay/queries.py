@@ -14,7 +14,7 @@ import sys
 from functools import lru_cache
 
 import listing
-from forms import JAVA, POCKET, UNITS
+from forms import JAVA, POCKET
 from listing import Refused, string
 from tables import (CUT, END, KIND, LETTERS, NAME, NAME_LENGTH, PARENT, TREES, Reader, chain, flat, is_table, made_up, nudged, planted, rows_of,
                     some_records, with_parent, wrong_columns, wrong_parents)
@@ -176,12 +176,10 @@ def towards(r, way, form):
 
 def at_random(r, form):
     some = [DEEP, DEEP, ANY, named(b""), named(b"a"), named(b"b"), named("ä".encode()), named(b"SceneId"), named(form.text("\0")), indexed(0), indexed(1), indexed(4)]
-    some += [named(form.text(name)) for name in form.own]
     return [r.choice(some) for _ in range(r.choice([0, 1, 1, 2, 2, 3, 4, 6]))]
 
 
 ILL_FORMED = {JAVA: [b"\xFF", b"\0", b"\xED\xA0\xBD", b"\xF0\x9F\x98\x80", b"\xC1\x81"],
-              UNITS: [b"\xFF", b"\0", b"\xED\xA0\xBD\xED\xB8", b"\xF0\x9F\x98\x80", b"\xC1\x81"],
               POCKET: [b"\xFF", b"\xC0\x80", b"\xED\xA0\xBD", b"\xED\xA0\xBD\xED\xB8\x80", b"\xC1\x81"]}
 
 

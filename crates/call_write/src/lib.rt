@@ -1,11 +1,16 @@
-// Writing under the promises of its C names: it fills eight words that the caller lends (include/tikfazrul.h).
+// Writing under the promise of its C names: it fills eight words that the caller lends (include/tikfazrul.h).
 ghost use Rattle.calls.specs.Calls.{WriteCalled};
-ghost use Rattle.form.specs.Form.{form_no, way_from, converting, stays};
+ghost use Rattle.form.specs.Form.{form_no, way_from, stays};
 
-use form::forms::whole_of;
-
-// Writes the document that a table stands for from one form into another, both by their numbers. The table comes back as it was.
-fn turn(from: u32, to: u32, doc: &[u8], table: &mut [u32], out: &mut [u8], answer: &mut [u64; 8])
+// Writes the document that a table stands for in another form than its own, both by their numbers (02, [2]). The table comes back as it was.
+pub fn convert(
+    from: u32,
+    to: u32,
+    doc: &[u8],
+    table: &mut [u32],
+    out: &mut [u8],
+    answer: &mut [u64; 8],
+)
     ensures { WriteCalled (way_from (form_no from) (form_no to)) doc.now table.old table.new out.old out.new answer.new }
 {
     match nbt_writer::write(doc, table, out, from, to) {
@@ -22,23 +27,9 @@ fn turn(from: u32, to: u32, doc: &[u8], table: &mut [u32], out: &mut [u8], answe
     }
 }
 
-// Writes it in another form than its own (02, [2]), with whole characters ([5]): Java units count as document 01's form.
-pub fn convert(
-    from: u32,
-    to: u32,
-    doc: &[u8],
-    table: &mut [u32],
-    out: &mut [u8],
-    answer: &mut [u64; 8],
-)
-    ensures { WriteCalled (converting (form_no from) (form_no to)) doc.now table.old table.new out.old out.new answer.new }
-{
-    turn(whole_of(from), whole_of(to), doc, table, out, answer);
-}
-
 // Writes it in its own form (rule 8).
 pub fn write(form: u32, doc: &[u8], table: &mut [u32], out: &mut [u8], answer: &mut [u64; 8])
     ensures { WriteCalled (stays (form_no form)) doc.now table.old table.new out.old out.new answer.new }
 {
-    turn(form, form, doc, table, out, answer);
+    convert(form, form, doc, table, out, answer);
 }

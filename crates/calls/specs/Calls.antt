@@ -4,7 +4,8 @@
 use Rattle.std.specs.Prelude.{ℕ, ◌≡◌, List, [], ◌∷◌, not, eqb, length}
 use Rattle.form.specs.Answer.{Out, over_limit, Count}
 use Rattle.form.specs.Form.{Form, Way, Rule}
-use Rattle.form.specs.Decoding.{Verdict, Judged}
+use Rattle.form.specs.Strings.{enc_of}
+use Rattle.form.specs.Decoding.{Verdict, one_of, Judged}
 use Rattle.form.specs.Tables.{IsTable, Within}
 use Rattle.form.specs.Reading.{counts_of, reading, table_after}
 use Rattle.form.specs.Writing.{WriteIs, length_of, output_after}
@@ -18,10 +19,10 @@ use Rattle.snbt_form.specs.Text.{parsed, lengths_of}
 use Rattle.calls.specs.Words.{accepted, refusal, verdict_words, read_words, count_words, beside_words, rescue_words, token_words, stops_of, parse_words}
 
 -- A check of a string by a rule, whose refusal has the number n, which is 4 of a document's string and 15 of a text: accepted exactly if the
--- bytes are well formed, else refused where the first sequence that can't be read begins.
+-- bytes are the encoding of some scalar values, else refused where the first sequence that can't be read begins.
 pub record StringCalled (r : Rule) (n : ℕ) (s answer : List ℕ) : Type 0 where
   pub result : Verdict
-  pub judged : Judged r s result
+  pub judged : Judged (enc_of r) (one_of r) s result
   pub words_are : answer ≡ verdict_words n result
 
 -- A read of a document in a form (rules 3 to 6; [2]): every word of the answer and of the table.

@@ -1,17 +1,15 @@
 -- Laws of sequences: what rule 2's definitions answer behind the tests that the code makes.
 -- Assumes nothing.
 use Prim.Native.Nat.{ℕ, ◌%◌, ◌^◌, ◌≤◌, ◌<◌, ◌-◌}
-use mathlib.Core.Bool.{Bool, true, false}
-use mathlib.Core.Path.{◌≡◌, refl, sym}
+use mathlib.Core.Path.{◌≡◌, refl}
 use mathlib.Core.List.{List, [], ◌∷◌}
 use native.Mathlib.Omega.{arith}
 use borrow.Author.Tests.{lt-ltb, le-ltb, le-leb, lt-leb, eq-eqb, ne_eqb}
 use lib.Dec.{ltb, leb, eqb}
 use lib.ListN.{drop}
 use lib.Bits.{bit_and, and_mask}
-use Rattle.form.specs.Form.{java_rule}
 use Rattle.form.specs.Answer.{pick}
-use Rattle.form.specs.Decoding.{Sequence, is, stuck, six, two_of, three_of, four_of, after_one, unit_of, with_low, scalar_of, one_of}
+use Rattle.form.specs.Decoding.{Sequence, is, stuck, six, two_of, three_of, four_of, after_one, unit_of, with_low, scalar_of}
 use Rattle.form.proofs.Scalars.{scalar-of}
 
 -- ---- the bytes behind a lead byte
@@ -90,25 +88,3 @@ module _ (l : List ℕ) {u n : ℕ} (e : unit_of l ≡ is u n) where
   -- a high half
   pub scalar-half : (v : Sequence) → 55296 ≤ u → u < 56320 → unit_of (drop n l) ≡ v → with_low u n v ≡ scalar_of l
   scalar-half v h k f = rw (scalar-of l _ e) (simp (le-ltb u 55296 h, lt-leb 57344 u (omega arith), lt-leb 56320 u k, f))
-
--- ---- Java's two rules, by the number of the form (02, [5])
-
--- a unit that 01's mode reads by itself, both read
-pub java-whole : (n : ℕ) (l : List ℕ) {u m : ℕ} → unit_of l ≡ is u m → is u m ≡ scalar_of l → is u m ≡ one_of (java_rule n) l
-java-whole n l {u} {m} e f = go (eqb n 1) refl
-  where
-    go : (b : Bool) → eqb n 1 ≡ b → is u m ≡ one_of (java_rule n) l
-    go true t = rw t (sym e)
-    go false t = rw t f
-
--- in 01's mode it is that
-pub java-paired : (n : ℕ) → eqb n 1 ≡ false → (l : List ℕ) {v : Sequence} → v ≡ scalar_of l → v ≡ one_of (java_rule n) l
-java-paired n e l f = rw e f
-
--- where no unit stands, both read none
-pub java-none : (n : ℕ) (l : List ℕ) → unit_of l ≡ stuck → stuck ≡ one_of (java_rule n) l
-java-none n l e = go (eqb n 1) refl
-  where
-    go : (b : Bool) → eqb n 1 ≡ b → stuck ≡ one_of (java_rule n) l
-    go true t = rw t (sym e)
-    go false t = rw t (sym (scalar-of l stuck e))

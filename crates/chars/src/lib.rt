@@ -1,13 +1,12 @@
-// One character of modified UTF-8 (rule 2) or UTF-8, or one unit of Java's (02, [5]): the value at a place, and one value written, by the rule
-// of a form where more than one is in use.
+// One character of modified UTF-8 (rule 2) or UTF-8: the value at a place, and one value written, by the rule of a form where both are in use.
 ghost use Rattle.std.specs.Prelude.{◌≡◌, ℕ, ◌+◌, ◌%◌, ◌≤◌, ◌<◌, length, drop};
 ghost use Rattle.form.specs.Spans.{over};
-ghost use Rattle.form.specs.Form.{java_rule, form_no};
+ghost use Rattle.form.specs.Form.{form_no};
 ghost use Rattle.form.specs.Strings.{two_bytes, three_bytes, four_bytes, unit_bytes, scalar_bytes, utf8_bytes, enc_of};
-ghost use Rattle.form.specs.Decoding.{six, two_of, three_of, four_of, unit_of, pair_of, utf8_of, one_of};
+ghost use Rattle.form.specs.Decoding.{six, two_of, three_of, four_of, unit_of, pair_of, scalar_of, utf8_of};
 ghost use Rattle.chars.specs.Answers.{sequence_of, Wrote};
 
-use form::forms::{is_pocket, is_units};
+use form::forms::is_pocket;
 
 // What stands at a place: a value and how many bytes it takes, or nothing that can be read.
 #[derive(Drop)]
@@ -116,10 +115,9 @@ fn pair(hi: u32, lo: u32) -> u32
     0x10000 + (((hi & 0x3FF) << 10) | (lo & 0x3FF))
 }
 
-// The scalar value of modified UTF-8 at a place, or in Java units the unit (02, [5]): the form is asked of a half alone, since every other unit
-// is read alike.
-pub fn java_at(s: &[u8], at: usize, form: u32) -> Front
-    ensures { sequence_of result ≡ one_of (java_rule form) (drop at s.now) }
+// The scalar value of modified UTF-8 at a place.
+pub fn scalar_at(s: &[u8], at: usize) -> Front
+    ensures { sequence_of result ≡ scalar_of (drop at s.now) }
 {
     match unit_at(s, at) {
         Front::Is(u, n) => {
@@ -127,9 +125,6 @@ pub fn java_at(s: &[u8], at: usize, form: u32) -> Front
                 return Front::Is(u, n);
             }
             if 0xE000 <= u {
-                return Front::Is(u, n);
-            }
-            if is_units(form) {
                 return Front::Is(u, n);
             }
             if 0xDC00 <= u {
@@ -191,18 +186,18 @@ pub fn utf8_at(s: &[u8], at: usize) -> Front
     if s.len() <= at {
         return Front::Stuck;
     }
-    let lead = s[at];
-    if lead == 0 {
+    let a = s[at];
+    if a == 0 {
         return Front::Is(0, 1);
     }
-    if 240 <= lead {
-        if 248 <= lead {
+    if 240 <= a {
+        if 248 <= a {
             return Front::Stuck;
         }
         if s.len() - at < 4 {
             return Front::Stuck;
         }
-        return four(lead, s[at + 1], s[at + 2], s[at + 3]);
+        return four(a, s[at + 1], s[at + 2], s[at + 3]);
     }
     match unit_at(s, at) {
         Front::Is(u, n) => {

@@ -12,7 +12,7 @@ use Rattle.form.specs.Form.{Way, stays, back}
 use Rattle.form.specs.Answer.{Out, got, no, ◌>>◌, long_string, output_full, depth_limit, record_limit}
 use Rattle.form.specs.Tree.{Document, LawfulBy, LawfulIn, entries_count}
 use Rattle.form.specs.Layout.{layout_in}
-use Rattle.form.specs.Turned.{chars_in, recoded, Carried, SameChars, turned, meant}
+use Rattle.form.specs.Turned.{chars_in, recoded, Carried, turned, meant}
 use Rattle.form.specs.Table.{Forest, none, node, size, value_of}
 use Rattle.form.specs.Tables.{IsTable, Within}
 use Rattle.form.specs.Writing.{judged, written}
@@ -34,14 +34,14 @@ use Rattle.demands.proofs.Writing.{table-few}
 
 -- ---- on trees
 
-module _ (way : Way) (chars : SameChars way) (d : Document) (c : LawfulBy (Carried way) d) where
+module _ (way : Way) (d : Document) (c : LawfulBy (Carried way) d) where
   -- A string that was carried can be carried back.
   carried_on : (s : List ℕ) → Carried way s → Carried (back way) (recoded way s)
-  carried_on s t = ((recoded-good way chars s t.0.0, t.1), omega (arith, ap length (recoded-back way chars s t.0.0), t.0.1))
+  carried_on s t = ((recoded-good way s t.0.0, t.1), omega (arith, ap length (recoded-back way s t.0.0), t.0.1))
 
   -- So can the document.
   pub turned-carried : LawfulBy (Carried (back way)) (turned way d)
-  turned-carried = lawful-map (Carried way) (Carried (back way)) (recoded way) carried_on (λ s t p q. recoded-one way chars s t p.0.0 q.0.0) d c
+  turned-carried = lawful-map (Carried way) (Carried (back way)) (recoded way) carried_on (λ s t p q. recoded-one way s t p.0.0 q.0.0) d c
 
   -- It keeps the rules there.
   pub turned-lawful : LawfulIn way.to (turned way d)
@@ -49,12 +49,12 @@ module _ (way : Way) (chars : SameChars way) (d : Document) (c : LawfulBy (Carri
 
   -- It has the value that it had.
   pub turned-meant : meant way.to (turned way d) ≡ meant way.from d
-  turned-meant = document-then (Carried way) (chars_in way.to.strings) (recoded way) (chars_in way.from.strings) (λ s t. recoded-chars way chars s t.0.0) d c
+  turned-meant = document-then (Carried way) (chars_in way.to.strings) (recoded way) (chars_in way.from.strings) (λ s t. recoded-chars way s t.0.0) d c
 
   -- And it comes back.
   pub turned-back : turned (back way) (turned way d) ≡ d
   turned-back =
-      document-then (Carried way) (recoded (back way)) (recoded way) (λ s. s) (λ s t. recoded-back way chars s t.0.0) d c
+      document-then (Carried way) (recoded (back way)) (recoded way) (λ s. s) (λ s t. recoded-back way s t.0.0) d c
       ∙ (λ i. record { name = d.name; root = map-entries-id d.root i })
 
 -- ---- what is written
@@ -72,26 +72,26 @@ module _ (way : Way) (doc w : List ℕ) (bytes : Bytes doc) (s : Within (length 
 
 -- What is written is the layout there, of the same value.
 pub converted : (way : Way) → IsConverted way
-converted way chars doc w bytes s t room bs e =
+converted way doc w bytes s t room bs e =
     let x = was way doc w bytes s t room bs e in
     let d = table_value way.from doc w t in
     record {
       laid = x.is;
-      same = turned-meant way chars d x.carried;
+      same = turned-meant way d x.carried;
       lawful = carried_source way d x.carried;
-      lawful_there = turned-lawful way chars d x.carried;
+      lawful_there = turned-lawful way d x.carried;
       fits = x.fits;
     }
 
 -- It is read there as that document.
 pub read-there : (way : Way) → IsReadThere way
-read-there way chars doc w bytes s t room bs e rest small =
+read-there way doc w bytes s t room bs e rest small =
     let x = was way doc w bytes s t room bs e in
     let d = table_value way.from doc w t in
     let there = turned way d in
     let c = counted way doc (eqb t.head.kind 9) t.inner (fair-inner (length doc) false t.head t.inner none t.fair) in
     let few : 1 + entries_count there.root ≤ record_limit = omega (arith, table-few doc w s t, c.entries, map-entries-count (recoded way) d.root) in
-    rw x.is (complete way.to there (layout_in way.to there) rest record_limit (canonical way.to there) (turned-lawful way chars d x.carried) few (rw x.is at small))
+    rw x.is (complete way.to there (layout_in way.to there) rest record_limit (canonical way.to there) (turned-lawful way d x.carried) few (rw x.is at small))
 
 -- ---- which documents are
 
@@ -133,7 +133,7 @@ converts way doc w bytes s t room lawful = record {
 
 -- The table that reading what was written leaves is written back as the first table is.
 pub there_and_back : (way : Way) → IsThereAndBack way
-there_and_back way chars doc w bytes s t room bs e small =
+there_and_back way doc w bytes s t room bs e small =
     record { x = c.x; accepted = c.accepted; same = λ again. same again (lt-or again (length (layout_in way.from d))) }
   where
     d : Document
@@ -144,14 +144,14 @@ there_and_back way chars doc w bytes s t room bs e small =
 
     c : Complete way.to bs record_limit (turned way d) bs
     c = subst (λ l. Complete way.to l record_limit (turned way d) bs) (append-nil bs)
-        (read-there way chars doc w bytes s t room bs e [] (omega (arith, length-append {A = ℕ} bs [], small)))
+        (read-there way doc w bytes s t room bs e [] (omega (arith, length-append {A = ℕ} bs [], small)))
 
     -- What is written back is the layout of the first document.
     returns : layout_in way.from (turned (back way) (value_of way.to bs c.x.head c.x.inner)) ≡ layout_in way.from d
-    returns = ap (λ y. layout_in way.from (turned (back way) y)) c.tree ∙ ap (layout_in way.from) (turned-back way chars d x.carried)
+    returns = ap (λ y. layout_in way.from (turned (back way) y)) c.tree ∙ ap (layout_in way.from) (turned-back way d x.carried)
 
     carried : LawfulBy (Carried (back way)) (value_of way.to bs c.x.head c.x.inner)
-    carried = subst (LawfulBy (Carried (back way))) (sym c.tree) (turned-carried way chars d x.carried)
+    carried = subst (LawfulBy (Carried (back way))) (sym c.tree) (turned-carried way d x.carried)
 
     own : LawfulBy (Carried (stays way.from)) d
     own = carried-stays way.from d (carried_source way d x.carried)

@@ -7,13 +7,13 @@ use mathlib.Core.List.{List, [], ◌∷◌, ◌++◌}
 use native.Mathlib.Omega.{arith}
 use lib.ListN.{length, drop, take, get_or}
 use lib.Dec.{eqb}
-use Rattle.form.specs.Form.{Form, Way, java, stays, whole_form, converting}
+use Rattle.form.specs.Form.{Form, Way, java, stays}
 use Rattle.form.specs.Answer.{Out, got, no, pick, failed, bad_string}
 use Rattle.form.specs.Spans.{over}
 use Rattle.form.specs.Tree.{Document, Lawful, LawfulIn, entries_count, LawfulBy}
 use Rattle.form.specs.Tables.{IsTable}
-use Rattle.form.specs.Turned.{Carried, SameChars, turned, meant}
-use Rattle.form.proofs.Turned.{turned-stays, stays-chars, whole-chars}
+use Rattle.form.specs.Turned.{Carried, turned, meant}
+use Rattle.form.proofs.Turned.{turned-stays}
 use Rattle.form.specs.Layout.{LayoutIn, layout, layout_in}
 use Rattle.form.specs.Table.{size, head_of, value_of}
 use Rattle.form.specs.Reading.{One, counts_of, table_after, room_of}
@@ -140,8 +140,8 @@ module _ (way : Way) (doc w : List ℕ) (d : Document) (bytes : Bytes doc) (h : 
             (k.words_are ∙ ap beside_words g.answer_is, g.output_is);
       }
 
-  is-read-back : SameChars way → (c : ℕ) → b ≡ 0 ∷ 0 ∷ c ∷ 0 ∷ 0 ∷ 0 ∷ 0 ∷ 0 ∷ [] → LawfulBy (Carried way) d × ReadAs way.to o' c (turned way d)
-  is-read-back chars c e = go (written way doc t.head t.inner (length o)) refl gives
+  is-read-back : (c : ℕ) → b ≡ 0 ∷ 0 ∷ c ∷ 0 ∷ 0 ∷ 0 ∷ 0 ∷ 0 ∷ [] → LawfulBy (Carried way) d × ReadAs way.to o' c (turned way d)
+  is-read-back c e = go (written way doc t.head t.inner (length o)) refl gives
     where
       go : (x : Out (List ℕ)) → written way doc t.head t.inner (length o) ≡ x → WriteGives way doc w x o k.result o'
           → LawfulBy (Carried way) d × ReadAs way.to o' c (turned way d)
@@ -152,7 +152,7 @@ module _ (way : Way) (doc w : List ℕ) (d : Document) (bytes : Bytes doc) (h : 
           let long : length there ≡ c = sym (ap length laid) ∙ cc in
           let out : over o 0 there ≡ o' = ap (over o 0) (sym laid) ∙ sym g.output_is in
           let carried = subst (LawfulBy (Carried way)) h.value l.carried in
-          let read = output-read way.to (turned way d) o (turned-lawful way chars d carried) in
+          let read = output-read way.to (turned way d) o (turned-lawful way d carried) in
           (carried, subst (λ (m : ℕ). ReadAs way.to o' m (turned way d)) long (subst (λ (x : List ℕ). ReadAs way.to x (length there) (turned way d)) out read))
       go (no n p) is g =
           let words : beside_words (answer_of way doc w (no n p)) ≡ 0 ∷ 0 ∷ c ∷ 0 ∷ 0 ∷ 0 ∷ 0 ∷ 0 ∷ [] = ap beside_words (sym g.answer_is) ∙ sym k.words_are ∙ e in
@@ -169,16 +169,14 @@ stays-written form doc w d bytes l h w' o o' b k =
 stays-back : (form : Form) (doc w w' o o' b : List ℕ) (d : Document) → Bytes doc → Holds form doc w d → WriteCalled (stays form) doc w w' o o' b
     → (c : ℕ) → b ≡ 0 ∷ 0 ∷ c ∷ 0 ∷ 0 ∷ 0 ∷ 0 ∷ 0 ∷ [] → LawfulIn form d × ReadAs form o' c d
 stays-back form doc w w' o o' b d bytes h k c e =
-    let x = is-read-back (stays form) doc w d bytes h w' o o' b k (stays-chars form) c e in
+    let x = is-read-back (stays form) doc w d bytes h w' o o' b k c e in
     (carried_source (stays form) d x.0, subst (ReadAs form o' c) (turned-stays form d) x.1)
 
-convert_back : (x y : Form) (doc w w' o o' b : List ℕ) (d : Document) → Bytes doc → Holds (whole_form x) doc w d → WriteCalled (converting x y) doc w w' o o' b
-    → (c : ℕ) → b ≡ 0 ∷ 0 ∷ c ∷ 0 ∷ 0 ∷ 0 ∷ 0 ∷ 0 ∷ []
-    → LawfulIn (whole_form x) d × (meant (whole_form y) (turned (converting x y) d) ≡ meant (whole_form x) d) × ReadAs (whole_form y) o' c (turned (converting x y) d)
-convert_back x y doc w w' o o' b d bytes h k c e =
-    let way = converting x y in
-    let z = is-read-back way doc w d bytes h w' o o' b k (whole-chars x y) c e in
-    (carried_source way d z.0, turned-meant way (whole-chars x y) d z.0, z.1)
+convert_back : (way : Way) (doc w w' o o' b : List ℕ) (d : Document) → Bytes doc → Holds way.from doc w d → WriteCalled way doc w w' o o' b
+    → (c : ℕ) → b ≡ 0 ∷ 0 ∷ c ∷ 0 ∷ 0 ∷ 0 ∷ 0 ∷ 0 ∷ [] → LawfulIn way.from d × (meant way.to (turned way d) ≡ meant way.from d) × ReadAs way.to o' c (turned way d)
+convert_back way doc w w' o o' b d bytes h k c e =
+    let x = is-read-back way doc w d bytes h w' o o' b k c e in
+    (carried_source way d x.0, turned-meant way d x.0, x.1)
 
 -- ---- texts
 
@@ -250,7 +248,7 @@ demand-two = record {
   complete = complete;
   written = stays-written;
   write_back = stays-back;
-  converted = λ x y doc w d bytes l h w' o o' b k. is-written (converting x y) doc w d bytes h w' o o' b k l;
+  converted = λ way doc w d bytes l h w' o o' b k. is-written way doc w d bytes h w' o o' b k l;
   convert_back = convert_back;
   parse_back = parse_back;
   rescue_back = rescue_back;

@@ -38,7 +38,6 @@ pub mod Marked
 pub mod Examples
 pub mod Cuts
 pub mod Pocket
-pub mod Units
 pub mod Front
 pub mod Prefix
 pub mod Induction

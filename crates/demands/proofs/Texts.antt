@@ -75,7 +75,7 @@ text-judged t = go (leb (length t) text_limit) (utf8_verdict t) refl refl
 pub lawful-text : IsLawfulText
 lawful-text t room b e =
     let x = gives-it e (parsed-fine t room) in
-    record { name = (([], ((tt, refl), tt)), omega arith); valid = x.valid; depth_le = omega (arith, x.deep) }
+    record { name = (([], tt, refl), omega arith); valid = x.valid; depth_le = omega (arith, x.deep) }
 
 -- A root without a name takes three bytes.
 root-length : (es : Entries) → length (layout (record { name = []; root = es })) ≡ 3 + length (entry_bytes es)

@@ -1,14 +1,13 @@
--- What is claimed of the conversion ([2]), for every way from a form into a form with the same characters, as a conversion has them ([5]):
--- what is written is the layout, in the other form, of the same document; it is read back as that; a document that keeps the rules is
--- refused with 12 exactly where some string is too long there; and there and back gives what our writer gives for the first document. The
--- proofs are in proofs/Conversion.antt, under the names given here.
+-- What is claimed of the conversion ([2]), for every way from a form into a form: what is written is the layout, in the other form, of the same
+-- document; it is read back as that; a document that keeps the rules is refused with 12 exactly where some string is too long there; and
+-- there and back gives what our writer gives for the first document. The proofs are in proofs/Conversion.antt, under the names given here.
 -- Assumes nothing.
 use Rattle.std.specs.Prelude.{ℕ, ◌≤◌, ◌<◌, ◌≡◌, ◌↔◌, List, ◌++◌, length}
 use Rattle.form.specs.Form.{Way, stays, back}
 use Rattle.form.specs.Answer.{got, no, long_string, output_full, document_limit, record_limit}
 use Rattle.form.specs.Tree.{Document, LawfulBy, LawfulIn}
 use Rattle.form.specs.Layout.{layout_in}
-use Rattle.form.specs.Turned.{Carried, SameChars, turned, meant}
+use Rattle.form.specs.Turned.{Carried, turned, meant}
 use Rattle.form.specs.Tables.{IsTable, Within}
 use Rattle.form.specs.Reading.{One, document_at}
 use Rattle.form.specs.Writing.{written}
@@ -27,13 +26,13 @@ pub record Converted (way : Way) (d : Document) (room : ℕ) (bs : List ℕ) : T
 -- `converted`: whatever table is accepted, with whatever room, the answer says that.
 abbrev pub IsConverted : Way → Type 0
 IsConverted way =
-    SameChars way → (doc w : List ℕ) → Bytes doc → Within (length doc) w → (t : IsTable (length doc) w) (room : ℕ) (bs : List ℕ)
+    (doc w : List ℕ) → Bytes doc → Within (length doc) w → (t : IsTable (length doc) w) (room : ℕ) (bs : List ℕ)
     → written way doc t.head t.inner room ≡ got bs → Converted way (table_value way.from doc w t) room bs
 
 -- `read-there`: what is written is read in the other form, whatever follows it, as that document.
 abbrev pub IsReadThere : Way → Type 0
 IsReadThere way =
-    SameChars way → (doc w : List ℕ) → Bytes doc → Within (length doc) w → (t : IsTable (length doc) w) (room : ℕ) (bs : List ℕ)
+    (doc w : List ℕ) → Bytes doc → Within (length doc) w → (t : IsTable (length doc) w) (room : ℕ) (bs : List ℕ)
     → written way doc t.head t.inner room ≡ got bs
     → (rest : List ℕ) → length (bs ++ rest) ≤ document_limit → Complete way.to (bs ++ rest) record_limit (turned way (table_value way.from doc w t)) bs
 
@@ -61,5 +60,5 @@ pub record Returned (way : Way) (doc w : List ℕ) (t : IsTable (length doc) w) 
 -- `there_and_back`: so it is, of whatever table is converted into a document that can be read.
 abbrev pub IsThereAndBack : Way → Type 0
 IsThereAndBack way =
-    SameChars way → (doc w : List ℕ) → Bytes doc → Within (length doc) w → (t : IsTable (length doc) w) (room : ℕ) (bs : List ℕ)
+    (doc w : List ℕ) → Bytes doc → Within (length doc) w → (t : IsTable (length doc) w) (room : ℕ) (bs : List ℕ)
     → written way doc t.head t.inner room ≡ got bs → length bs ≤ document_limit → Returned way doc w t bs

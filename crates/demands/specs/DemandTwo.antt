@@ -1,11 +1,11 @@
 -- Demand 2, said of the calls that people link, against the tag layout (form/specs/Layout.antt) of documents that keep the rules
--- (`LawfulIn`, form/specs/Tree.antt), in every form ([2], [5]): reading accepts the layouts and nothing else, writing gives them back, and what
+-- (`LawfulIn`, form/specs/Tree.antt), in every form ([2]): reading accepts the layouts and nothing else, writing gives them back, and what
 -- was written, from a table, from a text or from a cut document, is read as what was meant. That the crate does the same in Java's form is
 -- shown by runs (docs/DIFFERENCES.md).
 -- The proof is in proofs/DemandTwo.antt.
 -- Assumes nothing.
 use Rattle.std.specs.Prelude.{ℕ, ◌+◌, ◌*◌, ◌≤◌, ◌<◌, ◌≡◌, List, [], ◌∷◌, ◌++◌, length, take}
-use Rattle.form.specs.Form.{Form, java, stays, whole_form, converting}
+use Rattle.form.specs.Form.{Form, Way, java, stays}
 use Rattle.form.specs.Answer.{got, output_full, document_limit, record_limit}
 use Rattle.form.specs.Spans.{over}
 use Rattle.form.specs.Tree.{Document, Lawful, LawfulIn, entries_count, LawfulBy}
@@ -68,13 +68,12 @@ pub record DemandTwo : Type 0 where
   -- what is written is lawful, and the output, with whatever stands behind, is read as the document that was written
   pub write_back : (form : Form) (doc w w' o o' b : List ℕ) (d : Document) → Bytes doc → Holds form doc w d → WriteCalled (stays form) doc w w' o o' b
       → (c : ℕ) → b ≡ 0 ∷ 0 ∷ c ∷ 0 ∷ 0 ∷ 0 ∷ 0 ∷ 0 ∷ [] → LawfulIn form d × ReadAs form o' c d
-  -- a table is converted, with whole characters ([5]), where each of its strings can be carried, as the layout of the same document there
-  pub converted : (x y : Form) (doc w : List ℕ) (d : Document) → Bytes doc → LawfulBy (Carried (converting x y)) d → Holds (whole_form x) doc w d
-      → (w' o o' b : List ℕ) → WriteCalled (converting x y) doc w w' o o' b → Writes (whole_form y) (turned (converting x y) d) o o' b
+  -- a table is converted, where each of its strings can be carried, as the layout of the same document in the other form
+  pub converted : (way : Way) (doc w : List ℕ) (d : Document) → Bytes doc → LawfulBy (Carried way) d → Holds way.from doc w d → (w' o o' b : List ℕ) → WriteCalled way doc w w' o o' b
+      → Writes way.to (turned way d) o o' b
   -- what a conversion writes has the value that the table holds, and the output, with whatever stands behind, is read as it in the other form
-  pub convert_back : (x y : Form) (doc w w' o o' b : List ℕ) (d : Document) → Bytes doc → Holds (whole_form x) doc w d → WriteCalled (converting x y) doc w w' o o' b
-      → (c : ℕ) → b ≡ 0 ∷ 0 ∷ c ∷ 0 ∷ 0 ∷ 0 ∷ 0 ∷ 0 ∷ []
-      → LawfulIn (whole_form x) d × (meant (whole_form y) (turned (converting x y) d) ≡ meant (whole_form x) d) × ReadAs (whole_form y) o' c (turned (converting x y) d)
+  pub convert_back : (way : Way) (doc w w' o o' b : List ℕ) (d : Document) → Bytes doc → Holds way.from doc w d → WriteCalled way doc w w' o o' b
+      → (c : ℕ) → b ≡ 0 ∷ 0 ∷ c ∷ 0 ∷ 0 ∷ 0 ∷ 0 ∷ 0 ∷ [] → LawfulIn way.from d × (meant way.to (turned way d) ≡ meant way.from d) × ReadAs way.to o' c (turned way d)
   -- the document that a text means is lawful, and the output of a parse, with whatever stands behind, is read as that document
   pub parse_back : (t o o' b : List ℕ) → ParseCalled t o o' b → (e c : ℕ) → b ≡ 0 ∷ 0 ∷ e ∷ c ∷ 0 ∷ 0 ∷ 0 ∷ 0 ∷ []
       → (k : Block) × (parsed t (length o) ≡ got k) × Lawful (document_of k) × ReadAs java o' c (document_of k)

@@ -18,6 +18,5 @@ pub mod Marked
 pub mod Examples
 pub mod Cuts
 pub mod Pocket
-pub mod Units
 pub mod Stored
 pub mod Moved

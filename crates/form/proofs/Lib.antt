@@ -9,7 +9,6 @@ pub mod Orders
 pub mod Coding
 pub mod Units
 pub mod Scalars
-pub mod Pairs
 pub mod Utf8
 pub mod Walks
 pub mod Strings

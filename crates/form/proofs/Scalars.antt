@@ -8,7 +8,7 @@ use native.Mathlib.Omega.{arith}
 use borrow.Author.Tests.{lt-ltb, le-ltb, le-leb, lt-leb}
 use lib.ListN.{length, drop, length-append}
 use lib.Seq.{drop-drop, drop-append_seam}
-use Rattle.form.specs.Strings.{unit_bytes, scalar_bytes, IsHigh, IsLow, IsScalar}
+use Rattle.form.specs.Strings.{unit_bytes, scalar_bytes, IsScalar}
 use Rattle.form.specs.Decoding.{Sequence, is, stuck, unit_of, pair_of, with_low, paired, scalar_of}
 use Rattle.form.proofs.Picks.{pick-lt, pick-le, lt-or}
 use Rattle.form.proofs.Coding.{SoundBy, Coding}
@@ -38,28 +38,19 @@ scalar_size c =
     pick-lt P c 65536 (λ _. omega (arith, unit_size c)) (λ _. omega (arith, length-append (unit_bytes hi) (unit_bytes lo), unit_size hi, unit_size lo))
 
 abbrev SoundR : List ℕ → Sequence → Type 0
-SoundR l r = SoundBy IsScalar scalar_bytes l r
+SoundR l r = SoundBy scalar_bytes l r
 
 low-sound : (l : List ℕ) (u n : ℕ) → SoundUnit l (is u n) → (u < 55296) ⊎ (57344 ≤ u) → SoundR l (is u n)
 low-sound l u n w d = let e = sb-low u w.0 in ((d, omega arith), rw e w.1, rw e w.2)
 
--- Two halves are a scalar value, and its bytes are theirs.
-pub pair-scalar : (u v : ℕ) → IsHigh u → IsLow v → IsScalar (pair_of u v)
+pair-sound : (l : List ℕ) (u n v m : ℕ) → SoundUnit l (is u n) → SoundUnit (drop n l) (is v m) → 55296 ≤ u → u < 56320 → 56320 ≤ v → v < 57344 → SoundR l (is (pair_of u v) (n + m))
 unfolding pair_of
-pair-scalar u v (h₁, h₂) (h₃, h₄) = (inr (omega arith), omega arith)
-
-pub pair-bytes : (u v : ℕ) → IsHigh u → IsLow v → scalar_bytes (pair_of u v) ≡ unit_bytes u ++ unit_bytes v
-unfolding pair_of
-pair-bytes u v (h₁, h₂) (h₃, h₄) =
+pair-sound l u n v m w x h₁ h₂ h₃ h₄ =
     let c = 65536 + (u % 1024 * 1024 + v % 1024) in
     let p : 55296 + (c - 65536) / 1024 ≡ u = omega arith in
     let q : 56320 + (c - 65536) % 1024 ≡ v = omega arith in
-    sb-high c (omega arith) ∙ (rw (p, q) refl)
-
-pair-sound : (l : List ℕ) (u n v m : ℕ) → SoundUnit l (is u n) → SoundUnit (drop n l) (is v m) → 55296 ≤ u → u < 56320 → 56320 ≤ v → v < 57344 → SoundR l (is (pair_of u v) (n + m))
-pair-sound l u n v m w x h₁ h₂ h₃ h₄ =
-    let e = pair-bytes u v (h₁, h₂) (h₃, h₄) in (
-      pair-scalar u v (h₁, h₂) (h₃, h₄),
+    let e : scalar_bytes c ≡ unit_bytes u ++ unit_bytes v = sb-high c (omega arith) ∙ (rw (p, q) refl) in (
+      (inr (omega arith), omega arith),
       rw (e, length-append, ← w.1, ← x.1) refl,
       rw (e, append_assoc, ← drop-drop m n l, ← x.2) w.2,
     )
@@ -105,7 +96,7 @@ scalar-back c s l = ⊎_elim
     (lt-or c 65536)
 
 abbrev pub mutf8 : Coding
-mutf8 = record { ok = IsScalar; enc = scalar_bytes; one = scalar_of; some = scalar-some; sound = scalar-sound; back = scalar-back }
+mutf8 = record { enc = scalar_bytes; one = scalar_of; some = scalar-some; sound = scalar-sound; back = scalar-back }
 
 -- ---- by the unit that stands first
 

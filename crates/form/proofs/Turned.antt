@@ -5,26 +5,23 @@ use Prim.Native.Nat.{ℕ, zero, suc, ◌*◌, ◌≤◌}
 use mathlib.Core.Bool.{Bool, true, false}
 use mathlib.Core.List.{List, [], ◌∷◌}
 use mathlib.Core.Path.{◌≡◌, refl, sym, ap, ◌∙◌}
-use mathlib.Core.Logic.{◌↔◌}
 use native.Mathlib.Omega.{arith}
 use lib.ListN.{length, drop, length-append, length-drop}
 use lib.Seq.{drop-append_seam}
-use Rattle.form.specs.Form.{Rule, modified, units, utf8, Form, Way, stays, back, whole_rule, converting, write_alike}
-use Rattle.form.specs.Strings.{IsScalar, IsChar, AllOf, enc_of, encode_by, SpellsBy, WellFormedIn}
+use Rattle.form.specs.Form.{Rule, modified, utf8, Form, Way, stays, back, same_rule}
+use Rattle.form.specs.Strings.{AllScalar, enc_of, encode_by, WellFormedIn}
 use Rattle.form.specs.Decoding.{Sequence, is, stuck}
 use Rattle.form.specs.Tree.{Tag, Tags, Entries, byte, short, int, long, float, double, byte_array, string, list, compound, int_array, long_array, nil, more, ended, entry, kind_of, many, Document}
-use Rattle.form.specs.Turned.{char_then, chars_by, chars_in, recoded, SameChars, map_tag, map_tags, map_entries, map_document, turned}
+use Rattle.form.specs.Turned.{char_then, chars_by, chars_in, recoded, map_tag, map_tags, map_entries, map_document, turned}
 use Rattle.form.proofs.Coding.{Coding}
-use Rattle.form.proofs.Scalars.{scalar_size}
-use Rattle.form.proofs.Strings.{coding_of, by-characters}
-use Rattle.form.proofs.Picks.{differ}
+use Rattle.form.proofs.Scalars.{mutf8, scalar_size}
 use Rattle.form.proofs.Utf8 as U
 use Rattle.form.proofs.Walks as W
 
 -- ---- characters, for any coding
 
 module _ (𝓒 : Coding) where
-  open 𝓒 use {ok, enc, one, some, back}
+  open 𝓒 use {enc, one, some, sound, back}
 
   -- No bytes have no characters.
   chars-none : (f : ℕ) → chars_by one f [] ≡ []
@@ -37,7 +34,7 @@ module _ (𝓒 : Coding) where
       go (is c n) e = let w = W.fits 𝓒 [] c n e in absurd (omega (arith, w.0, w.1))
 
   -- The characters of an encoding are those that were encoded.
-  chars-back : (cs : List ℕ) → AllOf ok cs → (f : ℕ) → length (encode_by enc cs) ≤ f → chars_by one f (encode_by enc cs) ≡ cs
+  chars-back : (cs : List ℕ) → AllScalar cs → (f : ℕ) → length (encode_by enc cs) ≤ f → chars_by one f (encode_by enc cs) ≡ cs
   unfolding chars_by
   chars-back [] s f h = chars-none f
   chars-back (c ∷ cs) s zero h = absurd (omega (arith, some c, simp length-append at h))
@@ -57,19 +54,20 @@ module _ (𝓒 : Coding) where
 -- ---- by a rule
 
 -- The characters of an encoding by a rule.
-pub chars-of : (r : Rule) (cs : List ℕ) → AllOf (IsChar r) cs → chars_in r (encode_by (enc_of r) cs) ≡ cs
+pub chars-of : (r : Rule) (cs : List ℕ) → AllScalar cs → chars_in r (encode_by (enc_of r) cs) ≡ cs
 unfolding chars_in
-chars-of r cs s = chars-back (coding_of r) cs s (length (encode_by (enc_of r) cs)) (omega arith)
+chars-of modified cs s = chars-back mutf8 cs s (length (encode_by (enc_of modified) cs)) (omega arith)
+chars-of utf8 cs s = chars-back U.utf8 cs s (length (encode_by (enc_of utf8) cs)) (omega arith)
 
 -- There are no more than bytes.
 pub chars-fewer : (r : Rule) (l : List ℕ) → length (chars_in r l) ≤ length l
 unfolding chars_in
-chars-fewer r l = chars-few (coding_of r) (length l) l
+chars-fewer modified l = chars-few mutf8 (length l) l
+chars-fewer utf8 l = chars-few U.utf8 (length l) l
 
 -- A character takes six bytes at most.
 pub enc-size : (r : Rule) (c : ℕ) → length (enc_of r c) ≤ 6
 enc-size modified c = scalar_size c
-enc-size units c = scalar_size c
 enc-size utf8 c = omega (arith, U.size c)
 
 -- So do many.
@@ -79,40 +77,34 @@ encoded-size r (c ∷ cs) = omega (arith, length-append (enc_of r c) (encode_by 
 
 -- ---- strings
 
--- A rule writes as it does itself.
-write-alike : (r : Rule) → write_alike r r ≡ true
-write-alike modified = refl
-write-alike units = refl
-write-alike utf8 = refl
+-- A rule is the same as itself.
+same-rule : (r : Rule) → same_rule r r ≡ true
+same-rule modified = refl
+same-rule utf8 = refl
 
--- Two rules that write alike encode alike.
-one-encoding : (r s : Rule) → write_alike r s ≡ true → enc_of r ≡ enc_of s
-one-encoding modified modified e = refl
-one-encoding modified units e = refl
-one-encoding units modified e = refl
-one-encoding units units e = refl
-one-encoding utf8 utf8 e = refl
-one-encoding modified utf8 e = differ (sym e)
-one-encoding units utf8 e = differ (sym e)
-one-encoding utf8 modified e = differ (sym e)
-one-encoding utf8 units e = differ (sym e)
+-- Two rules that are the same are one.
+one-rule : (r s : Rule) → same_rule r s ≡ true → r ≡ s
+one-rule modified modified e = refl
+one-rule utf8 utf8 e = refl
+one-rule modified utf8 e = let z : ◌≡◌ {A = ℕ} 0 1 = cc in absurd (omega arith)
+one-rule utf8 modified e = let z : ◌≡◌ {A = ℕ} 0 1 = cc in absurd (omega arith)
 
 module _ (way : Way) (l : List ℕ) where
-  -- Where both rules write alike, the bytes are.
-  pub recoded-same : write_alike way.from.strings way.to.strings ≡ true → recoded way l ≡ l
+  -- Where the rule is the same, the bytes are.
+  pub recoded-same : same_rule way.from.strings way.to.strings ≡ true → recoded way l ≡ l
   unfolding recoded
   recoded-same e = rw e refl
 
   -- Where it is not, the characters are.
-  pub recoded-other : write_alike way.from.strings way.to.strings ≡ false → recoded way l ≡ encode_by (enc_of way.to.strings) (chars_in way.from.strings l)
+  pub recoded-other : same_rule way.from.strings way.to.strings ≡ false → recoded way l ≡ encode_by (enc_of way.to.strings) (chars_in way.from.strings l)
   unfolding recoded
   recoded-other e = rw e refl
 
   -- What is written takes at most six times the bytes.
   pub recoded-bound : length (recoded way l) ≤ 6 * length l
-  recoded-bound = go (write_alike way.from.strings way.to.strings) refl
+  recoded-bound = go (same_rule way.from.strings way.to.strings) refl
     where
-      go : (b : Bool) → write_alike way.from.strings way.to.strings ≡ b → length (recoded way l) ≤ 6 * length l
+      go : (b : Bool) → same_rule way.from.strings way.to.strings ≡ b → length (recoded way l) ≤ 6 * length l
       go true e = omega (arith, ap length (recoded-same e))
       go false e =
           let cs = chars_in way.from.strings l in
@@ -120,64 +112,39 @@ module _ (way : Way) (l : List ℕ) where
 
 -- A string that stays in its form is as it was.
 pub recoded-stays : (form : Form) (l : List ℕ) → recoded (stays form) l ≡ l
-recoded-stays form l = recoded-same (stays form) l (write-alike form.strings)
+recoded-stays form l = recoded-same (stays form) l (same-rule form.strings)
 
 -- What one rule encodes is written as the other encodes it.
-pub recoded_coded : (way : Way) (cs : List ℕ) → AllOf (IsChar way.from.strings) cs → recoded way (encode_by (enc_of way.from.strings) cs) ≡ encode_by (enc_of way.to.strings) cs
-recoded_coded way cs s = go (write_alike way.from.strings way.to.strings) refl
+pub recoded_coded : (way : Way) (cs : List ℕ) → AllScalar cs → recoded way (encode_by (enc_of way.from.strings) cs) ≡ encode_by (enc_of way.to.strings) cs
+recoded_coded way cs s = go (same_rule way.from.strings way.to.strings) refl
   where
-    go : (b : Bool) → write_alike way.from.strings way.to.strings ≡ b → recoded way (encode_by (enc_of way.from.strings) cs) ≡ encode_by (enc_of way.to.strings) cs
-    go true e = recoded-same way _ e ∙ ap (λ enc. encode_by enc cs) (one-encoding way.from.strings way.to.strings e)
+    go : (b : Bool) → same_rule way.from.strings way.to.strings ≡ b → recoded way (encode_by (enc_of way.from.strings) cs) ≡ encode_by (enc_of way.to.strings) cs
+    go true e = recoded-same way _ e ∙ ap (λ r. encode_by (enc_of r) cs) (one-rule way.from.strings way.to.strings e)
     go false e = recoded-other way _ e ∙ ap (encode_by (enc_of way.to.strings)) (chars-of way.from.strings cs s)
 
--- A way that stays has the same characters, and so has a conversion (02, [5]).
-pub stays-chars : (form : Form) → SameChars (stays form)
-stays-chars form c = (λ h. h, λ h. h)
+module _ (way : Way) (l : List ℕ) (w : WellFormedIn way.from.strings l) where
+  -- What is written of a well-formed string, by its characters.
+  pub recoded-is : recoded way l ≡ encode_by (enc_of way.to.strings) w.0
+  recoded-is = ap (recoded way) (sym w.2) ∙ recoded_coded way w.0 w.1
 
-pub whole-chars : (a b : Form) → SameChars (converting a b)
-whole-chars a b c = go a.strings b.strings
-  where
-    scalar : (r : Rule) → IsChar (whole_rule r) c ↔ IsScalar c
-    scalar modified = (λ h. h, λ h. h)
-    scalar units = (λ h. h, λ h. h)
-    scalar utf8 = (λ h. h, λ h. h)
+  -- It is well formed by the other rule.
+  pub recoded-good : WellFormedIn way.to.strings (recoded way l)
+  recoded-good = (w.0, w.1, sym recoded-is)
 
-    go : (r s : Rule) → IsChar (whole_rule r) c ↔ IsChar (whole_rule s) c
-    go r s = (λ h. (scalar s).1 ((scalar r).0 h), λ h. (scalar r).1 ((scalar s).0 h))
+  -- It has the characters that it had.
+  pub recoded-chars : chars_in way.to.strings (recoded way l) ≡ chars_in way.from.strings l
+  recoded-chars =
+      ap (chars_in way.to.strings) recoded-is
+      ∙ chars-of way.to.strings w.0 w.1
+      ∙ sym (ap (chars_in way.from.strings) (sym w.2) ∙ chars-of way.from.strings w.0 w.1)
 
-module _ (way : Way) (chars : SameChars way) where
-  -- Characters of the one are characters of the other.
-  there : (cs : List ℕ) → AllOf (IsChar way.from.strings) cs → AllOf (IsChar way.to.strings) cs
-  there [] a = tt
-  there (c ∷ cs) a = ((chars c).0 a.0, there cs a.1)
+  -- And it comes back.
+  pub recoded-back : recoded (back way) (recoded way l) ≡ l
+  recoded-back = ap (recoded (back way)) recoded-is ∙ recoded_coded (back way) w.0 w.1 ∙ w.2
 
-  module _ (l : List ℕ) (w : WellFormedIn way.from.strings l) where
-    -- The characters of a well-formed string.
-    abbrev spelt : (cs : List ℕ) × SpellsBy (IsChar way.from.strings) (enc_of way.from.strings) cs l
-    spelt = (by-characters way.from.strings l).0 w
-
-    -- What is written of it, by them.
-    recoded-is : recoded way l ≡ encode_by (enc_of way.to.strings) spelt.0
-    recoded-is = ap (recoded way) (sym spelt.1.1) ∙ recoded_coded way spelt.0 spelt.1.0
-
-    -- It is well formed by the other rule.
-    pub recoded-good : WellFormedIn way.to.strings (recoded way l)
-    recoded-good = (by-characters way.to.strings (recoded way l)).1 (spelt.0, (there spelt.0 spelt.1.0, sym recoded-is))
-
-    -- It has the characters that it had.
-    pub recoded-chars : chars_in way.to.strings (recoded way l) ≡ chars_in way.from.strings l
-    recoded-chars =
-        ap (chars_in way.to.strings) recoded-is
-        ∙ chars-of way.to.strings spelt.0 (there spelt.0 spelt.1.0)
-        ∙ sym (ap (chars_in way.from.strings) (sym spelt.1.1) ∙ chars-of way.from.strings spelt.0 spelt.1.0)
-
-    -- And it comes back.
-    pub recoded-back : recoded (back way) (recoded way l) ≡ l
-    recoded-back = ap (recoded (back way)) recoded-is ∙ recoded_coded (back way) spelt.0 (there spelt.0 spelt.1.0) ∙ spelt.1.1
-
-  -- Two well-formed strings that are written alike are one.
-  pub recoded-one : (l m : List ℕ) → WellFormedIn way.from.strings l → WellFormedIn way.from.strings m → recoded way l ≡ recoded way m → l ≡ m
-  recoded-one l m w x e = sym (recoded-back l w) ∙ ap (recoded (back way)) e ∙ recoded-back m x
+-- Two well-formed strings that are written alike are one.
+pub recoded-one : (way : Way) (l m : List ℕ) → WellFormedIn way.from.strings l → WellFormedIn way.from.strings m → recoded way l ≡ recoded way m → l ≡ m
+recoded-one way l m w x e = sym (recoded-back way l w) ∙ ap (recoded (back way)) e ∙ recoded-back way m x
 
 -- ---- trees
 

@@ -40,7 +40,7 @@ some c =
     pick-lt P c 128 (λ _. omega arith) (λ _. pick-lt P c 2048 (λ _. omega arith) (λ _. pick-lt P c 65536 (λ _. omega arith) (λ _. omega arith)))
 
 abbrev SoundR : List ℕ → Sequence → Type 0
-SoundR l r = SoundBy IsScalar utf8_bytes l r
+SoundR l r = SoundBy utf8_bytes l r
 
 -- ---- sound
 four_is : (a b c d u : ℕ) (l : List ℕ) → 240 ≤ a → a < 248 → 128 ≤ b → b < 192 → 128 ≤ c → c < 192 → 128 ≤ d → d < 192
@@ -157,7 +157,7 @@ back c s l = ⊎_elim
     (lt-or c 65536)
 
 abbrev pub utf8 : Coding
-utf8 = record { ok = IsScalar; enc = utf8_bytes; one = utf8_of; some = some; sound = sound; back = back }
+utf8 = record { enc = utf8_bytes; one = utf8_of; some = some; sound = sound; back = back }
 
 -- ---- by what stands at a place
 

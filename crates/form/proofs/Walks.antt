@@ -1,5 +1,5 @@
--- Laws of walks: for any coding, the verdict is good exactly where the bytes are an encoding, and otherwise the place at which no value
--- begins, the end of the longest start that is an encoding.
+-- Laws of walks: for any coding, the verdict is good exactly where the bytes are an encoding, and otherwise the place of the first
+-- sequence that can't be read.
 -- Assumes nothing.
 use Prim.Native.Nat.{ℕ, zero, suc, ◌+◌, ◌-◌, ◌≤◌, ◌<◌}
 use mathlib.Core.Path.{◌≡◌, refl, sym, ap, ◌∙◌}
@@ -7,35 +7,17 @@ use mathlib.Core.Logic.{◌↔◌}
 use mathlib.Core.List.{List, [], ◌∷◌, ◌++◌, append_assoc}
 use native.Mathlib.Nat.{sub-zero}
 use native.Mathlib.Omega.{arith}
-use lib.ListN.{length, take, drop, length-append, length-drop, drop_of_length-le, take-append-drop}
-use lib.Seq.{drop-drop, drop-append_seam, take-append_seam, length-take-le}
-use Rattle.form.specs.Strings.{AllOf, encode_by, SpellsBy}
-use Rattle.form.specs.Decoding.{Sequence, is, stuck, Verdict, good, bad, onward, walk, verdict_by}
-use Rattle.form.proofs.Coding.{SoundBy, Coding, no_longer}
+use lib.ListN.{length, drop, length-append, length-drop, drop_of_length-le}
+use lib.Seq.{drop-drop, drop-append_seam}
+use Rattle.form.specs.Strings.{IsScalar, AllScalar, encode_by, WellFormedBy, FirstBadBy}
+use Rattle.form.specs.Decoding.{Sequence, is, stuck, Verdict, good, bad, onward, walk, verdict_by, Judged}
+use Rattle.form.proofs.Coding.{SoundBy, Coding}
 
 module _ (𝓒 : Coding) where
-  open 𝓒 use {ok, enc, one, some, sound, back}
+  open 𝓒 use {enc, one, some, sound, back}
 
-  -- bytes that are the encoding of some values
-  abbrev pub CodedBy : List ℕ → Type 0
-  CodedBy l = (cs : List ℕ) × SpellsBy ok enc cs l
-
-  -- up to k the bytes are an encoding, and more follow, which begin with no value
-  pub record HaltedBy (l : List ℕ) (k : ℕ) : Type 0 where
-    pub before : List ℕ
-    pub rest : List ℕ
-    pub each : AllOf ok before
-    pub split : l ≡ encode_by enc before ++ rest
-    pub place : k ≡ length (encode_by enc before)
-    pub more : rest ≡ [] → ⊥
-    pub stuck : (c : ℕ) (t : List ℕ) → ok c → rest ≡ enc c ++ t → ⊥
-
-  not-empty : (t : List ℕ) → (t ≡ [] → ⊥) → 0 < length t
-  not-empty [] n = absurd (n refl)
-  not-empty (a ∷ t) n = omega arith
-
-  -- a value that was read takes at least a byte, and no more than there are
-  fits-go : (l : List ℕ) (r : Sequence) (c n : ℕ) → SoundBy ok enc l r → r ≡ is c n → (0 < n) × (n ≤ length l)
+  -- a scalar value that was read takes at least a byte, and no more than there are
+  fits-go : (l : List ℕ) (r : Sequence) (c n : ℕ) → SoundBy enc l r → r ≡ is c n → (0 < n) × (n ≤ length l)
   fits-go l stuck c n s e = let z : ◌≡◌ {A = ℕ} 0 1 = cc in (omega arith, omega arith)
   fits-go l (is d m) c n s e =
       let p : m ≡ n = cc in
@@ -55,7 +37,7 @@ module _ (𝓒 : Coding) where
   walk_step f i [] h = absurd (omega arith)
   walk_step f i (a ∷ l) h = refl
 
-  good_of : (cs : List ℕ) → AllOf ok cs → (f i : ℕ) → length (encode_by enc cs) ≤ f → walk one f (encode_by enc cs) i ≡ good
+  good_of : (cs : List ℕ) → AllScalar cs → (f i : ℕ) → length (encode_by enc cs) ≤ f → walk one f (encode_by enc cs) i ≡ good
   good_of [] s f i h = walk-nil f i
   good_of (c ∷ cs) s zero i h = absurd (omega (arith, some c, simp length-append at h))
   good_of (c ∷ cs) s (suc f) i h =
@@ -64,18 +46,18 @@ module _ (𝓒 : Coding) where
 
   -- ---- and what is good is an encoding; a bad one has its place
   abbrev Told : List ℕ → ℕ → Verdict → Type 0
-  Told l i good = CodedBy l
-  Told l i (bad k) = (i ≤ k) × HaltedBy l (k - i)
+  Told l i good = WellFormedBy enc l
+  Told l i (bad k) = (i ≤ k) × FirstBadBy enc l (k - i)
 
-  -- one value in front
-  told_more : (c : ℕ) (l t : List ℕ) (i n : ℕ) → ok c → n ≡ length (enc c) → l ≡ enc c ++ t → (a : Verdict) → Told t (i + n) a → Told l i a
-  told_more c l t i n s p q good (cs, (d, e)) = (c ∷ cs, ((s, d), rw (q, e) refl))
+  -- one scalar value in front
+  told_more : (c : ℕ) (l t : List ℕ) (i n : ℕ) → IsScalar c → n ≡ length (enc c) → l ≡ enc c ++ t → (a : Verdict) → Told t (i + n) a → Told l i a
+  told_more c l t i n s p q good (cs, d, e) = (c ∷ cs, (s, d), rw (q, e) refl)
   told_more c l t i n s p q (bad k) (h, b) = (
     omega arith,
     record {
       before = c ∷ b.before;
       rest = b.rest;
-      each = (s, b.each);
+      scalars = (s, b.scalars);
       split = q ∙ rw (append_assoc (enc c) (encode_by enc b.before) b.rest, ← b.split) refl;
       place = rw (length-append (enc c) (encode_by enc b.before), ← b.place, ← p) (omega arith);
       more = b.more;
@@ -89,7 +71,7 @@ module _ (𝓒 : Coding) where
     record {
       before = [];
       rest = a ∷ l;
-      each = tt;
+      scalars = tt;
       split = refl;
       place = omega arith;
       more = λ x. let y : suc (length l) ≡ 0 = ap length x in omega arith;
@@ -98,7 +80,7 @@ module _ (𝓒 : Coding) where
   )
 
   told-onward : (f i a : ℕ) (l : List ℕ) → ((t : List ℕ) (j : ℕ) → length t ≤ f → Told t j (walk one f t j)) → length l ≤ f
-      → (r : Sequence) → one (a ∷ l) ≡ r → SoundBy ok enc (a ∷ l) r → Told (a ∷ l) i (onward (walk one f) (a ∷ l) i r)
+      → (r : Sequence) → one (a ∷ l) ≡ r → SoundBy enc (a ∷ l) r → Told (a ∷ l) i (onward (walk one f) (a ∷ l) i r)
   told-onward f i a l ih h stuck e s = told-stuck a l i e
   told-onward f i a l ih h (is c n) e s =
       told_more c (a ∷ l) (drop n (a ∷ l)) i n s.0 s.1 s.2 (walk one f (drop n (a ∷ l)) (i + n))
@@ -106,45 +88,27 @@ module _ (𝓒 : Coding) where
 
   told : (f : ℕ) (l : List ℕ) (i : ℕ) → length l ≤ f → Told l i (walk one f l i)
   unfolding walk
-  told zero [] i h = ([], (tt, refl))
+  told zero [] i h = ([], tt, refl)
   told zero (a ∷ l) i h = absurd (omega arith)
-  told (suc f) [] i h = ([], (tt, refl))
+  told (suc f) [] i h = ([], tt, refl)
   told (suc f) (a ∷ l) i h = told-onward f i a l (told f) (omega arith) (one (a ∷ l)) refl (sound (a ∷ l))
 
   -- ---- of a whole list
 
-  pub good-iff : (l : List ℕ) → (verdict_by one l ≡ good) ↔ CodedBy l
-  unfolding verdict_by
-  good-iff l = (λ e. rw e at (told (length l) l 0 (omega arith)), λ w. rw w.1.1 at (good_of w.0 w.1.0 (length (encode_by enc w.0)) 0 (omega arith)))
+  good-iff : (l : List ℕ) → (walk one (length l) l 0 ≡ good) ↔ WellFormedBy enc l
+  good-iff l = (λ e. rw e at (told (length l) l 0 (omega arith)), λ w. rw w.2 at (good_of w.0 w.1 (length (encode_by enc w.0)) 0 (omega arith)))
 
-  bad-at : (l : List ℕ) (k : ℕ) → verdict_by one l ≡ bad k → HaltedBy l k
-  unfolding verdict_by
+  bad-at : (l : List ℕ) (k : ℕ) → walk one (length l) l 0 ≡ bad k → FirstBadBy enc l k
   bad-at l k e = rw sub-zero at (rw e at (told (length l) l 0 (omega arith))).1
 
-  -- where the verdict is bad, so much of the bytes is an encoding, more follow, and no longer start of them is one
-  module _ (l : List ℕ) (k : ℕ) (e : verdict_by one l ≡ bad k) where
-    halted : HaltedBy l k
-    halted = bad-at l k e
-
-    pub bad-within : k < length l
-    bad-within = omega (arith, ap length halted.split, length-append (encode_by enc halted.before) halted.rest, halted.place, not-empty halted.rest halted.more)
-
-    pub bad-start : CodedBy (take k l)
-    bad-start = (
-      halted.before,
-      (
-        halted.each,
-        sym (ap (λ n. take n l) halted.place ∙ ap (take (length (encode_by enc halted.before))) halted.split
-            ∙ take-append_seam (encode_by enc halted.before) halted.rest),
-      ),
-    )
-
-    pub bad-longest : (j : ℕ) → k < j → j ≤ length l → CodedBy (take j l) → ⊥
-    bad-longest j h m (cs, (each, spelt)) =
-        let whole : encode_by enc halted.before ++ halted.rest ≡ encode_by enc cs ++ drop j l =
-        sym halted.split ∙ sym (take-append-drop j l) ∙ ap (λ bs. bs ++ drop j l) (sym spelt) in
-        let most = no_longer 𝓒 halted.before cs halted.rest (drop j l) halted.each each halted.stuck whole in
-        omega (arith, most, halted.place, ap length spelt, length-take-le j l m, h)
+  -- what is the computed verdict is sound and complete
+  pub judged : (l : List ℕ) (v : Verdict) → v ≡ verdict_by one l → Judged enc one l v
+  unfolding verdict_by
+  judged l v e = record {
+    is = e;
+    good_is = (λ g. (good-iff l).0 (sym e ∙ g), λ w. e ∙ (good-iff l).1 w);
+    bad_is = λ k b. bad-at l k (sym e ∙ b);
+  }
 
   -- ---- for a loop that walks
 
@@ -158,8 +122,8 @@ module _ (𝓒 : Coding) where
   unfolding verdict_by
   going_start s = record { turns = length s; enough = omega arith; rest = refl }
 
-  pub going_end : (s : List ℕ) (i : ℕ) → length s ≤ i → Going s i → good ≡ verdict_by one s
-  going_end s i h g = sym (walk-nil g.turns i) ∙ (rw (drop_of_length-le s {i = i} h) at g.rest)
+  pub going_end : (s : List ℕ) (i : ℕ) → length s ≤ i → Going s i → Judged enc one s good
+  going_end s i h g = judged s good (sym (walk-nil g.turns i) ∙ (rw (drop_of_length-le s {i = i} h) at g.rest))
 
   -- one turn, by what the bytes from i on begin with
   turn : (s : List ℕ) (i f : ℕ) → i < length s → length s ≤ i + f → walk one f (drop i s) i ≡ verdict_by one s
@@ -167,7 +131,7 @@ module _ (𝓒 : Coding) where
   turn s i zero h k e = absurd (omega arith)
   turn s i (suc f) h k e = (f, refl, sym (walk_step f i (drop i s) (simp length-drop (omega arith))) ∙ e)
 
-  -- a value that was read reaches no further than the bytes
+  -- a scalar value that was read reaches no further than the bytes
   pub reach : (s : List ℕ) (i c n : ℕ) → i < length s → one (drop i s) ≡ is c n → (0 < n) × (i + n ≤ length s)
   reach s i c n h e =
       let z = fits (drop i s) c n e in
@@ -184,7 +148,8 @@ module _ (𝓒 : Coding) where
         rest = rw (← drop-drop n i s) f;
       }
 
-  pub going-stuck : (s : List ℕ) (i : ℕ) → i < length s → one (drop i s) ≡ stuck → Going s i → bad i ≡ verdict_by one s
+  pub going-stuck : (s : List ℕ) (i : ℕ) → i < length s → one (drop i s) ≡ stuck → Going s i → Judged enc one s (bad i)
   going-stuck s i h e g =
       let t = turn s i g.turns h g.enough g.rest in
-      rw e at t.2
+      let f : onward (walk one t.0) (drop i s) i stuck ≡ verdict_by one s = rw e at t.2 in
+      judged s (bad i) f

@@ -3,8 +3,8 @@
 -- Assumes nothing.
 use Rattle.std.specs.Prelude.{ℕ, zero, suc, ◌+◌, ◌*◌, ◌%◌, ◌≡◌, ◌↔◌, Bool, true, false, List, [], ◌∷◌, length, drop, ltb, leb, eqb}
 use Rattle.form.specs.Answer.{pick}
-use Rattle.form.specs.Form.{Rule, modified, units, utf8}
-use Rattle.form.specs.Strings.{WellFormedIn, FirstBadIn}
+use Rattle.form.specs.Form.{Rule, modified, utf8}
+use Rattle.form.specs.Strings.{WellFormedBy, FirstBadBy}
 
 -- What some bytes begin with: a value and how many bytes it takes, or nothing that can be read.
 pub data Sequence : Type 0 where
@@ -122,10 +122,9 @@ walk one (suc f) (a ∷ l) i = onward (walk one f) (a ∷ l) i (one (a ∷ l))
 unfoldable pub verdict_by : (List ℕ → Sequence) → List ℕ → Verdict
 verdict_by one l = walk one (length l) l 0
 
--- What some bytes begin with by a rule (02, [2], [5]).
+-- What some bytes begin with by a rule (02, [2]).
 abbrev pub one_of : Rule → List ℕ → Sequence
 one_of modified = scalar_of
-one_of units = unit_of
 one_of utf8 = utf8_of
 
 -- The verdict by a rule.
@@ -147,9 +146,9 @@ is_good (bad k) = false
 abbrev pub well_formed_in : Rule → List ℕ → Bool
 well_formed_in r l = is_good (verdict_in r l)
 
--- What the verdict on some bytes promises: it is the computed one; it is good exactly where the bytes are well formed; and where it is bad,
--- at k, there the first sequence that can't be read begins.
-pub record Judged (r : Rule) (s : List ℕ) (v : Verdict) : Type 0 where
-  pub is : v ≡ verdict_in r s
-  pub good_is : (v ≡ good) ↔ WellFormedIn r s
-  pub bad_is : (k : ℕ) → v ≡ bad k → FirstBadIn r s k
+-- What the verdict on some bytes promises: it is the computed one; it is good exactly where the bytes are the encoding of scalar values;
+-- and where it is bad, at k, there the first sequence that can't be read begins.
+pub record Judged (enc : ℕ → List ℕ) (one : List ℕ → Sequence) (s : List ℕ) (v : Verdict) : Type 0 where
+  pub is : v ≡ verdict_by one s
+  pub good_is : (v ≡ good) ↔ WellFormedBy enc s
+  pub bad_is : (k : ℕ) → v ≡ bad k → FirstBadBy enc s k

@@ -1,8 +1,7 @@
--- Requests [2] and [5]: the form that a document is written in, by the order of a number's bytes and the rule that strings keep. Everything
--- that is laid out, read, judged, written and asked is said once, over a form; document 01 has the form `java`.
+-- Request [2]: the form that a document is written in, by the order of a number's bytes and the rule that strings keep. Everything that is laid
+-- out, read, judged, written and asked is said once, over a form; document 01 has the form `java`.
 -- Assumes nothing.
 use Rattle.std.specs.Prelude.{ℕ, ◌/◌, ◌%◌, Bool, true, false, eqb}
-use Rattle.std.specs.Bool.{beq}
 use Rattle.form.specs.Answer.{pick}
 
 -- The order of a number's bytes: the highest first (rule 1), or the lowest first.
@@ -10,10 +9,9 @@ pub data Order : Type 0 where
   big : Order
   little : Order
 
--- The rule that strings keep: modified UTF-8 (rule 2); the same with halves that stand alone, Java units ([5]); or ordinary UTF-8.
+-- The rule that strings keep: modified UTF-8 (rule 2), or ordinary UTF-8.
 pub data Rule : Type 0 where
   modified : Rule
-  units : Rule
   utf8 : Rule
 
 pub record Form : Type 0 where
@@ -23,10 +21,6 @@ pub record Form : Type 0 where
 -- Document 01's form.
 abbrev pub java : Form
 java = record { order = big; strings = modified }
-
--- Document 01's form with strings in Java units.
-abbrev pub java_units : Form
-java_units = record { order = big; strings = units }
 
 -- The pocket edition's form.
 abbrev pub pocket : Form
@@ -40,12 +34,9 @@ asks form = record { order = big; strings = form.strings }
 abbrev pub order_in : Bool → Order
 order_in lowest = pick lowest little big
 
--- The form of a number, as a caller in C gives it: 1 is Java units, 2 the pocket edition's, any other document 01's.
-abbrev pub java_rule : ℕ → Rule
-java_rule n = pick (eqb n 1) units modified
-
+-- The form of a number, as a caller in C gives it: 2 is the pocket edition's, any other document 01's.
 abbrev pub form_no : ℕ → Form
-form_no n = record { order = order_in (eqb n 2); strings = pick (eqb n 2) utf8 (java_rule n) }
+form_no n = record { order = order_in (eqb n 2); strings = pick (eqb n 2) utf8 modified }
 
 -- ---- from one form into another
 
@@ -61,19 +52,6 @@ way_from a b = record { from = a; to = b }
 abbrev pub stays : Form → Way
 stays form = way_from form form
 
--- A form with whole characters: Java units count as rule 2.
-abbrev pub whole_rule : Rule → Rule
-whole_rule modified = modified
-whole_rule units = modified
-whole_rule utf8 = utf8
-
-abbrev pub whole_form : Form → Form
-whole_form form = record { order = form.order; strings = whole_rule form.strings }
-
--- A conversion: it stays with whole characters ([5]).
-abbrev pub converting : Form → Form → Way
-converting a b = way_from (whole_form a) (whole_form b)
-
 -- The way back.
 abbrev pub back : Way → Way
 back way = way_from way.to way.from
@@ -88,11 +66,8 @@ same_order big little = false
 same_order little big = false
 same_order little little = true
 
-abbrev pub is_utf8 : Rule → Bool
-is_utf8 modified = false
-is_utf8 units = false
-is_utf8 utf8 = true
-
--- Whether two rules write a character alike, as Java's two do.
-abbrev pub write_alike : Rule → Rule → Bool
-write_alike a b = beq (is_utf8 a) (is_utf8 b)
+abbrev pub same_rule : Rule → Rule → Bool
+same_rule modified modified = true
+same_rule modified utf8 = false
+same_rule utf8 modified = false
+same_rule utf8 utf8 = true

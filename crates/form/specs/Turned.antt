@@ -1,10 +1,10 @@
 -- Request [2]: a document in another form. Its strings keep their characters, its numbers are the same numbers; a float is its bits in every
 -- form (Tree.antt), so that nothing more is to be said of it.
 -- Assumes nothing.
-use Rattle.std.specs.Prelude.{ℕ, zero, suc, ◌≤◌, ◌↔◌, List, [], ◌∷◌, length, drop}
+use Rattle.std.specs.Prelude.{ℕ, zero, suc, ◌≤◌, List, [], ◌∷◌, length, drop}
 use Rattle.form.specs.Answer.{pick, string_limit}
-use Rattle.form.specs.Form.{Rule, Form, Way, write_alike}
-use Rattle.form.specs.Strings.{IsChar, enc_of, encode_by}
+use Rattle.form.specs.Form.{Rule, Form, Way, same_rule}
+use Rattle.form.specs.Strings.{enc_of, encode_by}
 use Rattle.form.specs.Decoding.{Sequence, is, stuck, one_of}
 use Rattle.form.specs.Tree.{Tag, Tags, Entries, byte, short, int, long, float, double, byte_array, string, list, compound, int_array, long_array, nil, more, ended, entry, Document, TextIn}
 
@@ -23,17 +23,13 @@ chars_by one (suc f) l = char_then (chars_by one f) l (one l)
 unfoldable pub chars_in : Rule → List ℕ → List ℕ
 chars_in r l = chars_by (one_of r) (length l) l
 
--- A string as it is written: its characters by the other form's rule; where that writes alike its bytes as they are.
+-- A string as it is written: its characters by the other form's rule; where that is the same rule its bytes as they are.
 unfoldable pub recoded : Way → List ℕ → List ℕ
-recoded way l = pick (write_alike way.from.strings way.to.strings) l (encode_by (enc_of way.to.strings) (chars_in way.from.strings l))
+recoded way l = pick (same_rule way.from.strings way.to.strings) l (encode_by (enc_of way.to.strings) (chars_in way.from.strings l))
 
 -- A string that can be written so: it is well formed, and its length fits a u16 as it stands and as it is written.
 abbrev pub Carried : Way → List ℕ → Type 0
 Carried way s = TextIn way.from s × (length (recoded way s) ≤ string_limit)
-
--- The two rules of a way have the same characters: so it is of a way that stays, and of a conversion, which stays with whole characters ([5]).
-abbrev pub SameChars : Way → Type 0
-SameChars way = (c : ℕ) → IsChar way.from.strings c ↔ IsChar way.to.strings c
 
 -- ---- trees
 

@@ -1,4 +1,4 @@
--- Laws of blocks: plain bytes, and bytes that fit behind each other, are values that all rules read alike.
+-- Laws of blocks: plain bytes, and bytes that fit behind each other, are values that both codings read alike.
 -- Assumes nothing.
 use Prim.Native.Nat.{ℕ, zero, suc, ◌+◌, ◌-◌, ◌%◌, ◌≤◌, ◌<◌}
 use mathlib.Core.Path.{◌≡◌}
@@ -9,6 +9,7 @@ use native.Mathlib.Omega.{arith}
 use borrow.Author.Tests.{lt-ltb, le-ltb, ne_eqb}
 use lib.ListN.{length, drop, get_or}
 use Rattle.form.specs.Form.{Rule}
+use Rattle.form.specs.Strings.{enc_of}
 use Rattle.form.specs.Spans.{part}
 use Rattle.form.specs.Decoding.{is, good, six, two_of, three_of, one_of, Judged}
 use Rattle.form.proofs.Picks.{lt-or}
@@ -65,7 +66,7 @@ pub short-passed : (s : List ℕ) (i : ℕ) → i ≤ length s → short_plain 0
 short-passed s i h e = plain-passed s i (length s) h (omega arith) (part-is 0 s i (length s) h (omega arith) e).1
 
 -- a list that is short and all plain is good by any rule
-pub short-good : (k : Rule) (s : List ℕ) → short_plain 0 s ≡ true → Judged k s good
+pub short-good : (k : Rule) (s : List ℕ) → short_plain 0 s ≡ true → Judged (enc_of k) (one_of k) s good
 short-good k s e = all-walked k (omega arith) (walked-pass k none (plain-passed s 0 (length s) (omega arith) (omega arith) (short-is 0 s e).1))
 
 pub passed-join : (s : List ℕ) (i j k : ℕ) → Passed s i j → Passed s j k → Passed s i k

@@ -6,8 +6,8 @@ use mathlib.Core.List.{List}
 use native.Mathlib.Omega.{arith}
 use lib.ListN.{length, drop, length-drop}
 use Rattle.form.specs.Form.{Rule}
+use Rattle.form.specs.Strings.{enc_of}
 use Rattle.form.specs.Decoding.{Sequence, is, stuck, good, bad, one_of, is_good, well_formed_in, Judged}
-use Rattle.form.proofs.Strings.{coding_of, judged}
 use Rattle.form.proofs.Walks as W
 use Rattle.chars.specs.declared.Front.{Front}
 use Rattle.chars.specs.declared.Front.TheVariants.{Is}
@@ -16,7 +16,7 @@ use Rattle.chars.proofs.Fronts.{told}
 use Rattle.mutf8.specs.declared.Checked.{Checked}
 use Rattle.mutf8.specs.Answers.{verdict_of}
 use Rattle.mutf8.specs.Runs.{Walked, none, more, common_of, Passed, Stepped}
-use Rattle.mutf8.proofs.Codings.{alike}
+use Rattle.mutf8.proofs.Codings.{alike, coding_of}
 
 -- one walk behind another
 pub walked-join : {one : List ℕ → Sequence} {s : List ℕ} {i j k : ℕ} → Walked one s i j → Walked one s j k → Walked one s i k
@@ -50,11 +50,11 @@ module _ (k : Rule) where
   going none g = g
   going {s} (more e w) g = going w (W.going_more (coding_of k) _ _ _ _ (within s _ _ _ e) e g)
 
-  pub all-walked : {s : List ℕ} {i : ℕ} → length s ≤ i → Walked (one_of k) s 0 i → Judged k s good
-  all-walked {s} h w = judged k s good (W.going_end (coding_of k) s _ h (going w (W.going_start (coding_of k) s)))
+  pub all-walked : {s : List ℕ} {i : ℕ} → length s ≤ i → Walked (one_of k) s 0 i → Judged (enc_of k) (one_of k) s good
+  all-walked {s} h w = W.going_end (coding_of k) s _ h (going w (W.going_start (coding_of k) s))
 
-  pub halted-at : {s : List ℕ} {i : ℕ} → i < length s → one_of k (drop i s) ≡ stuck → Walked (one_of k) s 0 i → Judged k s (bad i)
-  halted-at {s} h e w = judged k s (bad _) (W.going-stuck (coding_of k) s _ h e (going w (W.going_start (coding_of k) s)))
+  pub halted-at : {s : List ℕ} {i : ℕ} → i < length s → one_of k (drop i s) ≡ stuck → Walked (one_of k) s 0 i → Judged (enc_of k) (one_of k) s (bad i)
+  halted-at {s} h e w = W.going-stuck (coding_of k) s _ h e (going w (W.going_start (coding_of k) s))
 
   -- how far a value reaches, by what a call answered
   pub reach : (s : List ℕ) (i c n : ℕ) (r : Front) → r ≡ Is c n → sequence_of r ≡ one_of k (drop i s) → (0 < n) × (i + n ≤ length s)
@@ -63,5 +63,5 @@ module _ (k : Rule) where
 -- ---- a verdict as the test of refusal 4
 
 -- where an answer is known by its case, so is what the test says
-pub judged-by : (k : Rule) (s : List ℕ) (r v : Checked) → r ≡ v → Judged k s (verdict_of r) → is_good (verdict_of v) ≡ well_formed_in k s
+pub judged-by : (k : Rule) (s : List ℕ) (r v : Checked) → r ≡ v → Judged (enc_of k) (one_of k) s (verdict_of r) → is_good (verdict_of v) ≡ well_formed_in k s
 judged-by k s r v e j = ap is_good (sym (ap verdict_of e) ∙ j.is)

@@ -8,11 +8,11 @@ pub data Walked (one : List ℕ → Sequence) (s : List ℕ) : ℕ → ℕ → T
   none : {i : ℕ} → Walked one s i i
   more : {i j c n : ℕ} → one (drop i s) ≡ is c n → Walked one s (i + n) j → Walked one s i j
 
--- The values that all rules read alike: units of rule 2 other than 0 and the halves of a pair.
+-- The values that both codings read alike: units of rule 2 other than 0 and the halves of a pair.
 unfoldable pub common_of : List ℕ → Sequence
 common_of l = unpaired (unit_of l)
 
--- From a place on, r is as far as values that all rules read alike were passed.
+-- From a place on, r is as far as values that both codings read alike were passed.
 pub record Passed (s : List ℕ) (at r : ℕ) : Type 0 where
   pub on : at ≤ r
   pub within : r ≤ length s
@@ -25,7 +25,7 @@ pub record Stepped (one : List ℕ → Sequence) (s : List ℕ) (at stop r : ℕ
   pub walked : Walked one s at r
   pub halted : r < stop → one (drop r s) ≡ stuck
 
--- The byte b may stand behind p, and p behind q, where all rules read alike: it follows a lead byte exactly where one is due, it is
+-- The byte b may stand behind p, and p behind q, where both codings read alike: it follows a lead byte exactly where one is due, it is
 -- no zero byte, begins no overlong form and no four bytes, and behind E0 and ED it makes no overlong form and no half.
 pub record Fits (q p b : ℕ) : Type 0 where
   pub some : 0 < b

@@ -1,4 +1,4 @@
-// Blocks of 64 or 16 bytes that are passed at once: they are plain, or fit behind each other so that all string rules read them alike.
+// Blocks of 64 or 16 bytes that are passed at once: they are plain, or fit behind each other so that both codings read them alike.
 // What no block takes is left to be read value by value.
 ghost use Rattle.std.specs.Prelude.{◌≡◌, true, ◌+◌, ◌≤◌, ◌<◌, length};
 ghost use Rattle.mutf8.specs.Runs.{Passed, Fits, Fitting, Edge};
@@ -115,7 +115,7 @@ fn whole(s: &[u8], at: usize) -> usize
     at
 }
 
-// Goes on by up to eight blocks of sequences that all string rules read alike.
+// Goes on by up to eight blocks of sequences that both codings read alike.
 fn blocks(s: &[u8], at: usize) -> usize
     requires { Edge s.now at × (at ≤ length s.now) }
     ensures { Passed s.now at result }

@@ -1,11 +1,12 @@
-// Modified UTF-8 (rule 2), Java units (02, [5]) and UTF-8: whether a slice is well formed, and where it is not.
+// Modified UTF-8 (rule 2) and UTF-8: whether a slice is well formed, and where it is not.
 // Text is passed in blocks of 64 bytes without a branch for each byte; what no block takes is read value by value. Plain bytes are all from 1
 // to 127 here, so `plain` is given 0, which is none of them.
 pub mod blocks;
 
 ghost use Rattle.std.specs.Prelude.{◌≡◌, ◌≤◌, ◌<◌, length, drop};
-ghost use Rattle.form.specs.Form.{form_no, utf8};
-ghost use Rattle.form.specs.Decoding.{one_of, well_formed_in, Judged};
+ghost use Rattle.form.specs.Form.{form_no};
+ghost use Rattle.form.specs.Strings.{enc_of, utf8_bytes};
+ghost use Rattle.form.specs.Decoding.{one_of, utf8_of, well_formed_in, Judged};
 ghost use Rattle.chars.specs.Answers.{sequence_of};
 ghost use Rattle.mutf8.specs.Answers.{verdict_of};
 ghost use Rattle.mutf8.specs.Runs.{Stepped};
@@ -41,15 +42,15 @@ fn ahead(end: usize, at: usize, reach: usize) -> usize
     if end - at < reach { end } else { at + reach }
 }
 
-// What stands at a place in a form: the only function that knows one from the other. In modified UTF-8, and in Java units (02, [5]), the value
-// that was read tells how many bytes it takes.
+// What stands at a place in a form: the only function that knows one from the other. In modified UTF-8 the value that was read tells
+// how many bytes it takes.
 pub fn front_at(s: &[u8], at: usize, form: u32) -> Front
     ensures { sequence_of result ≡ one_of (form_no form).strings (drop at s.now) }
 {
     if is_pocket(form) {
         return chars::utf8_at(s, at);
     }
-    match chars::java_at(s, at, form) {
+    match chars::scalar_at(s, at) {
         Front::Is(c, _) => Front::Is(c, chars::length_of(c)),
         Front::Stuck => Front::Stuck,
     }
@@ -80,7 +81,7 @@ fn steps(s: &[u8], at: usize, stop: usize, form: u32) -> usize
 
 // Whether the whole of s keeps the string rule of a form, by blocks and by values in turn.
 fn judge(s: &[u8], form: u32) -> Checked
-    ensures { Judged (form_no form).strings s.now (verdict_of result) }
+    ensures { Judged (enc_of (form_no form).strings) (one_of (form_no form).strings) s.now (verdict_of result) }
 {
     let mut i = 0;
     let mut reach: usize = 0;
@@ -97,10 +98,10 @@ fn judge(s: &[u8], form: u32) -> Checked
     Checked::Good
 }
 
-// Whether the whole of s keeps the string rule of a form (rule 2; 02, [2], [5]); where not, refusal 4 at the offset. A short plain string, which
+// Whether the whole of s keeps the string rule of a form (rule 2; 02, [2]); where not, refusal 4 at the offset. A short plain string, which
 // every rule takes, is passed before the form is looked at.
 pub fn check(s: &[u8], form: u32) -> Checked
-    ensures { Judged (form_no form).strings s.now (verdict_of result) }
+    ensures { Judged (enc_of (form_no form).strings) (one_of (form_no form).strings) s.now (verdict_of result) }
 {
     if plain::is_plain(0, s) {
         return Checked::Good;
@@ -120,7 +121,7 @@ pub fn is_well_formed(s: &[u8], form: u32) -> bool
 
 // Whether the whole of a text is UTF-8, as the strings of the pocket edition are; where not, refusal 15 at the offset.
 pub fn check_utf8(s: &[u8]) -> Checked
-    ensures { Judged utf8 s.now (verdict_of result) }
+    ensures { Judged utf8_bytes utf8_of s.now (verdict_of result) }
 {
     if plain::is_plain(0, s) {
         return Checked::Good;

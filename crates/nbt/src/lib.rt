@@ -2,7 +2,7 @@
 // what each word of an answer is, crates/calls/specs defines it.
 ghost use Rattle.form.specs.Moved.{eight, nine};
 ghost use Rattle.form.specs.Answer.{bad_string, bad_text};
-ghost use Rattle.form.specs.Form.{modified, utf8, java, form_no, converting, stays};
+ghost use Rattle.form.specs.Form.{modified, utf8, java, form_no, way_from, stays};
 ghost use Rattle.calls.specs.Calls.{StringCalled, ReadCalled, TableCalled, WriteCalled, RescueCalled, WriteLinesCalled, ReadLinesCalled, MoveCalled, QueryCalled, TokenCalled, ContentCalled, ParseCalled};
 
 // Whether bytes are modified UTF-8 (rule 2): 4 at the first sequence that can't be read.
@@ -81,7 +81,7 @@ pub extern "C" fn tikfazrul_write_in(
 }
 
 // Writes the document that a table stands for in another form than its own, with all values kept ([2]): `from` is the form that its bytes
-// have, `to` the form to be written, both with whole characters ([5]). The table comes back as it was.
+// have, `to` the form to be written. The table comes back as it was.
 #[unsafe(no_mangle)]
 pub extern "C" fn tikfazrul_convert(
     from: u32,
@@ -91,7 +91,7 @@ pub extern "C" fn tikfazrul_convert(
     out: &mut [u8],
     answer: &mut [u64; 8],
 )
-    ensures { WriteCalled (converting (form_no from) (form_no to)) doc.now table.old table.new out.old out.new answer.new }
+    ensures { WriteCalled (way_from (form_no from) (form_no to)) doc.now table.old table.new out.old out.new answer.new }
 {
     call_write::convert(from, to, doc, table, out, answer);
 }

@@ -9,7 +9,7 @@ use native.Mathlib.Omega.{arith}
 use borrow.Author.Tests.{eq-eqb, ne_eqb, eqb-true, eqb-false, lt-ltb, le-ltb}
 use lib.ListN.{length}
 use lib.Dec.{eqb}
-use Rattle.form.specs.Form.{Way, same_order, write_alike}
+use Rattle.form.specs.Form.{Way, same_order, same_rule}
 use Rattle.form.specs.Numbers.{bytes_in}
 use Rattle.form.specs.Spans.{part}
 use Rattle.form.specs.Turned.{recoded}
@@ -23,14 +23,14 @@ use Rattle.nbt_writer.specs.Steps.{length_bytes, same_bytes}
 
 -- ---- both forms are alike
 
-module _ (way : Way) {r : Bool} (is : r ≡ (same_order way.from.order way.to.order && write_alike way.from.strings way.to.strings)) (alike : r ≡ true) where
+module _ (way : Way) {r : Bool} (is : r ≡ (same_order way.from.order way.to.order && same_rule way.from.strings way.to.strings)) (alike : r ≡ true) where
   -- Numbers have the same order.
   pub alike-order : same_order way.from.order way.to.order ≡ true
-  alike-order = and_left (same_order way.from.order way.to.order) (write_alike way.from.strings way.to.strings) (sym is ∙ alike)
+  alike-order = and_left (same_order way.from.order way.to.order) (same_rule way.from.strings way.to.strings) (sym is ∙ alike)
 
   -- Strings have the same rule.
-  pub alike-rule : write_alike way.from.strings way.to.strings ≡ true
-  alike-rule = and_right (same_order way.from.order way.to.order) (write_alike way.from.strings way.to.strings) (sym is ∙ alike)
+  pub alike-rule : same_rule way.from.strings way.to.strings ≡ true
+  alike-rule = and_right (same_order way.from.order way.to.order) (same_rule way.from.strings way.to.strings) (sym is ∙ alike)
 
 -- ---- what stands before a span
 
@@ -78,7 +78,7 @@ module _ (way : Way) (doc : List ℕ) (kind count start size : ℕ) where
   span-numbers e =
       rw (span_bytes, ne_eqb kind 8 e) refl ∙ ap (λ bs. bs ++ numbers way (element_width kind) (part doc start size)) (sym (length-other way kind size count e))
 
-  module _ (strings : write_alike way.from.strings way.to.strings ≡ true) (within : start + size ≤ length doc) where
+  module _ (strings : same_rule way.from.strings way.to.strings ≡ true) (within : start + size ≤ length doc) where
     -- A string that is written by its own rule is written as it stands.
     pub text_same : kind ≡ 8 → same_bytes way doc kind count start size ≡ text_bytes way doc start size
     text_same e =

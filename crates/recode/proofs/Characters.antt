@@ -9,8 +9,8 @@ use native.Mathlib.Numerals.{sub-one}
 use native.Mathlib.Omega.{arith}
 use lib.ListN.{length, drop, get_or, length-append, drop_of_length-le}
 use lib.Seq.{drop-drop}
-use Rattle.form.specs.Form.{Rule, modified, units, utf8, Way, form_no, way_no, write_alike}
-use Rattle.form.specs.Strings.{IsChar, enc_of, encode_by}
+use Rattle.form.specs.Form.{Rule, modified, utf8, Way, form_no, way_no, same_rule}
+use Rattle.form.specs.Strings.{enc_of, encode_by}
 use Rattle.form.specs.Decoding.{Sequence, is, stuck, one_of}
 use Rattle.form.specs.Spans.{part, over}
 use Rattle.form.specs.Turned.{chars_by, chars_in, recoded}
@@ -18,13 +18,13 @@ use Rattle.form.proofs.Spans.{part-cons}
 use Rattle.form.proofs.Units.{ub-one}
 use Rattle.form.proofs.Scalars.{sb-low}
 use Rattle.form.proofs.Coding.{SoundBy}
-use Rattle.form.proofs.Strings.{coding_of, char-sound}
 use Rattle.form.proofs.Walks as W
 use Rattle.chars.specs.declared.Front.{Front}
 use Rattle.chars.specs.Answers.{sequence_of}
 use Rattle.chars.proofs.Fronts.{told}
 use Rattle.chars.proofs.Puts.{u8-one}
 use Rattle.plain.specs.Runs.{IsPlain, Plain}
+use Rattle.mutf8.proofs.Codings.{coding_of, sound}
 use Rattle.mutf8.proofs.Alike.{plain-one}
 use Rattle.recode.specs.Steps.{Puts}
 
@@ -33,22 +33,15 @@ use Rattle.recode.specs.Steps.{Puts}
 -- A plain byte is written as itself by every rule.
 plain-written : (r : Rule) (b : ℕ) → IsPlain 0 0 b → enc_of r b ≡ b ∷ []
 plain-written modified b p = sb-low b (omega (arith, p.low)) ∙ ub-one b p.some p.low
-plain-written units b p = sb-low b (omega (arith, p.low)) ∙ ub-one b p.some p.low
 plain-written utf8 b p = u8-one b p.low
 
--- A character is no larger than the largest scalar value.
-char-bound : (r : Rule) (c : ℕ) → IsChar r c → c < 1114112
-char-bound modified c h = h.1
-char-bound units c h = omega arith
-char-bound utf8 c h = h.1
+-- One that was read is a scalar value.
+scalar-go : (r : Rule) (l : List ℕ) (x : Sequence) (c n : ℕ) → SoundBy (enc_of r) l x → x ≡ is c n → c < 1114112
+scalar-go r l stuck c n s e = let z : ◌≡◌ {A = ℕ} 0 1 = cc in absurd (omega arith)
+scalar-go r l (is d m) c n s e = let p : d ≡ c = cc in rw p at s.0.1
 
--- So is one that was read.
-bound-go : (r : Rule) (l : List ℕ) (x : Sequence) (c n : ℕ) → SoundBy (IsChar r) (enc_of r) l x → x ≡ is c n → c < 1114112
-bound-go r l stuck c n s e = let z : ◌≡◌ {A = ℕ} 0 1 = cc in absurd (omega arith)
-bound-go r l (is d m) c n s e = let p : d ≡ c = cc in rw p at (char-bound r d s.0)
-
-pub read-bound : (r : Rule) (l : List ℕ) (c n : ℕ) → one_of r l ≡ is c n → c < 1114112
-read-bound r l c n e = bound-go r l (one_of r l) c n (char-sound r l) e
+pub scalar : (r : Rule) (l : List ℕ) (c n : ℕ) → one_of r l ≡ is c n → c < 1114112
+scalar r l c n e = scalar-go r l (one_of r l) c n (sound r l) e
 
 -- Behind the last byte there is none.
 none-go : (r : Rule) (x : Sequence) → one_of r [] ≡ x → x ≡ stuck
@@ -90,7 +83,7 @@ module _ (way : Way) (s : List ℕ) where
     pub enough : length s ≤ i + turns
     pub rest : recoded way s ≡ bs ++ ahead turns (drop i s)
 
-  pub come-start : write_alike way.from.strings way.to.strings ≡ false → Come 0 []
+  pub come-start : same_rule way.from.strings way.to.strings ≡ false → Come 0 []
   unfolding recoded chars_in
   come-start e = record { turns = length s; enough = omega arith; rest = rw e refl }
 

@@ -1,7 +1,7 @@
 // Strings and numbers as they are written in another form (02, [2]): a string's characters by the other rule, a number's bytes in the other
 // order. What both forms have alike, runs of plain bytes too, is copied as it stands.
 ghost use Rattle.std.specs.Prelude.{◌≡◌, ◌+◌, ◌*◌, ◌≤◌, ◌<◌, length, false};
-ghost use Rattle.form.specs.Form.{way_no, write_alike};
+ghost use Rattle.form.specs.Form.{way_no, same_rule};
 ghost use Rattle.form.specs.Spans.{part, over};
 ghost use Rattle.form.specs.Turned.{recoded};
 ghost use Rattle.recode.specs.Steps.{Puts, number, each_number, numbers};
@@ -12,7 +12,7 @@ use form::ways;
 
 // How many bytes a string takes as it is written by another rule.
 fn other_length(s: &[u8], way: u32) -> usize
-    requires { (length s.now ≤ 16777216) × (write_alike (way_no way).from.strings (way_no way).to.strings ≡ false) }
+    requires { (length s.now ≤ 16777216) × (same_rule (way_no way).from.strings (way_no way).to.strings ≡ false) }
     ensures { result ≡ length (recoded (way_no way) s.now) }
 {
     let mut i: usize = 0;
@@ -49,7 +49,7 @@ pub fn length(doc: &[u8], start: usize, size: usize, way: u32) -> usize
 
 // Writes a string by another rule, character by character; the place behind it.
 fn put_other(s: &[u8], out: &mut [u8], at: usize, way: u32) -> usize
-    requires { (at + length (recoded (way_no way) s.now) ≤ length out.old) × (write_alike (way_no way).from.strings (way_no way).to.strings ≡ false) }
+    requires { (at + length (recoded (way_no way) s.now) ≤ length out.old) × (same_rule (way_no way).from.strings (way_no way).to.strings ≡ false) }
     ensures { Puts (recoded (way_no way) s.now) out.old at out.new result }
 {
     let mut i: usize = 0;

@@ -11,7 +11,7 @@ use lib.Dec.{eqb}
 use lib.ListN.{length, get_or, drop, length-append}
 use Rattle.form.specs.Answer.{Out, got, no, ◌>>=◌, pick}
 use Rattle.form.specs.Spans.{part, over}
-use Rattle.form.specs.Strings.{encode_by, scalar_bytes, unit_bytes, utf8_bytes, IsScalar}
+use Rattle.form.specs.Strings.{encode_by, scalar_bytes, unit_bytes, utf8_bytes}
 use Rattle.form.specs.Decoding.{Sequence, is, stuck, unit_of, utf8_of}
 use Rattle.form.specs.Writing.{length_of}
 use Rattle.form.proofs.Picks.{lt-or, and-false}
@@ -73,7 +73,7 @@ abbrev Fits : List ℕ → Out Front → Type 0
 Fits l (got x) = FrontFits l x
 Fits l (no n p) = Unit {0}
 
-written-fits : (l : List ℕ) (s : Sequence) → utf8_of l ≡ s → SoundBy IsScalar utf8_bytes l s → Fits l (character_of s)
+written-fits : (l : List ℕ) (s : Sequence) → utf8_of l ≡ s → SoundBy utf8_bytes l s → Fits l (character_of s)
 written-fits l stuck e s = tt
 written-fits l (is c n) e s =
     let f = W.fits utf8 l c n e in

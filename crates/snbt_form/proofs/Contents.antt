@@ -12,10 +12,9 @@ use borrow.Author.Tests.{ltb-true, ltb-false, leb-false, eqb-true}
 use lib.ListN.{drop}
 use Rattle.form.specs.Answer.{Out, got, no, pick, unknown_escape}
 use Rattle.form.specs.Spans.{part}
-use Rattle.form.specs.Strings.{IsScalar, AllOf, WellFormed, utf8_bytes}
+use Rattle.form.specs.Strings.{IsScalar, AllScalar, WellFormed, utf8_bytes}
 use Rattle.form.specs.Decoding.{Sequence, is, stuck, utf8_of}
 use Rattle.form.proofs.Coding.{SoundBy}
-use Rattle.form.proofs.Pairs.{scalars-paired}
 use Rattle.form.proofs.Utf8 as utf8
 use Rattle.form.proofs.Picks.{pick-eq}
 use Rattle.snbt_form.specs.Lexing.{among, Escape, stands, bad, cut, hex_of, hexes, unicode, escape_of, Front, character_of, escaped, front_of, scalars_by, content_of}
@@ -83,7 +82,7 @@ escape-stands (b ∷ l) p =
 abbrev Scalar : Front → Type 0
 Scalar x = IsScalar x.scalar
 
-written-scalar : (l : List ℕ) (r : Sequence) → SoundBy IsScalar utf8_bytes l r → Gives of_content Scalar (character_of r)
+written-scalar : (l : List ℕ) (r : Sequence) → SoundBy utf8_bytes l r → Gives of_content Scalar (character_of r)
 unfolding among
 written-scalar l (is c n) h = gives-got h.0
 written-scalar l stuck h = gives-no refl
@@ -102,7 +101,7 @@ front-scalar q (b ∷ l) p =
 
 -- ---- a content
 
-scalars-all : (f : ℕ) (q : Bool) (l : List ℕ) (p : ℕ) → Gives of_content (AllOf IsScalar) (scalars_by f q l p)
+scalars-all : (f : ℕ) (q : Bool) (l : List ℕ) (p : ℕ) → Gives of_content AllScalar (scalars_by f q l p)
 unfolding scalars_by among
 scalars-all zero q [] p = gives-got tt
 scalars-all zero q (b ∷ l) p = gives-no refl
@@ -114,4 +113,4 @@ scalars-all (suc f) q (b ∷ l) p =
 -- A content is well formed.
 pub content-formed : (t : List ℕ) (q : Bool) (a e : ℕ) → Gives of_content WellFormed (content_of t q a e)
 unfolding content_of
-content-formed t q a e = gives-bind (scalars_by (e - a) q (part t a (e - a)) a) _ (scalars-all (e - a) q (part t a (e - a)) a) (λ cs h. gives-got (scalars-paired cs h))
+content-formed t q a e = gives-bind (scalars_by (e - a) q (part t a (e - a)) a) _ (scalars-all (e - a) q (part t a (e - a)) a) (λ cs h. gives-got (cs, h, refl))

@@ -9,8 +9,8 @@ use borrow.Author.Tests.{lt-ltb, le-leb, lt-leb, leb-true}
 use lib.Dec.{leb, ltb, eqb}
 use lib.ListN.{length, get_or, get_or-eq_default}
 use Rattle.form.specs.Answer.{no, pick, guard, text_limit, over_limit, bad_text}
-use Rattle.form.specs.Form.{utf8}
-use Rattle.form.specs.Decoding.{utf8_verdict, is_good, Judged}
+use Rattle.form.specs.Strings.{utf8_bytes}
+use Rattle.form.specs.Decoding.{utf8_of, utf8_verdict, is_good, Judged}
 use Rattle.form.proofs.Picks.{and_left, and_right}
 use Rattle.mutf8.specs.declared.Checked.{Checked}
 use Rattle.mutf8.specs.Answers.{verdict_of}
@@ -32,7 +32,7 @@ unfolding judged_text
 text-long t h = rw (lt-leb (length t) text_limit h) refl
 
 -- by what a call answered
-pub text-judged : (t : List ℕ) (r v : Checked) → length t ≤ text_limit → Judged utf8 t (verdict_of r) → r ≡ v
+pub text-judged : (t : List ℕ) (r v : Checked) → length t ≤ text_limit → Judged utf8_bytes utf8_of t (verdict_of r) → r ≡ v
     → guard (is_good (verdict_of v)) bad_text 0 ≡ judged_text t
 unfolding judged_text
 text-judged t r v h j e =

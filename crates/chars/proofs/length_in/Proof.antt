@@ -1,9 +1,7 @@
 -- Right by the rule of the form, which is told by the test of it.
 -- Assumes nothing.
-use mathlib.Core.Path.{sym, ap, ◌∙◌}
+use mathlib.Core.Path.{sym, ◌∙◌}
 use borrow.Author.Rules.{rules}
-use lib.ListN.{length}
-use Rattle.form.proofs.Between.{java-writes}
 use Rattle.chars.proofs.length_in.Statement.{statement}
 use Rattle.chars.proofs.length_in.Tie as tie
 
@@ -15,8 +13,7 @@ returns c =
 returns-2 : tie.Need-returns-2
 returns-2 c =
     let at_test = c.before.before in
-    let a = at_test.before.args in
-    c.length-of.ensures ∙ sym (ap (λ enc. length (enc a.c)) (java-writes a.form (sym at_test.is-pocket.ensures ∙ c.before.if1.false)))
+    rw (sym at_test.is-pocket.ensures ∙ c.before.if1.false) c.length-of.ensures
 
 pub length-in-spec : {M : Type 1} → statement M
 length-in-spec =

@@ -1,14 +1,12 @@
 -- Right by the rule of the form, which is told by the test of it; the room is there, so that a value of modified UTF-8 is written too.
 -- Assumes nothing.
 use mathlib.Core.Path.{◌≡◌, sym, ap, ◌∙◌}
-use mathlib.Core.Bool.{true}
+use mathlib.Core.Bool.{true, false}
 use Prim.Native.Nat.{◌+◌, ◌≤◌}
 use borrow.Author.Rules.{rules}
 use lib.Dec.{eqb}
 use lib.ListN.{length}
-use Rattle.form.specs.Form.{form_no}
-use Rattle.form.specs.Strings.{utf8_bytes, scalar_bytes, enc_of}
-use Rattle.form.proofs.Between.{java-writes}
+use Rattle.form.specs.Strings.{utf8_bytes, scalar_bytes}
 use Rattle.chars.proofs.Puts.{wrote-room}
 use Rattle.chars.proofs.put_in.Statement.{statement}
 use Rattle.chars.proofs.put_in.Tie as tie
@@ -20,12 +18,12 @@ sized_of c = c.before
 abbrev start_of : tie.After-is-pocket → tie.Start
 start_of c = (sized_of c).before.before
 
--- the form is the pocket edition's, or it writes as Java does
+-- the form is the pocket edition's, or it is not
 pocket : (c : tie.Then1) → eqb (start_of c.before).args.form 2 ≡ true
 pocket c = sym c.before.is-pocket.ensures ∙ c.if1.true
 
-other : (c : tie.Else1) → enc_of (form_no (start_of c.before).args.form).strings ≡ scalar_bytes
-other c = java-writes (start_of c.before).args.form (sym c.before.is-pocket.ensures ∙ c.if1.false)
+other : (c : tie.Else1) → eqb (start_of c.before).args.form 2 ≡ false
+other c = sym c.before.is-pocket.ensures ∙ c.if1.false
 
 -- so the room is for the bytes of that rule
 pocket-room : (c : tie.Then1) → let a = (start_of c.before).args in a.at + length (utf8_bytes a.c) ≤ length a.out.now

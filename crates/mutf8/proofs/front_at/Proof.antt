@@ -1,21 +1,22 @@
--- Right by the reader of each rule, which is told by the test of the form; of Java's two rules the value that was read tells how many bytes
+-- Right by the reader of each rule, which is told by the test of the form; in modified UTF-8 the value that was read tells how many bytes
 -- it takes.
 -- Assumes nothing.
 use mathlib.Core.Path.{◌≡◌, sym, ap, ◌∙◌}
 use mathlib.Core.Bool.{false}
 use borrow.Author.Rules.{rules}
 use lib.Dec.{eqb}
+use Rattle.form.specs.Form.{modified}
 use Rattle.form.specs.Decoding.{is}
 use Rattle.chars.proofs.Fronts.{told}
-use Rattle.mutf8.proofs.Codings.{java-width}
+use Rattle.mutf8.proofs.Codings.{width}
 use Rattle.mutf8.proofs.front_at.Statement.{statement}
 use Rattle.mutf8.proofs.front_at.Tie as tie
 
 -- the test of the form, where it is not the pocket edition's
-abbrev test_of : tie.After-java-at → tie.After-is-pocket
+abbrev test_of : tie.After-scalar-at → tie.After-is-pocket
 test_of c = c.before.before
 
-other : (c : tie.After-java-at) → eqb (test_of c).before.before.args.form 2 ≡ false
+other : (c : tie.After-scalar-at) → eqb (test_of c).before.before.args.form 2 ≡ false
 other c = sym (test_of c).is-pocket.ensures ∙ c.before.if1.false
 
 pub front-at-spec : {M : Type 1} → statement M
@@ -29,6 +30,6 @@ front-at-spec =
     (λ c. search rules)
     (λ c κs. search rules)
     (λ c. search rules)
-    (λ c. let v = c.before.before in let r = v.before.before in let e = told _ r.java-at.ensures v.c.given.1 in
-    rw (other r, e) (ap (is v.c.given.0.0) (c.length-of.ensures ∙ sym (java-width (test_of r).before.before.args.form _ _ _ e))))
-    (λ c. let r = c.before.before in rw (other r) (sym (told _ r.java-at.ensures c.enum_told.given.1))))
+    (λ c. let v = c.before.before in let r = v.before.before in let e = told _ r.scalar-at.ensures v.c.given.1 in
+    rw (other r, e) (ap (is v.c.given.0.0) (c.length-of.ensures ∙ sym (width modified _ _ _ e))))
+    (λ c. let r = c.before.before in rw (other r) (sym (told _ r.scalar-at.ensures c.enum_told.given.1))))

@@ -6,7 +6,7 @@ use mathlib.Core.Bool.{false}
 use native.Mathlib.Omega.{arith}
 use borrow.Author.Rules.{rules}
 use lib.ListN.{length}
-use Rattle.form.specs.Form.{way_no, write_alike}
+use Rattle.form.specs.Form.{way_no, same_rule}
 use Rattle.form.specs.Spans.{part}
 use Rattle.form.proofs.Spans.{part_length}
 use Rattle.form.proofs.Turned.{recoded-same}
@@ -24,7 +24,7 @@ sized c = let a = (start_of c).args in part_length a.doc.now a.start a.size (sta
 ended : (c : tie.After-same-rule) → let a = (start_of c).args in a.start + a.size - a.start ≡ a.size
 ended c = omega arith
 
-other : (c : tie.Else1) → let way = way_no (start_of c.before).args.way in write_alike way.from.strings way.to.strings ≡ false
+other : (c : tie.Else1) → let way = way_no (start_of c.before).args.way in same_rule way.from.strings way.to.strings ≡ false
 other c = sym c.before.same-rule.ensures ∙ c.if1.false
 
 returns : tie.Need-returns

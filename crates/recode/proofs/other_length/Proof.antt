@@ -13,7 +13,7 @@ use Rattle.form.specs.Spans.{part}
 use Rattle.form.proofs.Spans.{part_length}
 use Rattle.form.proofs.Turned.{enc-size}
 use Rattle.form.proofs.Walks as W
-use Rattle.form.proofs.Strings.{coding_of}
+use Rattle.mutf8.proofs.Codings.{coding_of}
 use Rattle.recode.proofs.Characters.{front, Come, come-start, come-more, come-run, come-stuck, come-end}
 use Rattle.recode.proofs.other_length.Statement.{statement}
 use Rattle.recode.proofs.other_length.Tie as tie

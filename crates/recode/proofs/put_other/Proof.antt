@@ -12,10 +12,10 @@ use Rattle.form.specs.Decoding.{is, one_of}
 use Rattle.form.specs.Spans.{part}
 use Rattle.form.proofs.Spans.{part_length}
 use Rattle.form.proofs.Walks as W
-use Rattle.form.proofs.Strings.{coding_of}
+use Rattle.mutf8.proofs.Codings.{coding_of}
 use Rattle.recode.specs.Steps.{Puts}
 use Rattle.recode.proofs.Outputs.{copied, puts_none, puts-length, puts-more}
-use Rattle.recode.proofs.Characters.{read-bound, front, wrote, Come, come-start, come-more, come-run, come-length, come-stuck, come-end}
+use Rattle.recode.proofs.Characters.{scalar, front, wrote, Come, come-start, come-more, come-run, come-length, come-stuck, come-end}
 use Rattle.recode.proofs.put_other.Statement.{statement}
 use Rattle.recode.proofs.put_other.Tie as tie
 
@@ -134,7 +134,7 @@ put-in-requires c κs =
     let size = ap (λ n. length (enc_of (form_no n).strings char)) c.target.ensures in
     let more = come-length way a.s.now _ _ (further v) in
     let sum = length-append bs (enc_of way.to.strings char) in
-    (read-bound way.from.strings _ char _ (read v), omega (arith, size, more, sum, l.loop.inv.2.next, start.pre.0, long l))
+    (scalar way.from.strings _ char _ (read v), omega (arith, size, more, sum, l.loop.inv.2.next, start.pre.0, long l))
 
 -- a run of plain bytes more
 loop-again : tie.Need-loop-preserved invariant-loop decreases-loop

@@ -6,7 +6,7 @@ use mathlib.Core.Bool.{false}
 use native.Mathlib.Omega.{arith}
 use borrow.Author.Rules.{rules}
 use lib.ListN.{length}
-use Rattle.form.specs.Form.{way_no, write_alike}
+use Rattle.form.specs.Form.{way_no, same_rule}
 use Rattle.form.specs.Spans.{part}
 use Rattle.form.specs.Turned.{recoded}
 use Rattle.form.proofs.Spans.{part_length}
@@ -25,7 +25,7 @@ as_is c =
     recoded-same (way_no a.way) (part a.doc.now a.start a.size) (sym c.before.same-rule.ensures ∙ c.if1.true)
 
 -- or it is not
-other : (c : tie.Else1) → let way = way_no (start_of c.before).args.way in write_alike way.from.strings way.to.strings ≡ false
+other : (c : tie.Else1) → let way = way_no (start_of c.before).args.way in same_rule way.from.strings way.to.strings ≡ false
 other c = sym c.before.same-rule.ensures ∙ c.if1.false
 
 -- where the span is given by its end too

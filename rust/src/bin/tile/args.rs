@@ -2,7 +2,7 @@
 use std::collections::HashSet;
 use std::ffi::{OsStr, OsString};
 use std::path::{Path, PathBuf};
-use tikfazrul::{Fault, Form, Query};
+use tikfazrul::{Form, Query};
 
 #[derive(Clone, Copy, PartialEq, Eq)]
 pub enum Command {
@@ -67,9 +67,6 @@ tile: looks into NBT documents, with every answer from a proved library.
                 (check); of a folder, its NAME.lines
   --pocket      documents are in the pocket edition's form: numbers little-endian, strings in UTF-8 (list, check, query, write, rescue,
                 lines; convert --to java takes them so by itself); a level file's eight bytes before the document are passed over
-  --units       documents have Java's own strings: 16-bit units, of which half of a surrogate pair may stand alone, as where a text was
-                cut between the two; it is shown as an escape, \\ud83d (list, check, query, write, rescue, lines; convert --to pocket, which
-                refuses it)
   --to FORM     the form that documents are converted into, pocket or java; they are in the other (convert)
   --length N    how many bytes the document has that the lines to be moved are of (lines --up and --down)
   --in-place    the moved lines take the place of the old ones, in the same file (lines --up and --down)
@@ -87,15 +84,13 @@ Try, on the samples:
   tile check samples/*.nbt
   tile query 'root/Tiles[3]/**/SceneId' samples/mosaic.nbt
   tile list --pocket samples/pocket-reef.nbt
-  tile list --units samples/cut-sign.nbt
 ";
 
 const ABOUT_LIST: &str = "\
-tile list [--pocket | --units] [--json] [--full] [--lines FILE] FILE…
+tile list [--pocket] [--json] [--full] [--lines FILE] FILE…
 
 Lists every tag in file order: its record in the table, its kind, its name (indented by level; [n] for a list's elements) and its value.
 Names with blanks or other odd characters stand in quotes, as a path wants them. Long strings and arrays are cut unless --full is given.
-With --units, half of a surrogate pair that stands alone in a name or a string is an escape, \\ud83d, in quotes; so it is with --json.
 With --json each has its path too, and the record of its parent: null for the root, which has none.
 With --lines the table is not read but taken from lines, which must be the document's own: tile lines --help tells more.
 
@@ -104,11 +99,10 @@ With --lines the table is not read but taken from lines, which must be the docum
 ";
 
 const ABOUT_CHECK: &str = "\
-tile check [--pocket | --units] [--json] [--lines FILE] FILE…
+tile check [--pocket] [--json] [--lines FILE] FILE…
 
 Says of each file whether it is a lawful document, in Java's form or, with --pocket, in the pocket edition's: numbers, counts and lengths
-little-endian, strings in UTF-8. With --units it may have Java's own strings, 16-bit units of which half of a surrogate pair may stand
-alone; all else is as in Java's form. Where it is refused so and accepted otherwise, this is said too; with --json, accepted_in.
+little-endian, strings in UTF-8. Where it is refused in that form and accepted in the other, this is said too; with --json, accepted_in.
 
 A refusal has a number, words, a place, and the bytes around the place with a mark below it. Of a name or a string that can't be read, all
 bytes of the broken character are marked, and the path tells which it is; with --json, path, part (string, name or root name; a name has
@@ -123,12 +117,11 @@ them: they are places in the file.
   tile check samples/second-origin.nbt
   tile check samples/broken-character.nbt
   tile check --pocket samples/pocket-*.nbt
-  tile check --units samples/cut-sign.nbt
   find world -name '*.dat' -print0 | xargs -0 tile check >report.txt
 ";
 
 const ABOUT_QUERY: &str = "\
-tile query [--pocket | --units] [--json] [--full] [--lines FILE] PATH FILE…
+tile query [--pocket] [--json] [--full] [--lines FILE] PATH FILE…
 
 Shows the tags that a path leads to, in file order, each with its own path, which tells what it sits in. A path begins at the root; its
 steps are parted by /:
@@ -140,13 +133,11 @@ steps are parted by /:
   **            zero or more levels, whatever they are
 
 The first step may be root, the root tag itself, whatever its name. Sixteen steps at the most. Array elements are not tags.
-Two escapes that are a surrogate pair are one character. Half of a pair that stands alone, \\ud83d, is in names with --units only.
 With --json each match has its record in the table too, and that of its parent: null for the root, which has none.
 With --lines the table is not read but taken from lines, which must be the document's own: tile lines --help tells more.
 
   tile query 'Tiles[3]/Scene' samples/mosaic.nbt
   tile query 'root/**/SceneId' samples/*.nbt
-  tile query --units '**/\"Dive at reef 7\\ud83d\"' samples/cut-sign.nbt
   tile query --json '**/Clouds' samples/mosaic.nbt | jq '.matches[] | [.record, .parent]'
 ";
 
@@ -160,7 +151,7 @@ Makes a document of a text (SNBT), with an empty root name. Nothing is written i
 ";
 
 const ABOUT_WRITE: &str = "\
-tile write [--pocket | --units] [--lines FILE] FILE -o FILE
+tile write [--pocket] [--lines FILE] FILE -o FILE
 
 Reads a document and writes it again, in the form that it is in: inflated, without bytes that follow the root or, in a level file, that
 stand before it, with the id of empty lists 0. Nothing is written if the document is refused. With --lines the table is not read but taken
@@ -176,7 +167,6 @@ Writes a document in the other form with all values kept: with --to pocket one t
 pocket edition's, for which --pocket need not be said. Integers stay the same integers, floats the same bits, and strings the same
 characters, which may take more bytes or fewer: U+0000 is C0 80 in Java's form and 00 in the pocket edition's, a character above U+FFFF six
 bytes and four. So a name or string of the pocket edition's form may be too long for Java's, over 65,535 bytes: it is refused with 12.
-A conversion stays with whole characters: half of a surrogate pair that stands alone, which --units takes elsewhere, is refused with 4.
 
 What is written is a document alone: inflated, without bytes that follow the root, with the id of empty lists 0, and without the eight
 bytes that a level file has before its document. With --to java they are passed over; with --to pocket none are made. Nothing is written of
@@ -189,7 +179,7 @@ form, so --to pocket takes it too. Several files are saved in a folder, under th
 ";
 
 const ABOUT_RESCUE: &str = "\
-tile rescue [--pocket | --units] [--json] FILE… -o FILE
+tile rescue [--pocket] [--json] FILE… -o FILE
 
 Makes a whole document of one that was cut in transfer, in the form that it is in and without a level file's eight bytes before it: with
 every tag that came whole, in file order and with the value it had. Says which lists and compounds were open where the data ends, how many
@@ -202,14 +192,14 @@ files are saved in a folder, under their own names without .gz.
 ";
 
 const ABOUT_LINES: &str = "\
-tile lines [--pocket | --units] [--lines FILE] FILE… [-o FILE]
+tile lines [--pocket] [--lines FILE] FILE… [-o FILE]
 tile lines --up|--down --length N FILE… [-o FILE | --in-place]
 
 Writes a document's table as lines, to be kept: for each tag the nine words of its record, each as eight digits 0 to 9 and a to f, and a
 line feed. They go to standard output unless -o says where. A folder holds them as NAME.lines, NAME being the file's own name without .gz;
 several files want one. Nothing is written of a document that is refused, and nothing over the document itself. Lines don't tell the
-document's form: where --pocket or --units goes with the document, it goes with them too. They count bytes of the document, so not a level
-file's eight bytes before it.
+document's form: where it is the pocket edition's, --pocket goes with them too. They count bytes of the document, so not a level file's
+eight bytes before it.
 
 With --lines, list, query, write, convert and lines take the table from such lines and do not read the document; of a folder, from its
 NAME.lines. Lines that are bad, or that form no table over a document of this length, are refused: exit status 1. No more than that is
@@ -338,8 +328,7 @@ fn options(args: &mut Args, mut words: impl Iterator<Item = OsString>) -> Result
             Some("--json") => args.json = true,
             Some("--full") => args.full = true,
             Some("--line") => args.line = true,
-            Some("--pocket") => args.form = chosen(args.form, Form::Pocket)?,
-            Some("--units") => args.form = chosen(args.form, Form::Units)?,
+            Some("--pocket") => args.form = Form::Pocket,
             Some("--to") => args.to = Some(form(words.next())?),
             Some("-o" | "--output") => args.out = Some(given(words.next(), "-o wants a file")?),
             Some("--up") => way(args, Way::Up)?,
@@ -356,23 +345,6 @@ fn options(args: &mut Args, mut words: impl Iterator<Item = OsString>) -> Result
 
 fn given(word: Option<OsString>, wanted: &str) -> Result<OsString, Instead> {
     word.map_or_else(|| fault(wanted.to_owned()), Ok)
-}
-
-/// The form that an option says, if none has said another.
-fn chosen(before: Form, form: Form) -> Result<Form, Instead> {
-    match before == Form::Java || before == form {
-        true => Ok(form),
-        false => fault("documents are in the pocket edition's form (--pocket) or have Java's own strings (--units), not both".to_owned()),
-    }
-}
-
-/// The option that says that documents are in a form; none is wanted for Java's.
-pub fn option(form: Form) -> &'static str {
-    match form {
-        Form::Java => "",
-        Form::Units => "--units",
-        Form::Pocket => "--pocket",
-    }
 }
 
 fn way(args: &mut Args, way: Way) -> Result<(), Instead> {
@@ -408,12 +380,8 @@ fn conversion(args: &mut Args) -> Result<(), Instead> {
             "--to pocket takes documents in Java's form, so --pocket has no place beside it: tile write --pocket writes one again"
                 .to_owned(),
         ),
-        (Command::Convert, Some(Form::Pocket)) => Ok(()),
-        (Command::Convert, Some(_)) if args.form == Form::Units => {
-            fault("--to java takes documents in the pocket edition's form, so --units has no place beside it".to_owned())
-        }
-        (Command::Convert, Some(_)) => {
-            args.form = Form::Pocket;
+        (Command::Convert, Some(to)) => {
+            args.form = other(to);
             Ok(())
         }
         (_, Some(_)) => fault("--to goes with convert".to_owned()),
@@ -421,10 +389,10 @@ fn conversion(args: &mut Args) -> Result<(), Instead> {
     }
 }
 
-/// The form that a document in this one is converted into.
+/// The other form.
 pub fn other(form: Form) -> Form {
     match form {
-        Form::Java | Form::Units => Form::Pocket,
+        Form::Java => Form::Pocket,
         Form::Pocket => Form::Java,
     }
 }
@@ -443,11 +411,7 @@ fn path(args: &mut Args) -> Result<(), Instead> {
     };
     match Query::parse_in(args.form, path) {
         Ok(query) => args.query = query,
-        Err(error) => {
-            let takes = error.fault() == Fault::Half && args.form == Form::Java;
-            let way_out = if takes { "\n--units takes such names" } else { "" };
-            return Err(Instead::Fault(format!("the path can't be read: {error}{way_out}")));
-        }
+        Err(error) => return Err(Instead::Fault(format!("the path can't be read: {error}"))),
     }
     Ok(())
 }
@@ -576,8 +540,7 @@ fn moves(args: &Args) -> Result<(), Instead> {
         return fault(format!("{way} takes each file itself as lines, so --lines has no place beside it"));
     }
     if args.form != Form::Java {
-        let option = option(args.form);
-        return fault(format!("{way} takes lines, which are the same in each form, so {option} has no place beside it"));
+        return fault(format!("{way} takes lines, which are the same in each form, so --pocket has no place beside it"));
     }
     if args.length.is_none() {
         return fault(format!("{way} wants to know how many bytes the document has: --length N"));
@@ -616,7 +579,7 @@ fn complete(args: Args) -> Result<Args, Instead> {
         return fault("--lines goes with list, check, query, write, convert and lines".to_owned());
     }
     if args.form != Form::Java && !args.command.takes_documents() {
-        return fault(format!("{} goes with list, check, query, write, convert, rescue and lines", option(args.form)));
+        return fault("--pocket goes with list, check, query, write, convert, rescue and lines".to_owned());
     }
     moves(&args)?;
     if args.files.is_empty() {

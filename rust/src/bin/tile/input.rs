@@ -1,4 +1,5 @@
 //! Files and standard input, inflated where they are gzip'd.
+use crate::args::other;
 use crate::head::{Head, HEAD};
 use std::ffi::OsStr;
 use std::fs::File;
@@ -14,9 +15,8 @@ pub enum Trouble {
     Packed(String),
     /// The library refuses the document in it; the place counts the document's bytes.
     Refused(Refusal, Input),
-    /// The library refuses to convert this name or string of the document in it: it is too long in the form to be written, or half of a pair
-    /// stands alone in it.
-    Unconverted(Refusal, Input, Box<Broken>),
+    /// The library refuses to write this name or string of the document in it, which is too long in the form to be written.
+    Long(Refusal, Input, Box<Broken>),
     /// It is a level file of the pocket edition, and to be converted into that form.
     Level,
     /// The library refuses it as a text; with the bytes that the place counts.
@@ -42,10 +42,10 @@ impl Trouble {
         Trouble::Io(format!("can't be written: {error}"))
     }
 
-    /// Another form, if the document that is refused is accepted in that.
+    /// The other form, if the document that is refused is accepted in that.
     pub fn other_form(&self) -> Option<Form> {
         match self {
-            // whole in one form, there is nothing to rescue in another
+            // whole in one form, there is nothing to rescue in the other
             Trouble::Refused(Refusal::NotCut(_), _) => None,
             Trouble::Refused(_, input) => input.other_form(),
             _ => None,
@@ -94,29 +94,20 @@ impl Input {
         &self.bytes[self.before()..]
     }
 
-    /// Another form, if a document in that is accepted.
+    /// The other form, if a document in that is accepted.
     pub fn other_form(&self) -> Option<Form> {
         // of a level file Java's form takes the version 10 alone, as a root without a tag
         if self.head.is_some() {
             return None;
         }
-        // 02, [5]: what Java's form takes its units take too, so of the two that one is named that asks for no option
-        let others: &[Form] = match self.form {
-            Form::Java => &[Form::Units, Form::Pocket],
-            Form::Units => &[Form::Pocket],
-            Form::Pocket => &[Form::Java, Form::Units],
-        };
-        others.iter().copied().find(|&other| self.is_accepted(other))
-    }
-
-    fn is_accepted(&self, form: Form) -> bool {
-        let before = self.head_in(form).map_or(0, |_| HEAD);
-        read_in(form, &self.bytes[before..]).is_ok()
+        let other = other(self.form);
+        let before = self.head_in(other).map_or(0, |_| HEAD);
+        read_in(other, &self.bytes[before..]).is_ok().then_some(other)
     }
 
     /// Whether it is taken for one of Java's form, and begins as a level file of the pocket edition does.
     pub fn is_level_file(&self) -> bool {
-        self.form != Form::Pocket && self.head_in(Form::Pocket).is_some()
+        self.form == Form::Java && self.head_in(Form::Pocket).is_some()
     }
 }
 

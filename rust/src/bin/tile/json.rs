@@ -3,37 +3,24 @@ use crate::head::Head;
 use crate::input::{Input, Trouble};
 use crate::load::Loaded;
 use crate::show;
-use std::borrow::Cow;
-use std::char::DecodeUtf16Error;
 use std::fmt::Write;
-use tikfazrul::{mutf8, Broken, Change, Form, Kind, Node, Part, Place, Refusal, Rescued, Trail};
+use tikfazrul::{Broken, Change, Form, Kind, Node, Part, Place, Refusal, Rescued, Trail};
 
 pub fn string(text: &str) -> String {
-    in_quotes(text.chars().map(Ok))
-}
-
-/// A name or a string of a document, as text, or by its units where half of a pair stands alone in it; null for one that can't be read, as only
-/// tables from lines have.
-fn text_or_units(text: Option<Cow<str>>, units: impl FnOnce() -> Option<Vec<u16>>) -> String {
-    match text {
-        Some(text) => string(&text),
-        None => units().map_or("null".to_owned(), |units| in_quotes(char::decode_utf16(units))),
-    }
-}
-
-fn in_quotes(text: impl Iterator<Item = Result<char, DecodeUtf16Error>>) -> String {
     let mut json = String::from("\"");
-    for character in text {
-        match character {
-            Ok(c @ ('"' | '\\')) => json.extend(['\\', c]),
-            Ok(c) if c.is_control() => write!(json, "\\u{:04X}", c as u32).expect("a String takes all"),
-            Ok(c) => json.push(c),
-            Err(half) => json.push_str(&mutf8::escape(half.unpaired_surrogate())),
+    for c in text.chars() {
+        match c {
+            '"' | '\\' => json.extend(['\\', c]),
+            c if c.is_control() => write!(json, "\\u{:04X}", c as u32).expect("a String takes all"),
+            c => json.push(c),
         }
     }
     json.push('"');
     json
 }
+
+/// What a string or a name is that can't be read, as only tables from lines have.
+const UNREADABLE: &str = "null";
 
 /// JSON has no NaN and no infinities: they are strings.
 fn float(finite: bool, shown: String) -> String {
@@ -47,7 +34,7 @@ fn float(finite: bool, shown: String) -> String {
 fn value(node: &Node) -> Option<String> {
     match node.kind() {
         Kind::Compound | Kind::List => None,
-        Kind::String => Some(text_or_units(node.as_str(), || node.units())),
+        Kind::String => Some(node.as_str().map_or(UNREADABLE.to_owned(), |text| string(&text))),
         Kind::Float => node.as_f32().map(|n| float(n.is_finite(), format!("{n:?}"))),
         Kind::Double => node.as_f64().map(|n| float(n.is_finite(), format!("{n:?}"))),
         Kind::ByteArray | Kind::IntArray | Kind::LongArray => {
@@ -64,7 +51,7 @@ pub fn node(node: &Node, path: &str) -> String {
     let (record, path, kind) = (node.record(), string(path), string(node.kind().tag_name()));
     let mut json = format!("{{\"record\":{record},\"parent\":{parent},\"path\":{path},\"kind\":{kind}");
     if node.name_bytes().is_some() {
-        json += &format!(",\"name\":{}", text_or_units(node.name(), || node.name_units()));
+        json += &format!(",\"name\":{}", node.name().map_or(UNREADABLE.to_owned(), |name| string(&name)));
     }
     match value(node) {
         Some(value) => json += &format!(",\"value\":{value}"),
@@ -103,18 +90,17 @@ pub fn file(name: &str, ok: bool, more: &str) -> String {
 /// The form of a document that is not in Java's, and what stands before it in a level file; a comma behind each.
 pub fn form(input: &Input) -> String {
     let form = match input.form {
-        Form::Java => String::new(),
-        form => format!("\"form\":{},", string(form_name(form))),
+        Form::Java => "",
+        Form::Pocket => "\"form\":\"pocket\",",
     };
     let head = |head: Head| format!("\"level_file\":{{\"version\":{},\"length\":{}}},", head.version, head.length);
-    form + &input.head.map_or(String::new(), head)
+    form.to_owned() + &input.head.map_or(String::new(), head)
 }
 
 /// A form by its name.
 fn form_name(form: Form) -> &'static str {
     match form {
         Form::Java => "java",
-        Form::Units => "units",
         Form::Pocket => "pocket",
     }
 }
@@ -136,8 +122,8 @@ pub fn trouble(trouble: &Trouble) -> String {
         Trouble::Io(words) => format!("\"error\":{}", string(words)),
         Trouble::Packed(words) => format!("\"message\":{}", string(words)),
         Trouble::Level => format!("\"message\":{}{}", string(show::LEVEL), accepted_in(Some(Form::Pocket))),
-        Trouble::Unconverted(refusal, input, string) => {
-            format!("{}{}{}", form(input), refused(refusal, &refusal.to_string()), unreadable(string))
+        Trouble::Long(refusal, input, long) => {
+            format!("{}{}{}", form(input), refused(refusal, &refusal.to_string()), unreadable(long))
         }
         Trouble::Refused(refusal, input) => {
             let broken = refusal.broken(input.document()).map_or(String::new(), |broken| unreadable(&broken));

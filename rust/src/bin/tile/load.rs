@@ -3,7 +3,7 @@ use crate::args::{is_text, Args, Command};
 use crate::input::{self, Input, Trouble};
 use crate::show;
 use std::ffi::OsStr;
-use tikfazrul::{check_string, lines_up, read_in, Broken, Form, Refusal, Table, WORDS};
+use tikfazrul::{lines_up, read_in, Broken, Form, Refusal, Table, WORDS};
 
 /// A document with its table.
 pub struct Loaded {
@@ -21,12 +21,12 @@ impl Loaded {
         }
     }
 
-    /// What is refused of a table that was taken from lines is the lines' fault, but for a string that only a conversion refuses.
+    /// What is refused of a table that was taken from lines is the lines' fault, but for a string that is too long in the form to be written.
     pub fn refused(&self, refusal: Refusal) -> Trouble {
         let before = self.input.before();
         match (&self.lines, refusal.broken_in(self.input.document(), &self.table)) {
-            (_, Some(string)) if self.is_good_here(&refusal, &string) => {
-                Trouble::Unconverted(refusal, self.input.clone(), Box::new(string))
+            (_, Some(long)) if matches!(refusal, Refusal::StringTooLongInJava(_)) => {
+                Trouble::Long(refusal, self.input.clone(), Box::new(long))
             }
             (Some(lines), Some(broken)) => {
                 let broken = Broken { bytes: broken.bytes.start + before..broken.bytes.end + before, ..broken };
@@ -35,12 +35,6 @@ impl Loaded {
             (Some(lines), None) => Trouble::Lines(lines.clone(), refusal, Vec::new()),
             (None, _) => Trouble::Refused(refusal, self.input.clone()),
         }
-    }
-
-    /// Whether nothing is wrong with a string in the form that the document is in: it is too long in another, or has half of a pair.
-    fn is_good_here(&self, refusal: &Refusal, string: &Broken) -> bool {
-        let half = || self.input.form == Form::Units && check_string(Form::Units, &self.input.document()[string.bytes.clone()]).is_ok();
-        matches!(refusal, Refusal::StringTooLongInJava(_)) || half()
     }
 }
 
@@ -70,8 +64,7 @@ fn document(args: &Args, file: &OsStr) -> Result<Input, Trouble> {
         Command::Convert => "tile text writes it",
         _ => "",
     };
-    // in Java's units it is the same document
-    if args.form == Form::Pocket && !way_out.is_empty() {
+    if args.form != Form::Java && !way_out.is_empty() {
         return Err(Trouble::Io(format!("is a text, which makes a document in Java's form: {way_out}")));
     }
     Ok(Input::plain(input::raw(file).and_then(parsed)?))

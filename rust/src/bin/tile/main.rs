@@ -9,7 +9,7 @@ mod moves;
 mod progress;
 mod show;
 
-use args::{option, Args, Command, Instead};
+use args::{Args, Command, Instead};
 use input::{Input, Trouble};
 use load::{load, Loaded};
 use show::name;
@@ -84,41 +84,23 @@ fn complaint(args: &Args, file: &OsStr, trouble: &Trouble, said: &mut Vec<u8>) -
         writeln!(said, "{}", json::file(&file.to_string_lossy(), false, &json::trouble(trouble)))?;
         return Ok(None);
     }
-    let hint = match trouble.other_form() {
-        Some(form) => Some(show::accepted_in(form, args)),
-        None => rescue(args, file, trouble),
-    };
-    let hint = hint.map_or(String::new(), |hint| format!("\n{hint}"));
+    let other = trouble.other_form();
+    let hint = other.map_or(String::new(), |form| format!("\n{}", show::accepted_in(form, args.to.is_some())));
     let words = format!("{}: {}{hint}", name(file), show::trouble(trouble)).replace('\n', "\n  ");
     if args.command == Command::Check && !matches!(trouble, Trouble::Io(_)) {
         writeln!(said, "{words}")?;
+        if other.is_none() && can_be_rescued(trouble) {
+            let file = if file == "-" { "-".to_owned() } else { name(file) };
+            let pocket = if args.form == Form::Pocket { "--pocket " } else { "" };
+            writeln!(said, "  tile rescue {pocket}{file} -o … saves the tags that came whole")?;
+        }
         return Ok(None);
     }
     Ok(Some(words))
 }
 
-/// Which rescue saves something of a document that is cut. To a rescue that is refused this tells of another form.
-fn rescue(args: &Args, file: &OsStr, trouble: &Trouble) -> Option<String> {
-    if !matches!(args.command, Command::Check | Command::Rescue) {
-        return None;
-    }
-    let file = if file == "-" { "-".to_owned() } else { name(file) };
-    let words = match rescued_in(trouble)? {
-        Form::Java => format!("tile rescue {file}"),
-        form => format!("tile rescue {} {file}", option(form)),
-    };
-    Some(format!("{words} -o … saves the tags that came whole"))
-}
-
-/// The form in which a document can be rescued that is cut.
-fn rescued_in(trouble: &Trouble) -> Option<Form> {
-    let (form, input) = match trouble {
-        Trouble::Refused(Refusal::DataEnds(_), input) => (input.form, input),
-        // 02, [5]: refused for half of a pair before the cut is found
-        Trouble::Refused(Refusal::InvalidString(_), input) => (Form::Units, input),
-        _ => return None,
-    };
-    rescue_in(form, input.document()).is_ok().then_some(form)
+fn can_be_rescued(trouble: &Trouble) -> bool {
+    matches!(trouble, Trouble::Refused(Refusal::DataEnds(_), input) if rescue_in(input.form, input.document()).is_ok())
 }
 
 /// Does what is asked to one file.
@@ -218,14 +200,14 @@ fn report(
     rescued: Option<&Rescued>,
     said: &mut Vec<u8>,
 ) -> Result<(), Trouble> {
-    // what is whole in another form was not cut
+    // what is whole in the other form was not cut
     let other = rescued.and_then(|_| input.other_form());
     if args.json {
         let size = format!("\"bytes\":{bytes},\"count\":{records},\"inflated\":{}", input.inflated);
         let more = format!("{}{size},{}{}", json::form(input), json::open(rescued), json::accepted_in(other));
         return writeln!(said, "{}", json::file(&file.to_string_lossy(), true, &more)).map_err(Trouble::unwritten);
     }
-    let hint = other.map_or(String::new(), |form| format!("\n  {}", show::accepted_in(form, args)));
+    let hint = other.map_or(String::new(), |form| format!("\n  {}", show::accepted_in(form, false)));
     let head = input.head.map_or(String::new(), |head| format!("; {}, and not written", show::passed_over(head)));
     let size = format!("{}{}{head}", show::size(bytes, records), show::gzip(input));
     let words = format!("{}: saved {size}; {}{hint}", name(file), show::open(rescued));

@@ -1,11 +1,9 @@
 //! Tags and refusals in words for people.
-use crate::args::{option, Args};
 use crate::head::Head;
 use crate::input::{Input, Trouble};
-use std::char::DecodeUtf16Error;
 use std::ffi::OsStr;
 use std::io::{self, Write};
-use tikfazrul::{hex, mutf8, quoted, quoted_units, Broken, Change, Form, Kind, Link, Node, Place, Refusal, Rescued};
+use tikfazrul::{hex, quoted, Change, Form, Kind, Link, Node, Place, Refusal, Rescued};
 
 /// How many characters of a string, and elements of an array, are shown unless all are asked for.
 const CHARACTERS: usize = 60;
@@ -17,7 +15,7 @@ const INDENTED: usize = 16;
 
 /// What is shown of a string or a name that can't be, as only tables from lines have.
 fn unreadable(node: &Node) -> String {
-    let rule = if node.form() == Form::Pocket { "UTF-8" } else { "modified UTF-8" };
+    let rule = if node.form() == Form::Java { "modified UTF-8" } else { "UTF-8" };
     format!("(not {rule})")
 }
 
@@ -63,24 +61,18 @@ pub fn passed_over(head: Head) -> String {
 pub fn form(form: Form) -> &'static str {
     match form {
         Form::Java => "Java's form",
-        Form::Units => "Java's units",
         Form::Pocket => "the pocket edition's form",
     }
 }
 
-/// That a conversion does not take half of a pair.
-const WHOLE: &str = "a conversion stays with whole characters";
-
-/// What to do where a document is refused in one form and accepted in this. Where it is to be converted there is nothing to do.
-pub fn accepted_in(accepted: Form, args: &Args) -> String {
-    let instead = if args.form == Form::Java { String::new() } else { format!(" in place of {}", option(args.form)) };
-    match (accepted, args.to) {
-        (Form::Units, Some(Form::Pocket)) => format!("the file is accepted with --units, where half of a pair may stand alone; {WHOLE}"),
-        (Form::Units, None) => format!("the file is accepted with --units{instead}, where half of a pair may stand alone"),
-        (_, Some(_)) => format!("the file is accepted in {}, so there is nothing to convert", form(accepted)),
-        (Form::Java, None) => format!("the file is accepted in Java's form, without {}", option(args.form)),
-        (Form::Pocket, None) => format!("the file is accepted in {}, with --pocket{instead}", form(accepted)),
-    }
+/// What to do where a document is refused in one form and accepted in this, in which it is to be written if it is converted.
+pub fn accepted_in(accepted: Form, converted: bool) -> String {
+    let way_out = match accepted {
+        _ if converted => "so there is nothing to convert",
+        Form::Java => "without --pocket",
+        Form::Pocket => "with --pocket",
+    };
+    format!("the file is accepted in {}, {way_out}", form(accepted))
 }
 
 /// That a level file of the pocket edition is to be converted into that form.
@@ -94,10 +86,7 @@ pub fn value(node: &Node, full: bool) -> String {
             Some(kind) => format!("{} of {kind}", plural(node.len(), "element", "elements")),
             None => "0 elements".to_owned(),
         },
-        Kind::String => match node.as_str() {
-            Some(text) => string(text.chars().map(Ok), full),
-            None => node.units().map_or_else(|| unreadable(node), |units| string(char::decode_utf16(units), full)),
-        },
+        Kind::String => node.as_str().map_or_else(|| unreadable(node), |text| string(&text, full)),
         Kind::Float => format!("{:?}", node.as_f32().unwrap_or_default()),
         Kind::Double => format!("{:?}", node.as_f64().unwrap_or_default()),
         Kind::ByteArray | Kind::IntArray | Kind::LongArray => array(node, full),
@@ -105,32 +94,11 @@ pub fn value(node: &Node, full: bool) -> String {
     }
 }
 
-fn string(text: impl Iterator<Item = Result<char, DecodeUtf16Error>> + Clone, full: bool) -> String {
-    match text.clone().count() {
-        count if count > CHARACTERS && !full => format!("{}… {count} characters", in_quotes(text.take(CHARACTERS))),
-        _ => in_quotes(text),
+fn string(text: &str, full: bool) -> String {
+    match text.char_indices().nth(CHARACTERS) {
+        Some((at, _)) if !full => format!("{:?}… {} characters", &text[..at], text.chars().count()),
+        _ => format!("{text:?}"),
     }
-}
-
-/// Text as Rust shows it, with half of a pair that stands alone as the escape that a path has for it.
-fn in_quotes(text: impl Iterator<Item = Result<char, DecodeUtf16Error>>) -> String {
-    let (mut shown, mut run) = (String::new(), String::new());
-    for character in text {
-        match character {
-            Ok(c) => run.push(c),
-            Err(half) => {
-                shown += &format!("{}{}", escaped(&run), mutf8::escape(half.unpaired_surrogate()));
-                run.clear();
-            }
-        }
-    }
-    format!("\"{shown}{}\"", escaped(&run))
-}
-
-/// Text as Rust shows it, without its quotes.
-fn escaped(text: &str) -> String {
-    let shown = format!("{text:?}");
-    shown[1..shown.len() - 1].to_owned()
 }
 
 fn array(node: &Node, full: bool) -> String {
@@ -142,21 +110,13 @@ fn array(node: &Node, full: bool) -> String {
     format!("[{}]", shown.join(", "))
 }
 
-/// A tag's name as a path has it, where it can be read.
-fn named(node: &Node) -> String {
-    match node.name() {
-        Some(name) => quoted(&name).into_owned(),
-        None => node.name_units().map_or_else(|| unreadable(node), |name| quoted_units(&name)),
-    }
-}
-
 /// A tag's name as a list shows it, indented by its depth.
 fn label(depth: usize, node: &Node) -> String {
     let indent = "  ".repeat(depth.min(INDENTED));
     let deep = if depth > INDENTED { format!("({depth}) ") } else { String::new() };
     match node.link() {
         Link::Element(index) => format!("{indent}{deep}[{index}]"),
-        _ => format!("{indent}{deep}{}", named(node)),
+        _ => format!("{indent}{deep}{}", node.name().map_or_else(|| unreadable(node), |name| quoted(&name).into_owned())),
     }
 }
 
@@ -204,7 +164,7 @@ pub fn trouble(trouble: &Trouble) -> String {
     match trouble {
         Trouble::Io(words) => words.clone(),
         Trouble::Packed(words) => format!("refused: {words}"),
-        Trouble::Unconverted(refusal, input, string) => format!("refused: {}", unconverted(refusal, input, string)),
+        Trouble::Long(refusal, _, long) => format!("refused: {refusal}, {long}"),
         Trouble::Level => format!("refused: {LEVEL}"),
         Trouble::Lines(lines, refusal, bytes) => format!("refused: {}{}", unfit(lines, refusal), window(refusal, bytes)),
         Trouble::Unreadable(lines, refusal, bytes, broken) => {
@@ -238,14 +198,6 @@ fn refused(refusal: &Refusal, input: &Input) -> String {
     let window = refusal.marked(document).map(|bytes| hex::window_of(&input.bytes, bytes.start + before..bytes.end + before));
     let window = window.map_or(String::new(), |window| format!("\n{window}"));
     format!("{}{broken}{head}{window}", refusal.behind(before))
-}
-
-/// Why a document is not converted, which name or string it is, and of half of a pair the bytes.
-fn unconverted(refusal: &Refusal, input: &Input, string: &Broken) -> String {
-    match refusal {
-        Refusal::StringTooLongInJava(_) => format!("{refusal}, {string}"),
-        _ => format!("{refusal}, {string}; {WHOLE}\n{}", hex::window_of(&input.bytes, string.bytes.clone())),
-    }
 }
 
 /// What to look at where lines form no table: the length that they were judged by.

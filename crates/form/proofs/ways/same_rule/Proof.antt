@@ -17,7 +17,7 @@ returns c =
     let way = at_source.before.args.way in
     let first = at_first.is-pocket.ensures ∙ ap (λ n. eqb n 2) at_source.source.ensures in
     let second = c.is-pocket2.ensures ∙ ap (λ n. eqb n 2) at_Target.target.ensures in
-    (λ i. beq (first i) (second i)) ∙ rule-is (eqb (way % 256) 2) (eqb (way / 256) 2) (eqb (way % 256) 1) (eqb (way / 256) 1)
+    (λ i. beq (first i) (second i)) ∙ rule-is (eqb (way % 256) 2) (eqb (way / 256) 2)
 
 pub same-rule-spec : {M : Type 1} → statement M
 same-rule-spec =

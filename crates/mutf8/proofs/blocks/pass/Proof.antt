@@ -1,4 +1,4 @@
--- Right since each block and each end that was passed is of values that all string rules read alike.
+-- Right since each block and each end that was passed is of values that both codings read alike.
 -- Assumes nothing.
 use Prim.Native.Nat.{◌-◌, ◌≤◌}
 use mathlib.Core.Path.{sym, ◌∙◌}

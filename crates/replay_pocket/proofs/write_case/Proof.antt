@@ -1,13 +1,13 @@
--- `replay_cases::rescue_case` is safe: the first bytes, words, bytes of room and words of changes are as many as are asked for.
+-- `replay_pocket::write_case` is safe: the first bytes, words and bytes of room are as many as are asked for.
 -- Assumes nothing.
 use borrow.Author.Rules.{rules}
 use mathlib.Core.Path.{sym}
 use lib.Seq.{length-take-le}
-use Rattle.replay_cases.proofs.rescue_case.Statement.{statement}
-use Rattle.replay_cases.proofs.rescue_case.Tie as tie
+use Rattle.replay_pocket.proofs.write_case.Statement.{statement}
+use Rattle.replay_pocket.proofs.write_case.Tie as tie
 
-pub rescue-case-spec : {M : Type 1} → statement M
-rescue-case-spec =
+pub write-case-spec : {M : Type 1} → statement M
+write-case-spec =
     tie.close
     (tie.spec
     (λ c. sym (length-take-le _ _ (search rules)))
@@ -15,11 +15,8 @@ rescue-case-spec =
     (λ c. sym (length-take-le _ _ (search rules)))
     (λ c. search rules)
     (λ c. sym (length-take-le _ _ (search rules)))
-    (λ c. search rules)
-    (λ c. sym (length-take-le _ _ (search rules)))
     (λ c κs. search rules)
     (λ c κs. search rules)
-    (λ c. search rules)
     (λ c. search rules)
     (λ c. search rules)
     (λ c. search rules)

@@ -1,10 +1,10 @@
--- `replay_cases::query_case` is safe: the first bytes, words and words of room are as many as are asked for.
+-- `replay_pocket::query_case` is safe: the first bytes, words and words of room are as many as are asked for.
 -- Assumes nothing.
 use borrow.Author.Rules.{rules}
 use mathlib.Core.Path.{sym}
 use lib.Seq.{length-take-le}
-use Rattle.replay_cases.proofs.query_case.Statement.{statement}
-use Rattle.replay_cases.proofs.query_case.Tie as tie
+use Rattle.replay_pocket.proofs.query_case.Statement.{statement}
+use Rattle.replay_pocket.proofs.query_case.Tie as tie
 
 pub query-case-spec : {M : Type 1} → statement M
 query-case-spec =

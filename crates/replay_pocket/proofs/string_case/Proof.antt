@@ -1,10 +1,10 @@
--- `replay_cases::string_case` is safe: the first bytes are as many as are asked for.
+-- `replay_pocket::string_case` is safe: the first bytes are as many as are asked for.
 -- Assumes nothing.
 use borrow.Author.Rules.{rules}
 use mathlib.Core.Path.{sym}
 use lib.Seq.{length-take-le}
-use Rattle.replay_cases.proofs.string_case.Statement.{statement}
-use Rattle.replay_cases.proofs.string_case.Tie as tie
+use Rattle.replay_pocket.proofs.string_case.Statement.{statement}
+use Rattle.replay_pocket.proofs.string_case.Tie as tie
 
 pub string-case-spec : {M : Type 1} → statement M
 string-case-spec =

@@ -1,10 +1,10 @@
--- `replay_cases::read_case` is safe: the first bytes and words are as many as are asked for.
+-- `replay_pocket::read_case` is safe: the first bytes and words are as many as are asked for.
 -- Assumes nothing.
 use borrow.Author.Rules.{rules}
 use mathlib.Core.Path.{sym}
 use lib.Seq.{length-take-le}
-use Rattle.replay_cases.proofs.read_case.Statement.{statement}
-use Rattle.replay_cases.proofs.read_case.Tie as tie
+use Rattle.replay_pocket.proofs.read_case.Statement.{statement}
+use Rattle.replay_pocket.proofs.read_case.Tie as tie
 
 pub read-case-spec : {M : Type 1} → statement M
 read-case-spec =
