@@ -50,11 +50,14 @@ module _ (get : ℕ → ℕ → ℕ) (up l : Bool) (p e : ℕ) where
   chain-le (hop child ch) = omega (arith, child.on, child.within)
 
   -- How many children there are is determined.
+  chain-same : {j c : ℕ} → Chain get up l p e j c → {i k : ℕ} → Chain get up l p e i k → i ≡ j → c ≡ k
+  chain-same stop stop at = refl
+  chain-same stop (hop child ch) at = absurd (omega (arith, child.on, child.within, at))
+  chain-same (hop child ch) stop at = absurd (omega (arith, child.on, child.within, at))
+  chain-same (hop child ch) (hop child' ch') at = ap suc (chain-same ch ch' (ap (λ n. get n 7) at))
+
   pub chain-one : {j c : ℕ} → Chain get up l p e j c → {k : ℕ} → Chain get up l p e j k → c ≡ k
-  chain-one stop stop = refl
-  chain-one stop (hop child ch) = absurd (omega (arith, child.on, child.within))
-  chain-one (hop child ch) stop = absurd (omega (arith, child.on, child.within))
-  chain-one (hop child ch) (hop child' ch') = ap suc (chain-one ch ch')
+  chain-one a b = chain-same a b refl
 
 -- ---- a tree's records are so
 

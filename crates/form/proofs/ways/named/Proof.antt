@@ -6,11 +6,11 @@ use mathlib.Core.Path.{refl, sym, ◌∙◌}
 use Rattle.form.proofs.ways.named.Statement.{statement}
 use Rattle.form.proofs.ways.named.Tie as tie
 
-returns : tie.Need-returns
-returns c = let told = sym c.before.is-pocket.ensures ∙ c.if1.true in (rw told refl, omega arith)
+returns : tie.Need-returns-then-is_pocket
+returns c = let told = sym c.before.is_pocket.ensures ∙ c.if-is_pocket.true in (rw told refl, omega arith)
 
-returns-2 : tie.Need-returns-2
-returns-2 c = let told = sym c.before.is-pocket.ensures ∙ c.if1.false in (rw told refl, omega arith)
+returns-2 : tie.Need-returns-else-is_pocket
+returns-2 c = let told = sym c.before.is_pocket.ensures ∙ c.if-is_pocket.false in (rw told refl, omega arith)
 
-pub named-spec : {M : Type 1} → statement M
-named-spec = tie.close (tie.spec (λ c κs. search rules) returns returns-2)
+pub named_spec : {M : Type 1} → statement M
+named_spec = tie.close (tie.spec (λ c κs. search rules) returns returns-2)

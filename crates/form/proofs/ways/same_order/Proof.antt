@@ -15,12 +15,12 @@ returns c =
     let at_first = at_Target.before in
     let at_source = at_first.before in
     let way = at_source.before.args.way in
-    let first = at_first.is-pocket.ensures ∙ ap (λ n. eqb n 2) at_source.source.ensures in
-    let second = c.is-pocket2.ensures ∙ ap (λ n. eqb n 2) at_Target.target.ensures in
+    let first = at_first.is_pocket.ensures ∙ ap (λ n. eqb n 2) at_source.source.ensures in
+    let second = c.is_pocket-2.ensures ∙ ap (λ n. eqb n 2) at_Target.target.ensures in
     (λ i. beq (first i) (second i)) ∙ order_is (eqb (way % 256) 2) (eqb (way / 256) 2)
 
-pub same-order-spec : {M : Type 1} → statement M
-same-order-spec =
+pub same_order_spec : {M : Type 1} → statement M
+same_order_spec =
     tie.close
     (tie.spec
     (λ c κs. search rules)
