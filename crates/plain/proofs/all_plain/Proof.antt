@@ -6,32 +6,32 @@ use Rattle.plain.proofs.Plains.{marked, told, none_in, more-in}
 use Rattle.plain.proofs.all_plain.Statement.{statement}
 use Rattle.plain.proofs.all_plain.Tie as tie
 
-abbrev invariant-loop : tie.invariant-loop
+abbrev invariant-loop : tie.invariant-loop-k
 invariant-loop p q text at n top₀ k₀ top k = (k ≤ n) × (top ≡ mark (plain_in p q text at k))
 
-abbrev decreases-loop : tie.decreases-loop
+abbrev decreases-loop : tie.decreases-loop-k
 decreases-loop p q text at n top₀ k₀ top k = n - k
 
-loop-again : tie.Need-loop-preserved invariant-loop decreases-loop
+loop-again : tie.Need-loop-k-preserved invariant-loop decreases-loop
 loop-again c =
     let at_byte = c.before in
-    let l = at_byte.before.before.before.loop in (
+    let l = at_byte.before.before.before.loop-k in (
       omega arith,
-      marked _ _ l.top at_byte.unplain.result c.raise.result l.invariant.1 at_byte.unplain.ensures c.raise.ensures
+      marked _ _ l.top at_byte.unplain.result c.raise-top.result l.invariant.1 at_byte.unplain.ensures c.raise-top.ensures
           ∙ ap mark (sym (more-in _ _ _ _ l.k)),
     )
 
 -- all n bytes were asked
-asked : (c : tie.After-loop invariant-loop decreases-loop)
-    → let a = c.before.before.before.args in c.before.loop.top ≡ mark (plain_in a.p a.q a.text.now a.at a.n)
+asked : (c : tie.After-loop-k invariant-loop decreases-loop)
+    → let a = c.before.before.before.args in c.before.loop-k.top ≡ mark (plain_in a.p a.q a.text.now a.at a.n)
 asked c =
-    let l = c.before.loop in
+    let l = c.before.loop-k in
     let a = c.before.before.before.args in
     let e : l.k ≡ a.n = omega arith in
     l.invariant.1 ∙ ap (λ (n : ℕ). mark (plain_in a.p a.q a.text.now a.at n)) e
 
-pub all-plain-spec : {M : Type 1} → statement M
-all-plain-spec =
+pub all_plain_spec : {M : Type 1} → statement M
+all_plain_spec =
     tie.close
     (tie.spec
     invariant-loop
@@ -44,5 +44,5 @@ all-plain-spec =
     (λ c. search rules)  -- add-k
     (λ c. omega arith)  -- loop-less
     loop-again
-    (λ c. (told _ _ (asked c.before)).0 c.if1.true)  -- returns
-    (λ c. (told _ _ (asked c.before)).1 c.if1.false))  -- returns-2
+    (λ c. (told _ _ (asked c.before)).0 c.if-top-eq0.true)  -- returns
+    (λ c. (told _ _ (asked c.before)).1 c.if-top-eq0.false))  -- returns-2

@@ -5,20 +5,20 @@ use Rattle.plain.proofs.Plains.{both-in, first-fails}
 use Rattle.plain.proofs.both_plain.Statement.{statement}
 use Rattle.plain.proofs.both_plain.Tie as tie
 
-returns : tie.Need-returns
+returns : tie.Need-returns-then-all_plain
 returns c =
     let at_first = c.before.before in
     let a = at_first.before.before.args in
-    c.all-plain2.ensures ∙ both-in a.p a.p a.text.now a.n (omega arith) (omega arith) (sym at_first.all_plain.ensures ∙ c.before.if1.true)
+    c.all_plain-then-all_plain.ensures ∙ both-in a.p a.p a.text.now a.n (omega arith) (omega arith) (sym at_first.all_plain.ensures ∙ c.before.if-all_plain.true)
 
-returns-2 : tie.Need-returns-2
+returns-2 : tie.Need-returns
 returns-2 c =
     let at_first = c.before in
     let a = at_first.before.before.args in
-    first-fails a.p a.p a.text.now a.n (omega arith) (omega arith) (sym at_first.all_plain.ensures ∙ c.if1.false)
+    first-fails a.p a.p a.text.now a.n (omega arith) (omega arith) (sym at_first.all_plain.ensures ∙ c.if-all_plain.false)
 
-pub both-plain-spec : {M : Type 1} → statement M
-both-plain-spec =
+pub both_plain_spec : {M : Type 1} → statement M
+both_plain_spec =
     tie.close
     (tie.spec
     (λ c κs. search rules)  -- all-plain-requires

@@ -6,20 +6,20 @@ use Rattle.plain.proofs.Plains.{plain-none, plain-join, run_is}
 use Rattle.plain.proofs.plain_blocks.Statement.{statement}
 use Rattle.plain.proofs.plain_blocks.Tie as tie
 
-abbrev invariant-loop : tie.invariant-loop
+abbrev invariant-loop : tie.invariant-loop-i
 invariant-loop p q text at end i₀ i = (at ≤ i) × (i ≤ end) × Plain p q text at i
 
-abbrev decreases-loop : tie.decreases-loop
+abbrev decreases-loop : tie.decreases-loop-i
 decreases-loop p q text at end i₀ i = end - i
 
-loop-again : tie.Need-loop-preserved invariant-loop decreases-loop
+loop-again : tie.Need-loop-i-preserved invariant-loop decreases-loop
 loop-again c =
-    let l = c.before.before.before.loop in
-    let block = run_is _ _ _ _ 16 (sym c.before.all_plain.ensures ∙ c.if1.true) in
+    let l = c.before.before.before.loop-i in
+    let block = run_is _ _ _ _ 16 (sym c.before.all_plain.ensures ∙ c.if-all_plain.true) in
     (omega arith, omega arith, plain-join _ _ _ _ _ _ _ (omega arith) l.invariant.2 block)
 
-pub plain-blocks-spec : {M : Type 1} → statement M
-plain-blocks-spec =
+pub plain_blocks_spec : {M : Type 1} → statement M
+plain_blocks_spec =
     tie.close
     (tie.spec
     invariant-loop
@@ -30,5 +30,5 @@ plain-blocks-spec =
     (λ c. omega arith)  -- add-i
     (λ c. omega arith)  -- loop-less
     loop-again
-    (λ c. c.before.before.before.loop.invariant)  -- returns
-    (λ c. c.before.loop.invariant))  -- returns-2
+    (λ c. c.before.before.before.loop-i.invariant)  -- returns
+    (λ c. c.before.loop-i.invariant))  -- returns-2
