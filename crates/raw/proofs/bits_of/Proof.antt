@@ -7,36 +7,36 @@ use Rattle.raw.proofs.bits_of.Statement.{statement}
 use Rattle.raw.proofs.bits_of.Tie as tie
 
 -- The argument is what the machine's bits of it stand for.
-same : (c : tie.After-magnitude) → to_z w64 (of_z w64 c.before.args.v) ≡ c.before.args.v
-same c = held c.before.args.v c.before.well-formed.0
+same : (c : tie.After-magnitude-m) → to_z w64 (of_z w64 c.before.args.v) ≡ c.before.args.v
+same c = held c.before.args.v c.before.well_formed.0
 
 -- The magnitude, of the argument itself.
-distance : (c : tie.After-magnitude) → c.magnitude.result ≡ mag c.before.args.v
-distance c = c.magnitude.ensures ∙ ap mag (same c)
+distance : (c : tie.After-magnitude-m) → c.magnitude-m.result ≡ mag c.before.args.v
+distance c = c.magnitude-m.ensures ∙ ap mag (same c)
 
-magnitude-requires : tie.Need-magnitude-requires
+magnitude-requires : tie.Need-magnitude-m-requires
 magnitude-requires c κs = search rules
 
-returns : tie.Need-returns
+returns : tie.Need-returns-then-v-ge0
 returns c =
     let v = c.before.before.args.v in
-    let whole : le_z (pos 0) v ≡ true = subst (λ z. le_z (pos 0) z ≡ true) (same c.before) c.if1.true in
+    let whole : le_z (pos 0) v ≡ true = subst (λ z. le_z (pos 0) z ≡ true) (same c.before) c.if-v-ge0.true in
     distance c.before ∙ sym (own v whole) ∙ (bits-low v whole).1
 
-add-wrapping-sub-u64 : tie.Need-overflow-add-wrapping-sub-u64
-add-wrapping-sub-u64 c = omega (arith, distance c.before, c.before.before.well-formed.0)
+add-wrapping_sub_u64 : tie.Need-overflow_add-m
+add-wrapping_sub_u64 c = omega (arith, distance c.before, c.before.before.well_formed.0)
 
-wrapping-sub-u64-requires : tie.Need-wrapping-sub-u64-requires
-wrapping-sub-u64-requires c κs = search rules
+wrapping_sub_u64-requires : tie.Need-wrapping_sub_u64-requires
+wrapping_sub_u64-requires c κs = search rules
 
-returns-2 : tie.Need-returns-2
+returns-2 : tie.Need-returns
 returns-2 c =
     let at-magnitude = c.before.before in
     let v = at-magnitude.before.args.v in
-    let r = c.wrapping-sub-u64.result in
-    let below : le_z (pos 0) v ≡ false = subst (λ z. le_z (pos 0) z ≡ false) (same at-magnitude) c.before.if1.false in
-    bits-wrapped r v below (omega arith) at-magnitude.before.well-formed.0
-    (subst (λ z. (r + (z + 1)) % 2 ^ 64 ≡ 0) (distance at-magnitude) c.wrapping-sub-u64.ensures)
+    let r = c.wrapping_sub_u64.result in
+    let below : le_z (pos 0) v ≡ false = subst (λ z. le_z (pos 0) z ≡ false) (same at-magnitude) c.before.if-v-ge0.false in
+    bits-wrapped r v below (omega arith) at-magnitude.before.well_formed.0
+    (subst (λ z. (r + (z + 1)) % 2 ^ 64 ≡ 0) (distance at-magnitude) c.wrapping_sub_u64.ensures)
 
-pub bits-of-spec : {M : Type 1} → statement M
-bits-of-spec = tie.close (tie.spec magnitude-requires returns add-wrapping-sub-u64 wrapping-sub-u64-requires returns-2)
+pub bits_of_spec : {M : Type 1} → statement M
+bits_of_spec = tie.close (tie.spec magnitude-requires returns add-wrapping_sub_u64 wrapping_sub_u64-requires returns-2)

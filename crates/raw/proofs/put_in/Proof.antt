@@ -4,27 +4,27 @@ use Rattle.std.proofs.Common.{rules}
 use Rattle.raw.proofs.put_in.Statement.{statement}
 use Rattle.raw.proofs.put_in.Tie as tie
 
-put-by-requires : tie.Need-put-by-requires
-put-by-requires c κs = search rules
+put_by-requires : tie.Need-put_by-requires
+put_by-requires c κs = search rules
 
-put-by-requires-2 : tie.Need-put-by-requires-2
-put-by-requires-2 c κs = search rules
+put_by-requires-2 : tie.Need-put_by-requires-else-little
+put_by-requires-2 c κs = search rules
 
-same_length : tie.Need-same-length
+same_length : tie.Need-shape_of-d-then-little
 same_length c = search rules
 
-returns : tie.Need-returns
+returns : tie.Need-returns-then-little
 returns c =
     let at-put = c.before.before in
-    rw at-put.before.before.if1.true at-put.put-by.ensures
+    rw at-put.before.before.if-little.true at-put.put_by.ensures
 
-same-length-2 : tie.Need-same-length-2
-same-length-2 c = search rules
+same_length-2 : tie.Need-shape_of-d-else-little
+same_length-2 c = search rules
 
-returns-2 : tie.Need-returns-2
+returns-2 : tie.Need-returns-else-little
 returns-2 c =
     let at-put = c.before.before in
-    rw at-put.before.before.if1.false at-put.put-by2.ensures
+    rw at-put.before.before.if-little.false at-put.put_by-else-little.ensures
 
-pub put-in-spec : {M : Type 1} → statement M
-put-in-spec = tie.close (tie.spec put-by-requires put-by-requires-2 same_length returns same-length-2 returns-2)
+pub put_in_spec : {M : Type 1} → statement M
+put_in_spec = tie.close (tie.spec put_by-requires put_by-requires-2 same_length returns same_length-2 returns-2)

@@ -9,13 +9,13 @@ use Rattle.raw.proofs.Signs.{held}
 use Rattle.raw.proofs.put_signed.Statement.{statement}
 use Rattle.raw.proofs.put_signed.Tie as tie
 
-bits-of-requires : tie.Need-bits-of-requires
-bits-of-requires c κs = search rules
+bits_of-requires : tie.Need-bits_of-requires
+bits_of-requires c κs = search rules
 
-put-number-requires : tie.Need-put-number-requires
-put-number-requires c κs = search rules
+put_number-requires : tie.Need-put_number-requires
+put_number-requires c κs = search rules
 
-same_length : tie.Need-same-length
+same_length : tie.Need-shape_of-d
 same_length c = search rules
 
 returns : tie.Need-returns
@@ -24,12 +24,12 @@ returns c =
     let at_bits = at-put.before in
     let a = at_bits.before.before.before in
     let w = a.args.width in
-    at-put.put-number.ensures
+    at-put.put_number.ensures
     ∙ ap (λ ds. over a.args.d.now a.args.at (ordered big ds)) (
     ap (digits w) at_bits.bits_of.ensures
-    ∙ ap (λ z. digits w (bits_of 8 z)) (held a.args.v a.well-formed.1.1.1.0)
+    ∙ ap (λ z. digits w (bits_of 8 z)) (held a.args.v a.well_formed.1.1.1.0)
     ∙ digits-narrow w 8 a.args.v a.requires.0 a.requires.2
     )
 
-pub put-signed-spec : {M : Type 1} → statement M
-put-signed-spec = tie.close (tie.spec bits-of-requires put-number-requires same_length returns)
+pub put_signed_spec : {M : Type 1} → statement M
+put_signed_spec = tie.close (tie.spec bits_of-requires put_number-requires same_length returns)
