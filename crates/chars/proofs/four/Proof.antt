@@ -12,23 +12,23 @@ use Rattle.chars.proofs.four.Statement.{statement}
 use Rattle.chars.proofs.four.Tie as tie
 
 -- b, c and d have been tested
-abbrev b-of : tie.Else2 → tie.Start
+abbrev b-of : tie.Else-b-ge192 → tie.Start
 b-of c = c.before.before
 
-abbrev c-of : tie.Else4 → tie.Start
+abbrev c-of : tie.Else-c-ge192 → tie.Start
 c-of c = b-of c.before.before
 
-abbrev d-of : tie.Else6 → tie.Start
+abbrev d-of : tie.Else-d-ge192 → tie.Start
 d-of c = c-of c.before.before
 
-joined : (c : tie.After-join3) → let a = (d-of c.before.before.before).args in let u = c.join3.result in
+joined : (c : tie.After-join-u) → let a = (d-of c.before.before.before).args in let u = c.join-u.result in
     four_of a.a a.b a.c a.d ≡ pick (ltb u 65536) stuck (pick (leb 1114112 u) stuck (is u 4))
 joined c =
     four_is _ _ _ _ _ _ _ (omega arith) (omega arith) (omega arith) (omega arith) (omega arith) (omega arith)
-    c.before.before.join.ensures c.before.join2.ensures c.join3.ensures
+    c.before.before.join.ensures c.before.join-2.ensures c.join-u.ensures
 
-pub four-spec : {M : Type 1} → statement M
-four-spec =
+pub four_spec : {M : Type 1} → statement M
+four_spec =
     tie.close
     (tie.spec
     (λ c. unfold four_of in simp (lt-ltb c.before.args.b 128 (omega arith)))
@@ -43,7 +43,7 @@ four-spec =
     (λ c. omega (arith, mask_lt (d-of c).args.a 3))
     (λ c κs. omega (arith, mask_lt (d-of c).args.a 3))
     (λ c κs. omega (arith, mask_lt (d-of c.before).args.a 3, c.join.ensures))
-    (λ c κs. omega (arith, mask_lt (d-of c.before.before).args.a 3, c.before.join.ensures, c.join2.ensures))
-    (λ c. rw (joined c.before) (simp (lt-ltb _ _ c.if7.true)))
-    (λ c. rw (joined c.before.before) (simp (le-ltb _ _ c.before.if7.false, le-leb _ _ c.if8.true)))
-    (λ c. rw (joined c.before.before) (simp (le-ltb _ _ c.before.if7.false, lt-leb _ _ c.if8.false))))
+    (λ c κs. omega (arith, mask_lt (d-of c.before.before).args.a 3, c.before.join.ensures, c.join-2.ensures))
+    (λ c. rw (joined c.before) (simp (lt-ltb _ _ c.if-u-lt65536.true)))
+    (λ c. rw (joined c.before.before) (simp (le-ltb _ _ c.before.if-u-lt65536.false, le-leb _ _ c.if-u-ge1114112.true)))
+    (λ c. rw (joined c.before.before) (simp (le-ltb _ _ c.before.if-u-lt65536.false, lt-leb _ _ c.if-u-ge1114112.false))))

@@ -6,5 +6,5 @@ use native.Mathlib.Omega.{arith}
 use Rattle.chars.proofs.group.Statement.{statement}
 use Rattle.chars.proofs.group.Tie as tie
 
-pub group-spec : {M : Type 1} → statement M
-group-spec = tie.close (tie.spec (λ c. omega (arith, mask_lt c.args.u 6)) (λ c. grouped c.args.u))
+pub group_spec : {M : Type 1} → statement M
+group_spec = tie.close (tie.spec (λ c. omega (arith, mask_lt c.args.u 6)) (λ c. grouped c.args.u))

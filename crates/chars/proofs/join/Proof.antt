@@ -6,8 +6,8 @@ use Rattle.chars.proofs.Groups.{joined}
 use Rattle.chars.proofs.join.Statement.{statement}
 use Rattle.chars.proofs.join.Tie as tie
 
-pub join-spec : {M : Type 1} → statement M
-join-spec =
+pub join_spec : {M : Type 1} → statement M
+join_spec =
     tie.close
     (tie.spec
     (λ c. omega (arith, mask_lt c.args.b 6))

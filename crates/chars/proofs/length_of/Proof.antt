@@ -9,11 +9,11 @@ use Rattle.chars.proofs.length_of.Statement.{statement}
 use Rattle.chars.proofs.length_of.Tie as tie
 
 -- 2048 or more
-abbrev start_of : tie.Else3 → tie.Start
+abbrev start_of : tie.Else-c-lt2048 → tie.Start
 start_of c = c.before.before.before
 
-pub length-of-spec : {M : Type 1} → statement M
-length-of-spec =
+pub length_of_spec : {M : Type 1} → statement M
+length_of_spec =
     tie.close
     (tie.spec
     (λ c. let x = c.before.args.c in rw (sb-low x (omega arith), ub-nul x (omega arith)) refl)

@@ -14,10 +14,10 @@ returns c =
     let third = c.before in
     let second = third.before in
     let a = second.before.before.args in
-    four-put a.out.now a.at _ _ _ _ _ _ _ _ (omega arith) (lead-four (a.u / 262144) (omega arith)) second.group.ensures third.group2.ensures c.group3.ensures
+    four-put a.out.now a.at _ _ _ _ _ _ _ _ (omega arith) (lead-four (a.u / 262144) (omega arith)) second.group.ensures third.group-2.ensures c.group-3.ensures
 
-pub put-four-spec : {M : Type 1} → statement M
-put-four-spec =
+pub put_four_spec : {M : Type 1} → statement M
+put_four_spec =
     tie.close
     (tie.spec
     (λ c. search rules)

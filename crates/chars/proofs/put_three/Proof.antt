@@ -9,8 +9,8 @@ use Rattle.chars.proofs.Puts.{three-put}
 use Rattle.chars.proofs.put_three.Statement.{statement}
 use Rattle.chars.proofs.put_three.Tie as tie
 
-pub put-three-spec : {M : Type 1} → statement M
-put-three-spec =
+pub put_three_spec : {M : Type 1} → statement M
+put_three_spec =
     tie.close
     (tie.spec
     (λ c. search rules)
@@ -23,4 +23,4 @@ put-three-spec =
     (λ c. simp length-set (omega arith))
     (λ c. search rules)
     (λ c. let a = c.before.before.before.args in
-    three-put a.out.now a.at _ _ _ _ _ _ (omega arith) (lead-three (a.u / 4096) (omega arith)) c.before.group.ensures c.group2.ensures))
+    three-put a.out.now a.at _ _ _ _ _ _ (omega arith) (lead-three (a.u / 4096) (omega arith)) c.before.group.ensures c.group-2.ensures))

@@ -9,8 +9,8 @@ use Rattle.chars.proofs.Puts.{two-put}
 use Rattle.chars.proofs.put_two.Statement.{statement}
 use Rattle.chars.proofs.put_two.Tie as tie
 
-pub put-two-spec : {M : Type 1} → statement M
-put-two-spec =
+pub put_two_spec : {M : Type 1} → statement M
+put_two_spec =
     tie.close
     (tie.spec
     (λ c. search rules)

@@ -10,30 +10,30 @@ use Rattle.chars.proofs.put_utf8.Statement.{statement}
 use Rattle.chars.proofs.put_utf8.Tie as tie
 
 -- the value is below 128; below 2048; below 65536; and 65536 or more
-abbrev one_of : tie.Then1 → tie.Start
+abbrev one_of : tie.Then-c-lt128 → tie.Start
 one_of c = c.before.before
 
-abbrev more_of : tie.Else1 → tie.Start
+abbrev more_of : tie.Else-c-lt128 → tie.Start
 more_of c = c.before.before
 
-abbrev two-of : tie.After-put-two-arg → tie.Start
+abbrev two-of : tie.After-put_two-arg-1 → tie.Start
 two-of c = more_of c.before.before
 
-abbrev three-of : tie.After-put-three-arg → tie.Start
+abbrev three-of : tie.After-put_three-arg-1 → tie.Start
 three-of c = more_of c.before.before.before
 
-abbrev four-of : tie.After-put-four-arg → tie.Start
+abbrev four-of : tie.After-put_four-arg-1 → tie.Start
 four-of c = more_of c.before.before.before
 
-pub put-utf8-spec : {M : Type 1} → statement M
-put-utf8-spec =
+pub put_utf8_spec : {M : Type 1} → statement M
+put_utf8_spec =
     tie.close
     (tie.spec
     (λ c. search rules)
-    (λ c. let a = one_of c in omega (arith, ap length (u8-one a.args.c (omega arith)), a.pre.1))
+    (λ c. let a = one_of c in omega (arith, ap length (u8-one a.args.c (omega arith)), a.requires.1))
     (λ c. search rules)
     (λ c. let a = one_of c in let e = u8-one a.args.c (omega arith) in
-    rw e (one-put a.args.out.now a.args.at a.args.c (omega (arith, ap length e, a.pre.1))))
+    rw e (one-put a.args.out-1.now a.args.at a.args.c (omega (arith, ap length e, a.pre.1))))
     (λ c κs. let a = two-of c in (omega arith, omega (arith, ap length (u8-two a.args.c (omega arith) (omega arith)), a.pre.1)))
     (λ c. search rules)
     (λ c. let p = c.before.before in rw (u8-two (two-of p.before).args.c (omega arith) (omega arith)) p.put_two.ensures)

@@ -15,41 +15,41 @@ use Rattle.chars.proofs.Sequences.{scalar_below, scalar-above, scalar-lone, scal
 use Rattle.chars.proofs.scalar_at.Statement.{statement}
 use Rattle.chars.proofs.scalar_at.Tie as tie
 
-abbrev called_of : tie.After-u → tie.After-unit-at
+abbrev called_of : tie.In-Is-2 → tie.After-unit_at
 called_of c = c.before.before
 
-abbrev start_of : tie.After-u → tie.Start
+abbrev start_of : tie.In-Is-2 → tie.Start
 start_of c = (called_of c).before.before
 
 -- the unit at the place
-first : (c : tie.After-u) → let g = c.u.given.0 in unit_of (drop (start_of c).args.at (start_of c).args.s.now) ≡ is g.0 g.1.0
-first c = told _ (called_of c).unit-at.ensures c.u.given.1
+first : (c : tie.In-Is-2) → let g = c.u-1.given.0 in unit_of (drop (start_of c).args.at (start_of c).args.s.now) ≡ is g.0 g.1.0
+first c = told _ (called_of c).unit_at.ensures c.u-1.given.1
 
 -- it is a half, and a high one
-abbrev half_of : tie.Else2 → tie.After-u
+abbrev half_of : tie.Else-u-ge57344 → tie.In-Is-2
 half_of c = c.before.before.before
 
-abbrev high-of : tie.Else3 → tie.After-u
+abbrev high-of : tie.Else-u-ge56320 → tie.In-Is-2
 high-of c = half_of c.before
 
-half : (c : tie.Else3) (v : Sequence) → let u = high-of c in let a = (start_of u).args in let g = u.u.given.0 in
+half : (c : tie.Else-u-ge56320) (v : Sequence) → let u = high-of c in let a = (start_of u).args in let g = u.u-1.given.0 in
     unit_of (drop (a.at + g.1.0) a.s.now) ≡ v → with_low g.0 g.1.0 v ≡ scalar_of (drop a.at a.s.now)
 half c v e = scalar-half _ (first (high-of c)) v (omega arith) (omega arith) (rw drop-drop e)
 
 -- and the unit behind it is another
-abbrev second-of : tie.After-v → tie.Else3
+abbrev second-of : tie.In-Is-unit_at-2 → tie.Else-u-ge56320
 second-of c = c.before.before.before
 
-second : (c : tie.After-v) → let u = high-of (second-of c) in let a = (start_of u).args in let g = u.u.given.0 in let h = c.v.given.0 in
+second : (c : tie.In-Is-unit_at-2) → let u = high-of (second-of c) in let a = (start_of u).args in let g = u.u-1.given.0 in let h = c.v-1.given.0 in
     unit_of (drop (a.at + g.1.0) a.s.now) ≡ is h.0 h.1.0
-second c = told _ c.before.before.unit-at2.ensures c.v.given.1
+second c = told _ c.before.before.unit_at-in-Is.ensures c.v-1.given.1
 
 -- which is none below a low half
-abbrev low_of : tie.Else4 → tie.After-v
+abbrev low_of : tie.Else-v-lt56320 → tie.In-Is-unit_at-2
 low_of c = c.before.before
 
-pub scalar-at-spec : {M : Type 1} → statement M
-scalar-at-spec =
+pub scalar_at_spec : {M : Type 1} → statement M
+scalar_at_spec =
     tie.close
     (tie.spec
     (λ c κs. search rules)
@@ -60,15 +60,15 @@ scalar-at-spec =
     (λ c. omega (arith, simp length-drop at (unit-fits _ _ _ (first (high-of c)))))
     (λ c κs. search rules)
     (λ c. search rules)
-    (λ c. let v = c.before.before in rw (← half (second-of v) _ (second v)) (simp (lt-ltb v.v.given.0.0 56320 (omega arith))))
-    (λ c. let v = low_of c.before in let x = v.v.given.0.0 in
+    (λ c. let v = c.before.before in rw (← half (second-of v) _ (second v)) (simp (lt-ltb v.v-1.given.0.0 56320 (omega arith))))
+    (λ c. let v = low_of c.before in let x = v.v-1.given.0.0 in
     rw (← half (second-of v) _ (second v)) (simp (le-ltb x 56320 (omega arith), le-leb 57344 x (omega arith))))
     (λ c κs. search rules)
     (λ c. let v = low_of c.before.before in
     omega (arith, simp length-drop at (unit-fits _ _ _ (first (high-of (second-of v)))), simp length-drop at (unit-fits _ _ _ (second v))))
     (λ c. search rules)
     (λ c. search rules)
-    (λ c. let v = low_of c.before.before in let x = v.v.given.0.0 in
+    (λ c. let v = low_of c.before.before in let x = v.v-1.given.0.0 in
     rw (← half (second-of v) _ (second v)) (simp (le-ltb x 56320 (omega arith), lt-leb 57344 x (omega arith), c.pair.ensures)))
-    (λ c. half c.before.before.before _ (told _ c.before.before.unit-at2.ensures c.enum_told.given.1))
-    (λ c. sym (scalar-of _ _ (told _ c.before.before.unit-at.ensures c.enum-told2.given.1))))
+    (λ c. half c.before.before.before _ (told _ c.before.before.unit_at-in-Is.ensures c.enum_told-1.given.1))
+    (λ c. sym (scalar-of _ _ (told _ c.before.before.unit_at.ensures c.enum_told-in-Stuck-1.given.1))))

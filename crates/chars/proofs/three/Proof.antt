@@ -12,18 +12,18 @@ use Rattle.chars.proofs.three.Statement.{statement}
 use Rattle.chars.proofs.three.Tie as tie
 
 -- b and c have been tested
-abbrev b-of : tie.Else2 → tie.Start
+abbrev b-of : tie.Else-b-ge192 → tie.Start
 b-of c = c.before.before
 
-abbrev c-of : tie.Else4 → tie.Start
+abbrev c-of : tie.Else-c-ge192 → tie.Start
 c-of c = b-of c.before.before
 
-joined : (c : tie.After-join2) → let a = (c-of c.before.before).args in let u = c.join2.result in
+joined : (c : tie.After-join-u) → let a = (c-of c.before.before).args in let u = c.join-u.result in
     three_of a.a a.b a.c ≡ pick (ltb u 2048) stuck (is u 3)
-joined c = three-is _ _ _ _ _ (omega arith) (omega arith) (omega arith) (omega arith) c.before.join.ensures c.join2.ensures
+joined c = three-is _ _ _ _ _ (omega arith) (omega arith) (omega arith) (omega arith) c.before.join.ensures c.join-u.ensures
 
-pub three-spec : {M : Type 1} → statement M
-three-spec =
+pub three_spec : {M : Type 1} → statement M
+three_spec =
     tie.close
     (tie.spec
     (λ c. unfold three_of in simp (lt-ltb c.before.args.b 128 (omega arith)))
@@ -34,5 +34,5 @@ three-spec =
     (λ c. omega (arith, mask_lt (c-of c).args.a 4))
     (λ c κs. omega (arith, mask_lt (c-of c).args.a 4))
     (λ c κs. omega (arith, mask_lt (c-of c.before).args.a 4, c.join.ensures))
-    (λ c. rw (joined c.before) (simp (lt-ltb _ _ c.if5.true)))
-    (λ c. rw (joined c.before) (simp (le-ltb _ _ c.if5.false))))
+    (λ c. rw (joined c.before) (simp (lt-ltb _ _ c.if-u-lt2048.true)))
+    (λ c. rw (joined c.before) (simp (le-ltb _ _ c.if-u-lt2048.false))))

@@ -11,20 +11,20 @@ use Rattle.chars.proofs.unit_at.Statement.{statement}
 use Rattle.chars.proofs.unit_at.Tie as tie
 
 -- the first byte has been read; it begins more than one byte; the second has been read; it begins three
-abbrev read_of : tie.After-shared-slice-known2 → tie.Start
+abbrev read_of : tie.After-shared_slice_known-2-1 → tie.Start
 read_of c = c.before.before.before
 
-abbrev more_of : tie.Else4 → tie.Start
+abbrev more_of : tie.Else-a-lt192 → tie.Start
 more_of c = read_of c.before.before.before
 
-abbrev second-of : tie.After-shared-slice-known3 → tie.Start
+abbrev second-of : tie.After-shared_slice_known-3-1 → tie.Start
 second-of c = more_of c.before.before
 
-abbrev three-of : tie.Else7 → tie.Start
+abbrev three-of : tie.Else-a-ge240 → tie.Start
 three-of c = second-of c.before.before
 
-pub unit-at-spec : {M : Type 1} → statement M
-unit-at-spec =
+pub unit_at_spec : {M : Type 1} → statement M
+unit_at_spec =
     tie.close
     (tie.spec
     (λ c. let a = c.before.before.args in rw (drop_of_length-le a.s.now {i = a.at} (omega arith)) (sym unit-none))

@@ -13,33 +13,33 @@ use Rattle.chars.proofs.utf8_at.Statement.{statement}
 use Rattle.chars.proofs.utf8_at.Tie as tie
 
 -- there is a first byte; it may begin four bytes; and four are left
-abbrev some_of : tie.Else1 → tie.Start
+abbrev some_of : tie.Else-s-at → tie.Start
 some_of c = c.before.before
 
-abbrev four-of : tie.Then3 → tie.Start
+abbrev four-of : tie.Then-a-ge240 → tie.Start
 four-of c = some_of c.before.before.before
 
-abbrev left-of : tie.Else5 → tie.Start
+abbrev left-of : tie.Else-s-at-lt4 → tie.Start
 left-of c = four-of c.before.before
 
 -- or else it begins a unit
-abbrev unit-of : tie.Else3 → tie.Start
+abbrev unit-of : tie.Else-a-ge240 → tie.Start
 unit-of c = some_of c.before.before.before
 
-told-unit : (c : tie.After-unit-at) (v : Sequence) → let a = (unit-of c.before).args in
+told-unit : (c : tie.After-unit_at) (v : Sequence) → let a = (unit-of c.before).args in
     unit_of (drop a.at a.s.now) ≡ v → utf8_of (drop a.at a.s.now) ≡ unpaired v
 told-unit c v e = let a = (unit-of c.before).args in utf8-of a.s.now a.at (omega arith) v (omega arith) (omega arith) e
 
-unit : (c : tie.After-u) → let a = (unit-of c.before.before.before).args in let g = c.u.given.0 in
+unit : (c : tie.In-Is-2) → let a = (unit-of c.before.before.before).args in let g = c.u-1.given.0 in
     utf8_of (drop a.at a.s.now) ≡ unpaired (is g.0 g.1.0)
-unit c = told-unit c.before.before _ (told _ c.before.before.unit-at.ensures c.u.given.1)
+unit c = told-unit c.before.before _ (told _ c.before.before.unit_at.ensures c.u-1.given.1)
 
 -- that is not 0
-abbrev value_of : tie.Else6 → tie.After-u
+abbrev value_of : tie.Else-u-eq0 → tie.In-Is-2
 value_of c = c.before.before
 
-pub utf8-at-spec : {M : Type 1} → statement M
-utf8-at-spec =
+pub utf8_at_spec : {M : Type 1} → statement M
+utf8_at_spec =
     tie.close
     (tie.spec
     (λ c. unfold utf8_of in let a = c.before.before.args in rw (drop_of_length-le a.s.now {i = a.at} (omega arith)) refl)
@@ -60,11 +60,11 @@ utf8-at-spec =
     rw (drop4 a.s.now a.at (omega arith)) (simp (ne_eqb x 0 (omega arith), le-leb 240 x (omega arith), lt-leb 248 x (omega arith)) c.four.ensures))
     (λ c κs. search rules)
     (λ c. search rules)
-    (λ c. let u = c.before.before in rw (unit u) (simp (eq-eqb u.u.given.0.0 0 (omega arith))))
-    (λ c. let u = value_of c.before in rw (unit u) (simp (ne_eqb u.u.given.0.0 0 (omega arith), lt-ltb u.u.given.0.0 55296 (omega arith))))
-    (λ c. let u = value_of c.before.before in let x = u.u.given.0.0 in
+    (λ c. let u = c.before.before in rw (unit u) (simp (eq-eqb u.u-1.given.0.0 0 (omega arith))))
+    (λ c. let u = value_of c.before in rw (unit u) (simp (ne_eqb u.u-1.given.0.0 0 (omega arith), lt-ltb u.u-1.given.0.0 55296 (omega arith))))
+    (λ c. let u = value_of c.before.before in let x = u.u-1.given.0.0 in
     rw (unit u) (simp (ne_eqb x 0 (omega arith), le-ltb x 55296 (omega arith), lt-ltb x 57344 (omega arith))))
     (λ c. search rules)
-    (λ c. let u = value_of c.before.before in let x = u.u.given.0.0 in
+    (λ c. let u = value_of c.before.before in let x = u.u-1.given.0.0 in
     rw (unit u) (simp (ne_eqb x 0 (omega arith), le-ltb x 55296 (omega arith), le-ltb x 57344 (omega arith))))
-    (λ c. rw (told-unit c.before.before _ (told _ c.before.before.unit-at.ensures c.enum_told.given.1)) refl))
+    (λ c. rw (told-unit c.before.before _ (told _ c.before.before.unit_at.ensures c.enum_told-1.given.1)) refl))

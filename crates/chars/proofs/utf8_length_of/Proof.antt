@@ -8,11 +8,11 @@ use Rattle.chars.proofs.utf8_length_of.Statement.{statement}
 use Rattle.chars.proofs.utf8_length_of.Tie as tie
 
 -- 2048 or more
-abbrev start_of : tie.Else2 → tie.Start
+abbrev start_of : tie.Else-c-lt2048 → tie.Start
 start_of c = c.before.before
 
-pub utf8-length-of-spec : {M : Type 1} → statement M
-utf8-length-of-spec =
+pub utf8_length_of_spec : {M : Type 1} → statement M
+utf8_length_of_spec =
     tie.close
     (tie.spec
     (λ c. rw (u8-one c.before.args.c (omega arith)) refl)

@@ -6,20 +6,20 @@ use Rattle.lines.proofs.Digits.{count-bytes, count-bad}
 use Rattle.lines.proofs.bytes_of.Statement.{statement}
 use Rattle.lines.proofs.bytes_of.Tie as tie
 
-returns : tie.Need-returns
+returns : tie.Need-returns-in-Bytes
 returns c =
     let matched = c.before.before in
-    let done = matched.before.before.before.unhex in
-    record { answer = count-bytes _ _ (sym c.before.many.given.1 ∙ done.ensures.answer); put = done.ensures.put }
+    let done = matched.before.unhex in
+    record { answer = count-bytes _ _ (sym c.before.many-1.given.1 ∙ done.ensures.answer); put = done.ensures.put }
 
-returns-2 : tie.Need-returns-2
+returns-2 : tie.Need-returns-in-Bad
 returns-2 c =
     let matched = c.before in
-    let done = matched.before.before.before.unhex in
-    record { answer = count-bad _ (sym c.enum_told.given.1 ∙ done.ensures.answer); put = done.ensures.put }
+    let done = matched.before.before.unhex in
+    record { answer = count-bad _ (sym c.enum_told-1.given.1 ∙ done.ensures.answer); put = done.ensures.put }
 
-pub bytes-of-spec : {M : Type 1} → statement M
-bytes-of-spec =
+pub bytes_of_spec : {M : Type 1} → statement M
+bytes_of_spec =
     tie.close
     (tie.spec
     (λ c κs. search rules)

@@ -6,14 +6,14 @@ use lib.ListN.{length}
 use Rattle.lines.proofs.changed.Statement.{statement}
 use Rattle.lines.proofs.changed.Tie as tie
 
-abbrev invariant-loop : tie.invariant-loop
+abbrev invariant-loop : tie.invariant-loop-i
 invariant-loop bytes table i₀ i = i ≤ length table
 
-abbrev decreases-loop : tie.decreases-loop
+abbrev decreases-loop : tie.decreases-loop-i
 decreases-loop bytes table i₀ i = length table - i
 
-pub changed-spec : {M : Type 1} → statement M
-changed-spec =
+pub changed_spec : {M : Type 1} → statement M
+changed_spec =
     tie.close
     (tie.spec
     invariant-loop

@@ -10,35 +10,35 @@ use Rattle.lines.proofs.Fields.{with-digit-le, decimal-start, decimal-next, deci
 use Rattle.lines.proofs.decimal.Statement.{statement}
 use Rattle.lines.proofs.decimal.Tie as tie
 
-abbrev invariant-loop : tie.invariant-loop
+abbrev invariant-loop : tie.invariant-loop-i
 invariant-loop field n end v₀ i₀ v i = (i ≤ end) × (end ≡ min n (length field)) × (v ≤ too_many) × (v ≡ decimal_of (take i field))
 
-abbrev decreases-loop : tie.decreases-loop
+abbrev decreases-loop : tie.decreases-loop-i
 decreases-loop field n end v₀ i₀ v i = end - i
 
-loop-holds : tie.Need-loop-init invariant-loop decreases-loop
-loop-holds c = (omega arith, c.least.ensures, omega arith, decimal-start c.before.before.args.field.now)
+loop-holds : tie.Need-loop-i-init invariant-loop decreases-loop
+loop-holds c = (omega arith, c.least-end.ensures, omega arith, decimal-start c.before.before.args.field.now)
 
-loop-again : tie.Need-loop-preserved invariant-loop decreases-loop
+loop-again : tie.Need-loop-i-preserved invariant-loop decreases-loop
 loop-again c =
     let at-loop = c.before.before.before in
     let a = at-loop.before.before.before.args in
-    let l = at-loop.loop in (
+    let l = at-loop.loop-i in (
       omega arith,
       l.invariant.1,
-      rw c.step.ensures (with-digit-le _ _),
-      c.step.ensures ∙ decimal-next a.field.now l.i l.v (omega arith) l.invariant.3,
+      rw c.step-v.ensures (with-digit-le _ _),
+      c.step-v.ensures ∙ decimal-next a.field.now l.i l.v (omega arith) l.invariant.3,
     )
 
 returns : tie.Need-returns invariant-loop decreases-loop
 returns c =
-    let l = c.before.loop in
+    let l = c.before.loop-i in
     let limited = c.before.before in
     let a = limited.before.before.args in
     l.invariant.3 ∙ decimal-end a.field.now a.n l.i (omega arith)
 
-pub decimal-spec : {M : Type 1} → statement M
-decimal-spec =
+pub decimal_spec : {M : Type 1} → statement M
+decimal_spec =
     tie.close
     (tie.spec
     invariant-loop

@@ -6,8 +6,8 @@ use Rattle.lines.proofs.Digits.{below-digits, decimal_digit, below-capitals, cap
 use Rattle.lines.proofs.digit.Statement.{statement}
 use Rattle.lines.proofs.digit.Tie as tie
 
-pub digit-spec : {M : Type 1} → statement M
-digit-spec =
+pub digit_spec : {M : Type 1} → statement M
+digit_spec =
     tie.close
     (tie.spec
     (λ c. below-digits _ (omega arith))

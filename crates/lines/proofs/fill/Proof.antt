@@ -10,19 +10,19 @@ use Rattle.lines.proofs.Buffers.{fill_start, fill-next, fill_end}
 use Rattle.lines.proofs.fill.Statement.{statement}
 use Rattle.lines.proofs.fill.Tie as tie
 
-abbrev invariant-loop : tie.invariant-loop
+abbrev invariant-loop : tie.invariant-loop-i
 invariant-loop out₀ from to b end i₀ out i =
     (from ≤ i) × (i - from ≤ end - from) × (end ≡ min to (length out₀)) × (length out ≡ length out₀) × (out ≡ over out₀ from (replicate (i - from) b))
 
-abbrev decreases-loop : tie.decreases-loop
+abbrev decreases-loop : tie.decreases-loop-i
 decreases-loop out₀ from to b end i₀ out i = end - i
 
-loop-holds : tie.Need-loop-init invariant-loop decreases-loop
-loop-holds c = (omega arith, omega arith, c.least.ensures, refl, fill_start _ _ _)
+loop-holds : tie.Need-loop-i-init invariant-loop decreases-loop
+loop-holds c = (omega arith, omega arith, c.least-end.ensures, refl, fill_start _ _ _)
 
-loop-again : tie.Need-loop-preserved invariant-loop decreases-loop
+loop-again : tie.Need-loop-i-preserved invariant-loop decreases-loop
 loop-again c =
-    let l = c.before.loop in
+    let l = c.before.loop-i in
     let limited = c.before.before in
     let a = limited.before.before.args in (
       omega arith,
@@ -34,7 +34,7 @@ loop-again c =
 
 returns : tie.Need-returns invariant-loop decreases-loop
 returns c =
-    let l = c.before.loop in
+    let l = c.before.loop-i in
     l.invariant.4 ∙ fill_end _ _ _ _ l.i (omega arith)
 
 pub fill_spec : {M : Type 1} → statement M

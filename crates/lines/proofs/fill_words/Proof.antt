@@ -12,18 +12,18 @@ use Rattle.lines.proofs.Buffers.{firsts-start, firsts-put}
 use Rattle.lines.proofs.fill_words.Statement.{statement}
 use Rattle.lines.proofs.fill_words.Tie as tie
 
-abbrev invariant-loop : tie.invariant-loop
+abbrev invariant-loop : tie.invariant-loop-i
 invariant-loop bytes n table₀ end i₀ table i = (i ≤ end) × (end ≡ min n (length table₀)) × (length table ≡ length table₀) × (table ≡ over table₀ 0 (firsts (word_at bytes) i))
 
-abbrev decreases-loop : tie.decreases-loop
+abbrev decreases-loop : tie.decreases-loop-i
 decreases-loop bytes n table₀ end i₀ table i = end - i
 
-loop-holds : tie.Need-loop-init invariant-loop decreases-loop
-loop-holds c = (omega arith, c.least.ensures, refl, firsts-start _ _)
+loop-holds : tie.Need-loop-i-init invariant-loop decreases-loop
+loop-holds c = (omega arith, c.least-end.ensures, refl, firsts-start _ _)
 
-loop-again : tie.Need-loop-preserved invariant-loop decreases-loop
+loop-again : tie.Need-loop-i-preserved invariant-loop decreases-loop
 loop-again c =
-    let l = c.before.before.loop in (
+    let l = c.before.before.loop-i in (
       omega arith,
       l.invariant.1,
       simp length-set l.invariant.2,
@@ -36,11 +36,11 @@ returns c =
     let at-loop = c.before in
     let limited = at-loop.before in
     let a = limited.before.before.before.args in
-    let e : at-loop.loop.i ≡ min a.n (length a.table.now) = omega arith in
-    at-loop.loop.invariant.3 ∙ ap (λ k. over a.table.now 0 (firsts (word_at a.bytes.now) k)) e
+    let e : at-loop.loop-i.i ≡ min a.n (length a.table.now) = omega arith in
+    at-loop.loop-i.invariant.3 ∙ ap (λ k. over a.table.now 0 (firsts (word_at a.bytes.now) k)) e
 
-pub fill-words-spec : {M : Type 1} → statement M
-fill-words-spec =
+pub fill_words_spec : {M : Type 1} → statement M
+fill_words_spec =
     tie.close
     (tie.spec
     invariant-loop

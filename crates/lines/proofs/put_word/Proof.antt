@@ -6,8 +6,8 @@ use lib.Seq.{set_out}
 use Rattle.lines.proofs.put_word.Statement.{statement}
 use Rattle.lines.proofs.put_word.Tie as tie
 
-returns-2 : tie.Need-returns-2
-returns-2 c = sym (set_out _ _ _ c.if1.false)
+returns-2 : tie.Need-returns-else-i-table
+returns-2 c = sym (set_out _ _ _ c.if-i-table.false)
 
-pub put-word-spec : {M : Type 1} → statement M
-put-word-spec = tie.close (tie.spec (λ c. search rules) (λ c. search rules) (λ c. search rules) (λ c. search rules) returns-2)
+pub put_word_spec : {M : Type 1} → statement M
+put_word_spec = tie.close (tie.spec (λ c. search rules) (λ c. search rules) (λ c. search rules) (λ c. search rules) returns-2)

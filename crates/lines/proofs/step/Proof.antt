@@ -7,7 +7,7 @@ use Rattle.lines.proofs.Fields.{digit-below, digit-above, digit-within}
 use Rattle.lines.proofs.step.Statement.{statement}
 use Rattle.lines.proofs.step.Tie as tie
 
-returns-3 : tie.Need-returns-3
+returns-3 : tie.Need-returns
 returns-3 c = c.cap.ensures ∙ digit-within _ _ (omega arith) (omega arith)
 
 pub step_spec : {M : Type 1} → statement M

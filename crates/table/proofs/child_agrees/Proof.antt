@@ -8,51 +8,51 @@ use Rattle.table.proofs.Tests.{apart, says-yes, says-no, says-eqb}
 use Rattle.table.proofs.child_agrees.Statement.{statement}
 use Rattle.table.proofs.child_agrees.Tie as tie
 
-returns : tie.Need-returns
-returns c = says-no (λ is. let e = c.before.word.ensures in let on = is.on in let t = c.if1.true in omega arith)
+returns : tie.Need-returns-then-next-j
+returns c = says-no (λ is. let e = c.before.word-next.ensures in let on = is.on in let t = c.if-next-j.true in omega arith)
 
-returns-2 : tie.Need-returns-2
-returns-2 c = says-no (λ is. let e = c.before.before.word.ensures in let le = is.within in let t = c.if2.true in omega arith)
+returns-2 : tie.Need-returns-then-end-next
+returns-2 c = says-no (λ is. let e = c.before.before.word-next.ensures in let le = is.within in let t = c.if-end-next.true in omega arith)
 
-returns-3 : tie.Need-returns-3
-returns-3 c = says-no (λ is. c.if3.true (c.before.word2.ensures ∙ is.parent refl))
+returns-3 : tie.Need-returns-then-word-parent
+returns-3 c = says-no (λ is. c.if-word-parent.true (c.before.word.ensures ∙ is.parent refl))
 
-returns-4 : tie.Need-returns-4
+returns-4 : tie.Need-returns-then-not-list
 returns-4 c =
     let at-parent = c.before in
     let at-end = at-parent.before.before in
-    let e = at-end.before.before.word.ensures in
-    let a = at-end.before.if1.false in
-    let b = at-end.if2.false in
+    let e = at-end.before.before.word-next.ensures in
+    let a = at-end.before.if-next-j.false in
+    let b = at-end.if-end-next.false in
     says-yes (record {
       on = omega arith;
       within = omega arith;
-      nameless = λ p. absurd (apart _ p (not-true _ c.if4.true));
-      parent = λ _. sym at-parent.before.word2.ensures ∙ at-parent.if3.false;
+      nameless = λ p. absurd (apart _ p (not-true _ c.if-not-list.true));
+      parent = λ _. sym at-parent.before.word.ensures ∙ at-parent.if-word-parent.false;
     })
 
-returns-5 : tie.Need-returns-5
-returns-5 c = says-no (λ is. c.if5.true (c.before.word3.ensures ∙ (is.nameless (not-false _ c.before.before.if4.false)).0))
+returns-5 : tie.Need-returns-then-word-ne0
+returns-5 c = says-no (λ is. c.if-word-ne0.true (c.before.word-2.ensures ∙ (is.nameless (not-false _ c.before.before.if-not-list.false)).0))
 
-returns-6 : tie.Need-returns-6
+returns-6 : tie.Need-returns
 returns-6 c =
     let at_name = c.before in
     let at-list = at_name.before.before in
     let at-parent = at-list.before in
     let at-end = at-parent.before.before in
-    let e = at-end.before.before.word.ensures in
-    let a = at-end.before.if1.false in
-    let b = at-end.if2.false in
+    let e = at-end.before.before.word-next.ensures in
+    let a = at-end.before.if-next-j.false in
+    let b = at-end.if-end-next.false in
     says-eqb _ _
     (λ p. record {
       on = omega arith;
       within = omega arith;
-      nameless = λ _. (sym at_name.before.word3.ensures ∙ at_name.if5.false, sym c.word4.ensures ∙ p);
-      parent = λ _. sym at-parent.before.word2.ensures ∙ at-parent.if3.false;
+      nameless = λ _. (sym at_name.before.word-2.ensures ∙ at_name.if-word-ne0.false, sym c.word-3.ensures ∙ p);
+      parent = λ _. sym at-parent.before.word.ensures ∙ at-parent.if-word-parent.false;
     })
-    (λ is. c.word4.ensures ∙ (is.nameless (not-false _ at-list.if4.false)).1)
+    (λ is. c.word-3.ensures ∙ (is.nameless (not-false _ at-list.if-not-list.false)).1)
 
-pub child-agrees-spec : {M : Type 1} → statement M
-child-agrees-spec =
+pub child_agrees_spec : {M : Type 1} → statement M
+child_agrees_spec =
     tie.close
     (tie.spec (λ c κs. search rules) returns returns-2 (λ c κs. search rules) returns-3 returns-4 (λ c κs. search rules) returns-5 (λ c κs. search rules) returns-6)

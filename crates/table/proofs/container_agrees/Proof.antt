@@ -7,22 +7,22 @@ use Rattle.table.proofs.Tests.{says-no, container-all, container-broken, contain
 use Rattle.table.proofs.container_agrees.Statement.{statement}
 use Rattle.table.proofs.container_agrees.Tie as tie
 
-returns : tie.Need-returns
-returns c = says-no (λ is. c.if1.true (c.before.word.ensures ∙ is.start))
+returns : tie.Need-returns-then-word-ne0
+returns c = says-no (λ is. c.if-word-ne0.true (c.before.word.ensures ∙ is.start))
 
-returns-2 : tie.Need-returns-2
-returns-2 c = says-no (λ is. c.if2.true (c.before.word2.ensures ∙ is.long))
+returns-2 : tie.Need-returns-then-word-ne0-2
+returns-2 c = says-no (λ is. c.if-word-ne0-2.true (c.before.word-2.ensures ∙ is.long))
 
-returns-3 : tie.Need-returns-3
-returns-3 c = says-no (λ is. c.if3.true (c.before.before.word3.ensures ∙ is.listed ∙ sym c.before.list-kind-at.ensures))
+returns-3 : tie.Need-returns-then-word-list_kind_at
+returns-3 c = says-no (λ is. c.if-word-list_kind_at.true (c.before.before.word-3.ensures ∙ is.listed ∙ sym c.before.list_kind_at.ensures))
 
-returns-4 : tie.Need-returns-4
-returns-4 c = says-no (λ is. let e = c.before.word4.ensures in let on = container-on _ _ _ _ is in let t = c.if4.true in omega arith)
+returns-4 : tie.Need-returns-then-end-i
+returns-4 c = says-no (λ is. let e = c.before.word-end.ensures in let on = container-on _ _ _ _ is in let t = c.if-end-i.true in omega arith)
 
-returns-5 : tie.Need-returns-5
-returns-5 c = says-no (λ is. let e = c.before.before.word4.ensures in let le = is.within in let t = c.if5.true in omega arith)
+returns-5 : tie.Need-returns-then-n-end
+returns-5 c = says-no (λ is. let e = c.before.before.word-end.ensures in let le = is.within in let t = c.if-n-end.true in omega arith)
 
-returns-6 : tie.Need-returns-6
+returns-6 : tie.Need-returns-in-All
 returns-6 c =
     let at-hop-through = c.before.before.before in
     let at-word6 = at-hop-through.before in
@@ -37,22 +37,22 @@ returns-6 c =
     let at-else1 = at-word2.before in
     let at-word = at-else1.before in
     let start = at-word.before.before in
-    container-all _ _ _ _ _ _ at-word6.word6.ensures at-word4.word4.ensures at-hop-through.hop-through.result at-hop-through.hop-through.ensures
-    start.requires.2 (sym at-word.word.ensures ∙ at-else1.if1.false) (sym at-word2.word2.ensures ∙ at-else2.if2.false)
-    (sym at-word3.word3.ensures ∙ at-else3.if3.false ∙ at-list-kind-at.list-kind-at.ensures)
-    (rw at-word4.word4.ensures at at-else5.if5.false)
-    _ c.before.hops.given.1 _ at-word5.word5.ensures
+    container-all _ _ _ _ _ _ at-word6.word-4.ensures at-word4.word-end.ensures at-hop-through.hop_through.result at-hop-through.hop_through.ensures
+    start.requires.2 (sym at-word.word.ensures ∙ at-else1.if-word-ne0.false) (sym at-word2.word-2.ensures ∙ at-else2.if-word-ne0-2.false)
+    (sym at-word3.word-3.ensures ∙ at-else3.if-word-list_kind_at.false ∙ at-list-kind-at.list_kind_at.ensures)
+    (rw at-word4.word-end.ensures at at-else5.if-n-end.false)
+    _ c.before.hops-1.given.1 _ at-word5.word-count.ensures
 
-returns-7 : tie.Need-returns-7
+returns-7 : tie.Need-returns-in-Broken
 returns-7 c =
     let at-word6 = c.before.before.before in
     let at-else4 = at-word6.before.before.before in
     let at-word4 = at-else4.before in
-    container-broken _ _ _ _ _ _ at-word6.word6.ensures at-word4.word4.ensures c.before.before.hop-through.result c.before.before.hop-through.ensures
-    c.enum_told.given.1
+    container-broken _ _ _ _ _ _ at-word6.word-4.ensures at-word4.word-end.ensures c.before.before.hop_through.result c.before.before.hop_through.ensures
+    c.enum_told-1.given.1
 
-pub container-agrees-spec : {M : Type 1} → statement M
-container-agrees-spec =
+pub container_agrees_spec : {M : Type 1} → statement M
+container_agrees_spec =
     tie.close
     (tie.spec
     (λ c κs. search rules)

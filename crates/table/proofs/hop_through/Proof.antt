@@ -9,39 +9,39 @@ use Rattle.table.proofs.Children.{Hopped, hop-none, hop-more, hop-done, hop-brok
 use Rattle.table.proofs.hop_through.Statement.{statement}
 use Rattle.table.proofs.hop_through.Tie as tie
 
-abbrev invariant-loop : tie.invariant-loop
+abbrev invariant-loop : tie.invariant-loop-j
 invariant-loop table parent from end list j₀ count₀ j count = Hopped (word table) true list parent end from j count
 
-abbrev decreases-loop : tie.decreases-loop
+abbrev decreases-loop : tie.decreases-loop-j
 decreases-loop table parent from end list j₀ count₀ j count = end - j
 
-loop-holds : tie.Need-loop-init invariant-loop decreases-loop
+loop-holds : tie.Need-loop-j-init invariant-loop decreases-loop
 loop-holds c = hop-none _ _ _ _ _ _ c.before.requires.0
 
-returns : tie.Need-returns invariant-loop decreases-loop
-returns c = hop-broken _ _ _ _ _ _ _ _ c.before.before.before.loop.invariant c.before.before.loop-test.true (c.before.child-agrees.ensures.no (not-true _ c.if1.true))
+returns : tie.Need-returns-then-not-child_agrees invariant-loop decreases-loop
+returns c = hop-broken _ _ _ _ _ _ _ _ c.before.before.before.loop-j.invariant c.before.before.loop-j-test.true (c.before.child_agrees.ensures.no (not-true _ c.if-not-child_agrees.true))
 
-add-count : tie.Need-overflow-add-count invariant-loop decreases-loop
-add-count c = let few = c.before.before.before.loop.invariant.few in omega arith
+add-count : tie.Need-overflow_add-count invariant-loop decreases-loop
+add-count c = let few = c.before.before.before.loop-j.invariant.few in omega arith
 
-loop-less : tie.Need-loop-smaller invariant-loop decreases-loop
+loop-less : tie.Need-loop-j-smaller invariant-loop decreases-loop
 loop-less c =
-    let on = (c.before.before.child-agrees.ensures.yes (not-false _ c.before.if1.false)).on in
-    let e = c.word.ensures in
+    let on = (c.before.before.child_agrees.ensures.yes (not-false _ c.before.if-not-child_agrees.false)).on in
+    let e = c.word-j.ensures in
     omega arith
 
-loop-again : tie.Need-loop-preserved invariant-loop decreases-loop
+loop-again : tie.Need-loop-j-preserved invariant-loop decreases-loop
 loop-again c =
     let in-loop = c.before.before.before in
     let at-loop = in-loop.before in
-    hop-more _ _ _ _ _ _ _ _ at-loop.loop.invariant in-loop.loop-test.true
-    (c.before.before.child-agrees.ensures.yes (not-false _ c.before.if1.false)) _ c.word.ensures
+    hop-more _ _ _ _ _ _ _ _ at-loop.loop-j.invariant in-loop.loop-j-test.true
+    (c.before.before.child_agrees.ensures.yes (not-false _ c.before.if-not-child_agrees.false)) _ c.word-j.ensures
 
-returns-2 : tie.Need-returns-2 invariant-loop decreases-loop
-returns-2 c = hop-done _ _ _ _ _ _ _ _ c.before.loop.invariant c.loop-test.false
+returns-2 : tie.Need-returns invariant-loop decreases-loop
+returns-2 c = hop-done _ _ _ _ _ _ _ _ c.before.loop-j.invariant c.loop-j-test.false
 
-pub hop-through-spec : {M : Type 1} → statement M
-hop-through-spec =
+pub hop_through_spec : {M : Type 1} → statement M
+hop_through_spec =
     tie.close
     (tie.spec
     invariant-loop

@@ -5,11 +5,11 @@ use mathlib.Core.Path.{refl}
 use Rattle.table.proofs.is_container.Statement.{statement}
 use Rattle.table.proofs.is_container.Tie as tie
 
-returns : tie.Need-returns
-returns c = rw (eq-eqb _ _ c.if1.true) refl
+returns : tie.Need-returns-then-kind-eq-LIST
+returns c = rw (eq-eqb _ _ c.if-kind-eq-LIST.true) refl
 
-returns-2 : tie.Need-returns-2
-returns-2 c = rw (ne_eqb _ _ c.if1.false) refl
+returns-2 : tie.Need-returns
+returns-2 c = rw (ne_eqb _ _ c.if-kind-eq-LIST.false) refl
 
-pub is-container-spec : {M : Type 1} → statement M
-is-container-spec = tie.close (tie.spec returns returns-2)
+pub is_container_spec : {M : Type 1} → statement M
+is_container_spec = tie.close (tie.spec returns returns-2)

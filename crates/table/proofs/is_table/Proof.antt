@@ -10,82 +10,82 @@ use Rattle.table.proofs.Verdicts.{verdict-is}
 use Rattle.table.proofs.is_table.Statement.{statement}
 use Rattle.table.proofs.is_table.Tie as tie
 
-returns : tie.Need-returns
+returns : tie.Need-returns-then-doc_len-gt-DOCUMENT
 returns c =
-    verdict-is _ _ Verdict.OverLimit (λ w. let b = w.bytes in let t = c.if1.true in omega arith)
+    verdict-is _ _ Verdict.OverLimit (λ w. let b = w.bytes in let t = c.if-doc_len-gt-DOCUMENT.true in omega arith)
 
-returns-2 : tie.Need-returns-2
+returns-2 : tie.Need-returns-then-table
 returns-2 c =
-    verdict-is _ _ Verdict.OverLimit (λ w. let l = w.words in let t = c.if2.true in omega arith)
+    verdict-is _ _ Verdict.OverLimit (λ w. let l = w.words in let t = c.if-table.true in omega arith)
 
-returns-3 : tie.Need-returns-3
+returns-3 : tie.Need-returns-then-table-n
 returns-3 c =
-    verdict-is _ _ Verdict.NoTable (record { bytes = c.before.before.if1.false; words = c.before.if2.false }, λ t. c.if3.true (omega (arith, table-length _ _ t)))
+    verdict-is _ _ Verdict.NoTable (record { bytes = c.before.before.if-doc_len-gt-DOCUMENT.false; words = c.before.if-table.false }, λ t. c.if-table-n.true (omega (arith, table-length _ _ t)))
 
-returns-4 : tie.Need-returns-4
+returns-4 : tie.Need-returns-then-n-eq0
 returns-4 c =
     verdict-is _ _ Verdict.NoTable (
-      record { bytes = c.before.before.before.if1.false; words = c.before.before.if2.false },
-      λ t. let l = c.before.if3.false in let n = c.if4.true in omega (arith, table-length _ _ t),
+      record { bytes = c.before.before.before.if-doc_len-gt-DOCUMENT.false; words = c.before.before.if-table.false },
+      λ t. let l = c.before.if-table-n.false in let n = c.if-n-eq0.true in omega (arith, table-length _ _ t),
     )
 
-returns-5 : tie.Need-returns-5
+returns-5 : tie.Need-returns-then-word-ne-COMPOUND
 returns-5 c =
     let at_rows = c.before.before.before in
     verdict-is _ _ Verdict.NoTable (
-      record { bytes = at_rows.before.before.if1.false; words = at_rows.before.if2.false },
-      λ t. c.if5.true (c.before.word.ensures ∙ (table-rows _ _ _ at_rows.if3.false t).compound),
+      record { bytes = at_rows.before.before.if-doc_len-gt-DOCUMENT.false; words = at_rows.before.if-table.false },
+      λ t. c.if-word-ne-COMPOUND.true (c.before.word.ensures ∙ (table-rows _ _ _ at_rows.if-table-n.false t).compound),
     )
 
-returns-6 : tie.Need-returns-6
+returns-6 : tie.Need-returns-then-word-n
 returns-6 c =
     let at-kind = c.before.before in
     let at_rows = at-kind.before.before.before in
     verdict-is _ _ Verdict.NoTable (
-      record { bytes = at_rows.before.before.if1.false; words = at_rows.before.if2.false },
-      λ t. c.if6.true (c.before.word2.ensures ∙ (table-rows _ _ _ at_rows.if3.false t).whole),
+      record { bytes = at_rows.before.before.if-doc_len-gt-DOCUMENT.false; words = at_rows.before.if-table.false },
+      λ t. c.if-word-n.true (c.before.word-2.ensures ∙ (table-rows _ _ _ at_rows.if-table-n.false t).whole),
     )
 
-returns-7 : tie.Need-returns-7
+returns-7 : tie.Need-returns-then-word-ne0
 returns-7 c =
     let at-end = c.before.before in
     let at-kind = at-end.before.before in
     let at_rows = at-kind.before.before.before in
     verdict-is _ _ Verdict.NoTable (
-      record { bytes = at_rows.before.before.if1.false; words = at_rows.before.if2.false },
-      λ t. c.if7.true (c.before.word3.ensures ∙ (table-rows _ _ _ at_rows.if3.false t).top refl),
+      record { bytes = at_rows.before.before.if-doc_len-gt-DOCUMENT.false; words = at_rows.before.if-table.false },
+      λ t. c.if-word-ne0.true (c.before.word-3.ensures ∙ (table-rows _ _ _ at_rows.if-table-n.false t).top refl),
     )
 
-returns-8 : tie.Need-returns-8
+returns-8 : tie.Need-returns-then-records_agree
 returns-8 c =
     let at_top = c.before.before in
     let at-end = at_top.before.before in
     let at-kind = at-end.before.before in
     let at_rows = at-kind.before.before.before in
     verdict-is _ _ Verdict.Table (
-      record { bytes = at_rows.before.before.if1.false; words = at_rows.before.if2.false },
-      rows-table _ _ _ at_rows.if3.false (record {
-        some = (let n = at-kind.before.before.if4.false in omega arith);
-        compound = sym at-kind.before.word.ensures ∙ at-kind.if5.false;
-        whole = sym at-end.before.word2.ensures ∙ at-end.if6.false;
-        top = λ _. sym at_top.before.word3.ensures ∙ at_top.if7.false;
-        each = c.before.records-agree.ensures.yes c.if8.true;
+      record { bytes = at_rows.before.before.if-doc_len-gt-DOCUMENT.false; words = at_rows.before.if-table.false },
+      rows-table _ _ _ at_rows.if-table-n.false (record {
+        some = (let n = at-kind.before.before.if-n-eq0.false in omega arith);
+        compound = sym at-kind.before.word.ensures ∙ at-kind.if-word-ne-COMPOUND.false;
+        whole = sym at-end.before.word-2.ensures ∙ at-end.if-word-n.false;
+        top = λ _. sym at_top.before.word-3.ensures ∙ at_top.if-word-ne0.false;
+        each = c.before.records_agree.ensures.yes c.if-records_agree.true;
       }),
     )
 
-returns-9 : tie.Need-returns-9
+returns-9 : tie.Need-returns
 returns-9 c =
     let at_top = c.before.before in
     let at-end = at_top.before.before in
     let at-kind = at-end.before.before in
     let at_rows = at-kind.before.before.before in
     verdict-is _ _ Verdict.NoTable (
-      record { bytes = at_rows.before.before.if1.false; words = at_rows.before.if2.false },
-      λ t. c.before.records-agree.ensures.no c.if8.false (table-rows _ _ _ at_rows.if3.false t).each,
+      record { bytes = at_rows.before.before.if-doc_len-gt-DOCUMENT.false; words = at_rows.before.if-table.false },
+      λ t. c.before.records_agree.ensures.no c.if-records_agree.false (table-rows _ _ _ at_rows.if-table-n.false t).each,
     )
 
-pub is-table-spec : {M : Type 1} → statement M
-is-table-spec =
+pub is_table_spec : {M : Type 1} → statement M
+is_table_spec =
     tie.close
     (tie.spec
     returns

@@ -7,41 +7,41 @@ use Rattle.table.proofs.Tests.{says-no, row-container, row-leaf}
 use Rattle.table.proofs.record_agrees.Statement.{statement}
 use Rattle.table.proofs.record_agrees.Tie as tie
 
-returns : tie.Need-returns
+returns : tie.Need-returns-then-not-span_fits
 returns c =
-    says-no (λ is. c.before.span-fits.ensures.no (not-true _ c.if1.true) (rw (c.before.before.before.word.ensures, c.before.before.word2.ensures) is.name))
+    says-no (λ is. c.before.span_fits.ensures.no (not-true _ c.if-not-span_fits.true) (rw (c.before.before.before.word.ensures, c.before.before.word-2.ensures) is.name))
 
-container-agrees-requires : tie.Need-container-agrees-requires
-container-agrees-requires c κs =
+container_agrees-requires : tie.Need-container_agrees-requires
+container_agrees-requires c κs =
     let at-else1 = c.before.before.before in
     let at-word = at-else1.before.before.before in
     let start = at-word.before.before in
-    (start.requires.0, start.requires.1, rw c.before.before.word3.ensures at (sym c.before.is-container.ensures ∙ c.if2.true))
+    (start.requires.0, start.requires.1, rw c.before.before.word-3.ensures at (sym c.before.is_container.ensures ∙ c.if-is_container.true))
 
-returns-2 : tie.Need-returns-2
+returns-2 : tie.Need-returns-then-is_container
 returns-2 c =
     let at-word3 = c.before.before.before in
     let at-else1 = at-word3.before in
     let at-span-fits = at-else1.before in
     let at-word2 = at-span-fits.before in
     let at-word = at-word2.before in
-    row-container _ _ _ _ _ (rw (at-word.word.ensures, at-word2.word2.ensures) at (at-span-fits.span-fits.ensures.yes (not-false _ at-else1.if1.false)))
-    (rw at-word3.word3.ensures at (sym c.before.before.is-container.ensures ∙ c.before.if2.true))
-    c.container-agrees.result c.container-agrees.ensures
+    row-container _ _ _ _ _ (rw (at-word.word.ensures, at-word2.word-2.ensures) at (at-span-fits.span_fits.ensures.yes (not-false _ at-else1.if-not-span_fits.false)))
+    (rw at-word3.word-3.ensures at (sym c.before.before.is_container.ensures ∙ c.before.if-is_container.true))
+    c.container_agrees.result c.container_agrees.ensures
 
-returns-3 : tie.Need-returns-3
+returns-3 : tie.Need-returns
 returns-3 c =
     let at-word3 = c.before.before.before in
     let at-else1 = at-word3.before in
     let at-span-fits = at-else1.before in
     let at-word2 = at-span-fits.before in
     let at-word = at-word2.before in
-    row-leaf _ _ _ _ _ (rw (at-word.word.ensures, at-word2.word2.ensures) at (at-span-fits.span-fits.ensures.yes (not-false _ at-else1.if1.false)))
-    (rw at-word3.word3.ensures at (sym c.before.before.is-container.ensures ∙ c.before.if2.false))
-    c.leaf-agrees.result c.leaf-agrees.ensures
+    row-leaf _ _ _ _ _ (rw (at-word.word.ensures, at-word2.word-2.ensures) at (at-span-fits.span_fits.ensures.yes (not-false _ at-else1.if-not-span_fits.false)))
+    (rw at-word3.word-3.ensures at (sym c.before.before.is_container.ensures ∙ c.before.if-is_container.false))
+    c.leaf_agrees.result c.leaf_agrees.ensures
 
-pub record-agrees-spec : {M : Type 1} → statement M
-record-agrees-spec =
+pub record_agrees_spec : {M : Type 1} → statement M
+record_agrees_spec =
     tie.close
     (tie.spec
     (λ c κs. search rules)
@@ -50,7 +50,7 @@ record-agrees-spec =
     returns
     (λ c κs. search rules)
     (λ c κs. search rules)
-    container-agrees-requires
+    container_agrees-requires
     returns-2
     (λ c κs. search rules)
     returns-3)

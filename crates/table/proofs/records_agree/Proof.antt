@@ -11,38 +11,38 @@ use Rattle.table.proofs.Tests.{says-yes, says-no}
 use Rattle.table.proofs.records_agree.Statement.{statement}
 use Rattle.table.proofs.records_agree.Tie as tie
 
-abbrev invariant-loop : tie.invariant-loop
+abbrev invariant-loop : tie.invariant-loop-i
 invariant-loop doc-len table n i₀ i = (i ≤ n) × ((k : ℕ) → k < i → RowIs doc-len (word table) true n k)
 
-abbrev decreases-loop : tie.decreases-loop
+abbrev decreases-loop : tie.decreases-loop-i
 decreases-loop doc-len table n i₀ i = n - i
 
-loop-holds : tie.Need-loop-init invariant-loop decreases-loop
+loop-holds : tie.Need-loop-i-init invariant-loop decreases-loop
 loop-holds c = (omega arith, λ k h. absurd (omega arith))
 
-record-agrees-requires : tie.Need-record-agrees-requires invariant-loop decreases-loop
-record-agrees-requires c κs = (c.loop-test.true, c.before.before.before.requires)
+record_agrees-requires : tie.Need-record_agrees-requires invariant-loop decreases-loop
+record_agrees-requires c κs = (c.loop-i-test.true, c.before.before.before.requires)
 
-returns : tie.Need-returns invariant-loop decreases-loop
+returns : tie.Need-returns-then-not-record_agrees invariant-loop decreases-loop
 returns c =
-    says-no (λ is. c.before.record-agrees.ensures.no (not-true _ c.if1.true) (is c.before.before.before.loop.i c.before.before.loop-test.true))
+    says-no (λ is. c.before.record_agrees.ensures.no (not-true _ c.if-not-record_agrees.true) (is c.before.before.before.loop-i.i c.before.before.loop-i-test.true))
 
-loop-again : tie.Need-loop-preserved invariant-loop decreases-loop
+loop-again : tie.Need-loop-i-preserved invariant-loop decreases-loop
 loop-again c =
-    let v = c.before.before.before.loop.invariant in
-    (omega arith, below_more _ _ v.1 (c.before.record-agrees.ensures.yes (not-false _ c.if1.false)))
+    let v = c.before.before.before.loop-i.invariant in
+    (omega arith, below_more _ _ v.1 (c.before.record_agrees.ensures.yes (not-false _ c.if-not-record_agrees.false)))
 
-returns-2 : tie.Need-returns-2 invariant-loop decreases-loop
-returns-2 c = says-yes (λ i h. c.before.loop.invariant.1 i (omega arith))
+returns-2 : tie.Need-returns invariant-loop decreases-loop
+returns-2 c = says-yes (λ i h. c.before.loop-i.invariant.1 i (omega arith))
 
-pub records-agree-spec : {M : Type 1} → statement M
-records-agree-spec =
+pub records_agree_spec : {M : Type 1} → statement M
+records_agree_spec =
     tie.close
     (tie.spec
     invariant-loop
     decreases-loop
     loop-holds
-    record-agrees-requires
+    record_agrees-requires
     returns
     (λ c. omega arith)
     (λ c. omega arith)

@@ -6,14 +6,14 @@ use Rattle.table.proofs.Tests.{says-no, says-leb}
 use Rattle.table.proofs.span_fits.Statement.{statement}
 use Rattle.table.proofs.span_fits.Tie as tie
 
-returns : tie.Need-returns
-returns c = says-no (λ h. let t = c.if1.true in omega arith)
+returns : tie.Need-returns-then-doc_len-len
+returns c = says-no (λ h. let t = c.if-doc_len-len.true in omega arith)
 
-returns-2 : tie.Need-returns-2
+returns-2 : tie.Need-returns
 returns-2 c =
-    let t = c.if1.false in
+    let t = c.if-doc_len-len.false in
     let a = c.before.args in
-    says-leb a.start (a.doc-len - a.len) (λ h. omega arith) (λ h. omega arith)
+    says-leb a.start (a.doc_len - a.len) (λ h. omega arith) (λ h. omega arith)
 
-pub span-fits-spec : {M : Type 1} → statement M
-span-fits-spec = tie.close (tie.spec returns returns-2)
+pub span_fits_spec : {M : Type 1} → statement M
+span_fits_spec = tie.close (tie.spec returns returns-2)

@@ -19,9 +19,9 @@ other (suc n) h a b c d e f g i j =
     (λ q. absurd (f (sym q))) (λ q. absurd (g (sym q))) (λ q. refl) (λ q. refl) (λ q. refl) (λ q. absurd (i (sym q))) (λ q. absurd (j (sym q)))
     (suc n) (omega arith) h refl
 
-pub width-of-spec : {M : Type 1} → statement M
+pub width_of_spec : {M : Type 1} → statement M
 unfolding width_of
-width-of-spec =
+width_of_spec =
     tie.close
     (tie.spec
     (λ c. ap width_of (sym c.match.keys1))
