@@ -23,7 +23,7 @@ start_of c = (called_of c).before.before
 
 -- the unit at the place
 first : (c : tie.In-Is-2) → let g = c.u-1.given.0 in unit_of (drop (start_of c).args.at (start_of c).args.s.now) ≡ is g.0 g.1.0
-first c = told _ (called_of c).unit_at.ensures c.u-1.given.1
+first c = told _ (called_of c).unit_at.ensures c.in-Is.is
 
 -- it is a half, and a high one
 abbrev half_of : tie.Else-u-ge57344 → tie.In-Is-2
@@ -42,7 +42,7 @@ second-of c = c.before.before.before
 
 second : (c : tie.In-Is-unit_at-2) → let u = high-of (second-of c) in let a = (start_of u).args in let g = u.u-1.given.0 in let h = c.v-1.given.0 in
     unit_of (drop (a.at + g.1.0) a.s.now) ≡ is h.0 h.1.0
-second c = told _ c.before.before.unit_at-in-Is.ensures c.v-1.given.1
+second c = told _ c.before.before.unit_at-in-Is.ensures c.in-Is-unit_at.is
 
 -- which is none below a low half
 abbrev low_of : tie.Else-v-lt56320 → tie.In-Is-unit_at-2
@@ -60,15 +60,15 @@ scalar_at_spec =
     (λ c. omega (arith, simp length-drop at (unit-fits _ _ _ (first (high-of c)))))
     (λ c κs. search rules)
     (λ c. search rules)
-    (λ c. let v = c.before.before in rw (← half (second-of v) _ (second v)) (simp (lt-ltb v.v-1.given.0.0 56320 (omega arith))))
-    (λ c. let v = low_of c.before in let x = v.v-1.given.0.0 in
+    (λ c. let v = c.before.before in rw (← half (second-of v) _ (second v)) (simp (lt-ltb v.in-Is-unit_at.v 56320 (omega arith))))
+    (λ c. let v = low_of c.before in let x = v.in-Is-unit_at.v in
     rw (← half (second-of v) _ (second v)) (simp (le-ltb x 56320 (omega arith), le-leb 57344 x (omega arith))))
     (λ c κs. search rules)
     (λ c. let v = low_of c.before.before in
     omega (arith, simp length-drop at (unit-fits _ _ _ (first (high-of (second-of v)))), simp length-drop at (unit-fits _ _ _ (second v))))
     (λ c. search rules)
     (λ c. search rules)
-    (λ c. let v = low_of c.before.before in let x = v.v-1.given.0.0 in
+    (λ c. let v = low_of c.before.before in let x = v.in-Is-unit_at.v in
     rw (← half (second-of v) _ (second v)) (simp (le-ltb x 56320 (omega arith), lt-leb 57344 x (omega arith), c.pair.ensures)))
-    (λ c. half c.before.before.before _ (told _ c.before.before.unit_at-in-Is.ensures c.enum_told-1.given.1))
-    (λ c. sym (scalar-of _ _ (told _ c.before.before.unit_at.ensures c.enum_told-in-Stuck-1.given.1))))
+    (λ c. half c.before.before.before _ (told _ c.before.before.unit_at-in-Is.ensures c.in-Stuck-unit_at.is))
+    (λ c. sym (scalar-of _ _ (told _ c.before.before.unit_at.ensures c.in-Stuck.is))))

@@ -32,7 +32,7 @@ told-unit c v e = let a = (unit-of c.before).args in utf8-of a.s.now a.at (omega
 
 unit : (c : tie.In-Is-2) → let a = (unit-of c.before.before.before).args in let g = c.u-1.given.0 in
     utf8_of (drop a.at a.s.now) ≡ unpaired (is g.0 g.1.0)
-unit c = told-unit c.before.before _ (told _ c.before.before.unit_at.ensures c.u-1.given.1)
+unit c = told-unit c.before.before _ (told _ c.before.before.unit_at.ensures c.in-Is.is)
 
 -- that is not 0
 abbrev value_of : tie.Else-u-eq0 → tie.In-Is-2
@@ -60,11 +60,11 @@ utf8_at_spec =
     rw (drop4 a.s.now a.at (omega arith)) (simp (ne_eqb x 0 (omega arith), le-leb 240 x (omega arith), lt-leb 248 x (omega arith)) c.four.ensures))
     (λ c κs. search rules)
     (λ c. search rules)
-    (λ c. let u = c.before.before in rw (unit u) (simp (eq-eqb u.u-1.given.0.0 0 (omega arith))))
-    (λ c. let u = value_of c.before in rw (unit u) (simp (ne_eqb u.u-1.given.0.0 0 (omega arith), lt-ltb u.u-1.given.0.0 55296 (omega arith))))
-    (λ c. let u = value_of c.before.before in let x = u.u-1.given.0.0 in
+    (λ c. let u = c.before.before in rw (unit u) (simp (eq-eqb u.in-Is.u 0 (omega arith))))
+    (λ c. let u = value_of c.before in rw (unit u) (simp (ne_eqb u.in-Is.u 0 (omega arith), lt-ltb u.in-Is.u 55296 (omega arith))))
+    (λ c. let u = value_of c.before.before in let x = u.in-Is.u in
     rw (unit u) (simp (ne_eqb x 0 (omega arith), le-ltb x 55296 (omega arith), lt-ltb x 57344 (omega arith))))
     (λ c. search rules)
-    (λ c. let u = value_of c.before.before in let x = u.u-1.given.0.0 in
+    (λ c. let u = value_of c.before.before in let x = u.in-Is.u in
     rw (unit u) (simp (ne_eqb x 0 (omega arith), le-ltb x 55296 (omega arith), le-ltb x 57344 (omega arith))))
-    (λ c. rw (told-unit c.before.before _ (told _ c.before.before.unit_at.ensures c.enum_told-1.given.1)) refl))
+    (λ c. rw (told-unit c.before.before _ (told _ c.before.before.unit_at.ensures c.in-Stuck.is)) refl))

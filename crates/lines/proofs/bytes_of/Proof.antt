@@ -10,13 +10,13 @@ returns : tie.Need-returns-in-Bytes
 returns c =
     let matched = c.before.before in
     let done = matched.before.unhex in
-    record { answer = count-bytes _ _ (sym c.before.many-1.given.1 ∙ done.ensures.answer); put = done.ensures.put }
+    record { answer = count-bytes _ _ (sym c.before.in-Bytes.is ∙ done.ensures.answer); put = done.ensures.put }
 
 returns-2 : tie.Need-returns-in-Bad
 returns-2 c =
     let matched = c.before in
     let done = matched.before.before.unhex in
-    record { answer = count-bad _ (sym c.enum_told-1.given.1 ∙ done.ensures.answer); put = done.ensures.put }
+    record { answer = count-bad _ (sym c.in-Bad.is ∙ done.ensures.answer); put = done.ensures.put }
 
 pub bytes_of_spec : {M : Type 1} → statement M
 bytes_of_spec =

@@ -32,11 +32,11 @@ returns-4 : tie.Need-returns-then-not-all_digits
 returns-4 c =
     let fitting = c.before.before in
     let shaped = fitting.before in
-    unhexed-none _ (hex-other _ _ _ shaped.before.if-line-n.false (even shaped) fitting.if-out-n.false (sym c.before.all_digits.ensures ∙ not-true _ c.if-not-all_digits.true))
+    unhexed-none _ (hex-other _ _ _ shaped.before.if-line-n.false (even shaped) fitting.if-out-n.false (sym c.before.all_digits.ensures ∙ c.if-not-all_digits.true))
 
 -- All are digits.
 digits : (c : tie.Else-not-all_digits) → let fitting = c.before.before in let a = (start_of fitting.before.before).args in all_digits (take a.n a.line.now) ≡ true
-digits c = sym c.before.all_digits.ensures ∙ not-false _ c.if-not-all_digits.false
+digits c = sym c.before.all_digits.ensures ∙ c.if-not-all_digits.false
 
 put_bytes-requires : tie.Need-put_bytes-requires
 put_bytes-requires c κs =

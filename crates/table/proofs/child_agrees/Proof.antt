@@ -27,12 +27,12 @@ returns-4 c =
     says-yes (record {
       on = omega arith;
       within = omega arith;
-      nameless = λ p. absurd (apart _ p (not-true _ c.if-not-list.true));
+      nameless = λ p. absurd (apart _ p (c.if-not-list.true));
       parent = λ _. sym at-parent.before.word.ensures ∙ at-parent.if-word-parent.false;
     })
 
 returns-5 : tie.Need-returns-then-word-ne0
-returns-5 c = says-no (λ is. c.if-word-ne0.true (c.before.word-2.ensures ∙ (is.nameless (not-false _ c.before.before.if-not-list.false)).0))
+returns-5 c = says-no (λ is. c.if-word-ne0.true (c.before.word-2.ensures ∙ (is.nameless (c.before.before.if-not-list.false)).0))
 
 returns-6 : tie.Need-returns
 returns-6 c =
@@ -50,7 +50,7 @@ returns-6 c =
       nameless = λ _. (sym at_name.before.word-2.ensures ∙ at_name.if-word-ne0.false, sym c.word-3.ensures ∙ p);
       parent = λ _. sym at-parent.before.word.ensures ∙ at-parent.if-word-parent.false;
     })
-    (λ is. c.word-3.ensures ∙ (is.nameless (not-false _ at-list.if-not-list.false)).1)
+    (λ is. c.word-3.ensures ∙ (is.nameless (at-list.if-not-list.false)).1)
 
 pub child_agrees_spec : {M : Type 1} → statement M
 child_agrees_spec =

@@ -41,7 +41,7 @@ returns-6 c =
     start.requires.2 (sym at-word.word.ensures ∙ at-else1.if-word-ne0.false) (sym at-word2.word-2.ensures ∙ at-else2.if-word-ne0-2.false)
     (sym at-word3.word-3.ensures ∙ at-else3.if-word-list_kind_at.false ∙ at-list-kind-at.list_kind_at.ensures)
     (rw at-word4.word-end.ensures at at-else5.if-n-end.false)
-    _ c.before.hops-1.given.1 _ at-word5.word-count.ensures
+    _ c.before.in-All.is _ at-word5.word-count.ensures
 
 returns-7 : tie.Need-returns-in-Broken
 returns-7 c =
@@ -49,7 +49,7 @@ returns-7 c =
     let at-else4 = at-word6.before.before.before in
     let at-word4 = at-else4.before in
     container-broken _ _ _ _ _ _ at-word6.word-4.ensures at-word4.word-end.ensures c.before.before.hop_through.result c.before.before.hop_through.ensures
-    c.enum_told-1.given.1
+    c.in-Broken.is
 
 pub container_agrees_spec : {M : Type 1} → statement M
 container_agrees_spec =

@@ -19,14 +19,14 @@ loop-holds : tie.Need-loop-j-init invariant-loop decreases-loop
 loop-holds c = hop-none _ _ _ _ _ _ c.before.requires.0
 
 returns : tie.Need-returns-then-not-child_agrees invariant-loop decreases-loop
-returns c = hop-broken _ _ _ _ _ _ _ _ c.before.before.before.loop-j.invariant c.before.before.loop-j-test.true (c.before.child_agrees.ensures.no (not-true _ c.if-not-child_agrees.true))
+returns c = hop-broken _ _ _ _ _ _ _ _ c.before.before.before.loop-j.invariant c.before.before.loop-j-test.true (c.before.child_agrees.ensures.no (c.if-not-child_agrees.true))
 
 add-count : tie.Need-overflow_add-count invariant-loop decreases-loop
 add-count c = let few = c.before.before.before.loop-j.invariant.few in omega arith
 
 loop-less : tie.Need-loop-j-smaller invariant-loop decreases-loop
 loop-less c =
-    let on = (c.before.before.child_agrees.ensures.yes (not-false _ c.before.if-not-child_agrees.false)).on in
+    let on = (c.before.before.child_agrees.ensures.yes (c.before.if-not-child_agrees.false)).on in
     let e = c.word-j.ensures in
     omega arith
 
@@ -35,7 +35,7 @@ loop-again c =
     let in-loop = c.before.before.before in
     let at-loop = in-loop.before in
     hop-more _ _ _ _ _ _ _ _ at-loop.loop-j.invariant in-loop.loop-j-test.true
-    (c.before.before.child_agrees.ensures.yes (not-false _ c.before.if-not-child_agrees.false)) _ c.word-j.ensures
+    (c.before.before.child_agrees.ensures.yes (c.before.if-not-child_agrees.false)) _ c.word-j.ensures
 
 returns-2 : tie.Need-returns invariant-loop decreases-loop
 returns-2 c = hop-done _ _ _ _ _ _ _ _ c.before.loop-j.invariant c.loop-j-test.false

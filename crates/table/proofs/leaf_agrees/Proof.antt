@@ -20,14 +20,14 @@ returns c =
     let at-word2 = c.before.before.before in
     let at-word = at-word2.before in
     let e = rw (at-word2.word.ensures, at-word.word-len.ensures, c.before.before.word-2.ensures) at c.before.leaf_fits.ensures in
-    says-no (λ is. apart _ (e ∙ is.fits) (not-true _ c.if-not-leaf_fits.true))
+    says-no (λ is. apart _ (e ∙ is.fits) (c.if-not-leaf_fits.true))
 
 returns-2 : tie.Need-returns-then-not-span_fits
 returns-2 c =
     let at-else1 = c.before.before.before in
     let at-word2 = at-else1.before.before.before in
     let at-word = at-word2.before in
-    says-no (λ is. c.before.span_fits.ensures.no (not-true _ c.if-not-span_fits.true) (rw (c.before.before.word-3.ensures, at-word.word-len.ensures) is.body))
+    says-no (λ is. c.before.span_fits.ensures.no (c.if-not-span_fits.true) (rw (c.before.before.word-3.ensures, at-word.word-len.ensures) is.body))
 
 returns-3 : tie.Need-returns-then-word-ne0
 returns-3 c = says-no (λ is. c.if-word-ne0.true (c.before.word-4.ensures ∙ is.plain))
@@ -43,10 +43,10 @@ returns-4 c =
     let at-word2 = at-word3.before in
     let at-word = at-word2.before in
     let e = rw (at-word2.word.ensures, at-word.word-len.ensures, at-word3.word-2.ensures) at at-leaf-fits.leaf_fits.ensures in
-    let b = at-span-fits.span_fits.ensures.yes (not-false _ at-else2.if-not-span_fits.false) in
+    let b = at-span-fits.span_fits.ensures.yes (at-else2.if-not-span_fits.false) in
     says-eqb _ _
     (λ p. record {
-      fits = sym e ∙ not-false _ at-else1.if-not-leaf_fits.false;
+      fits = sym e ∙ at-else1.if-not-leaf_fits.false;
       body = rw (at-word4.word-3.ensures, at-word.word-len.ensures) at b;
       plain = sym c.before.before.word-4.ensures ∙ c.before.if-word-ne0.false;
       next = sym c.word-5.ensures ∙ p;

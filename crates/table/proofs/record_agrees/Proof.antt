@@ -9,7 +9,7 @@ use Rattle.table.proofs.record_agrees.Tie as tie
 
 returns : tie.Need-returns-then-not-span_fits
 returns c =
-    says-no (λ is. c.before.span_fits.ensures.no (not-true _ c.if-not-span_fits.true) (rw (c.before.before.before.word.ensures, c.before.before.word-2.ensures) is.name))
+    says-no (λ is. c.before.span_fits.ensures.no (c.if-not-span_fits.true) (rw (c.before.before.before.word.ensures, c.before.before.word-2.ensures) is.name))
 
 container_agrees-requires : tie.Need-container_agrees-requires
 container_agrees-requires c κs =
@@ -25,7 +25,7 @@ returns-2 c =
     let at-span-fits = at-else1.before in
     let at-word2 = at-span-fits.before in
     let at-word = at-word2.before in
-    row-container _ _ _ _ _ (rw (at-word.word.ensures, at-word2.word-2.ensures) at (at-span-fits.span_fits.ensures.yes (not-false _ at-else1.if-not-span_fits.false)))
+    row-container _ _ _ _ _ (rw (at-word.word.ensures, at-word2.word-2.ensures) at (at-span-fits.span_fits.ensures.yes (at-else1.if-not-span_fits.false)))
     (rw at-word3.word-3.ensures at (sym c.before.before.is_container.ensures ∙ c.before.if-is_container.true))
     c.container_agrees.result c.container_agrees.ensures
 
@@ -36,7 +36,7 @@ returns-3 c =
     let at-span-fits = at-else1.before in
     let at-word2 = at-span-fits.before in
     let at-word = at-word2.before in
-    row-leaf _ _ _ _ _ (rw (at-word.word.ensures, at-word2.word-2.ensures) at (at-span-fits.span_fits.ensures.yes (not-false _ at-else1.if-not-span_fits.false)))
+    row-leaf _ _ _ _ _ (rw (at-word.word.ensures, at-word2.word-2.ensures) at (at-span-fits.span_fits.ensures.yes (at-else1.if-not-span_fits.false)))
     (rw at-word3.word-3.ensures at (sym c.before.before.is_container.ensures ∙ c.before.if-is_container.false))
     c.leaf_agrees.result c.leaf_agrees.ensures
 

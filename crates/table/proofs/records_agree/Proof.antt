@@ -25,12 +25,12 @@ record_agrees-requires c κs = (c.loop-i-test.true, c.before.before.before.requi
 
 returns : tie.Need-returns-then-not-record_agrees invariant-loop decreases-loop
 returns c =
-    says-no (λ is. c.before.record_agrees.ensures.no (not-true _ c.if-not-record_agrees.true) (is c.before.before.before.loop-i.i c.before.before.loop-i-test.true))
+    says-no (λ is. c.before.record_agrees.ensures.no (c.if-not-record_agrees.true) (is c.before.before.before.loop-i.i c.before.before.loop-i-test.true))
 
 loop-again : tie.Need-loop-i-preserved invariant-loop decreases-loop
 loop-again c =
     let v = c.before.before.before.loop-i.invariant in
-    (omega arith, below_more _ _ v.1 (c.before.record_agrees.ensures.yes (not-false _ c.if-not-record_agrees.false)))
+    (omega arith, below_more _ _ v.1 (c.before.record_agrees.ensures.yes (c.if-not-record_agrees.false)))
 
 returns-2 : tie.Need-returns invariant-loop decreases-loop
 returns-2 c = says-yes (λ i h. c.before.loop-i.invariant.1 i (omega arith))

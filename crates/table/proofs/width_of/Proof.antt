@@ -24,15 +24,15 @@ unfolding width_of
 width_of_spec =
     tie.close
     (tie.spec
-    (λ c. ap width_of (sym c.match.keys1))
-    (λ c. ap width_of (sym c.match.keys2))
-    (λ c. ap width_of (sym c.match.keys3))
-    (λ c. ap width_of (sym c.match.keys4))
-    (λ c. ap width_of (sym c.match.keys5))
-    (λ c. ap width_of (sym c.match.keys6))
-    (λ c. ap width_of (sym c.match.keys7))
-    (λ c. ap width_of (sym c.match.keys8))
-    (λ c. ap width_of (sym c.match.keys9))
+    (λ c. ap width_of (sym c.in-1.is))
+    (λ c. ap width_of (sym c.in-2.is))
+    (λ c. ap width_of (sym c.in-3.is))
+    (λ c. ap width_of (sym c.in-4.is))
+    (λ c. ap width_of (sym c.in-5.is))
+    (λ c. ap width_of (sym c.in-6.is))
+    (λ c. ap width_of (sym c.in-7.is))
+    (λ c. ap width_of (sym c.in-11.is))
+    (λ c. ap width_of (sym c.in-12.is))
     (λ c. let r = c.match.rest in
     other _ c.before.requires r.0.0.0.0.0.0.0.0.1 r.0.0.0.0.0.0.0.1 r.0.0.0.0.0.0.1 r.0.0.0.0.0.1 r.0.0.0.0.1 r.0.0.0.1 r.0.0.1
     r.0.1 r.1))
