@@ -26,10 +26,10 @@ other : (c : tie.Else-is_pocket) → eqb (start_of c.before).args.form 2 ≡ fal
 other c = sym c.before.is_pocket.ensures ∙ c.if-is_pocket.false
 
 -- so the room is for the bytes of that rule
-pocket-room : (c : tie.Then-is_pocket) → let a = (start_of c.before).args in a.at + length (utf8_bytes a.c) ≤ length a.out-1.now
+pocket-room : (c : tie.Then-is_pocket) → let a = (start_of c.before).args in a.at + length (utf8_bytes a.c) ≤ length a.out.now
 pocket-room c = rw (pocket c) at (start_of c.before).requires.1
 
-other-room : (c : tie.Else-is_pocket) → let a = (start_of c.before).args in a.at + length (scalar_bytes a.c) ≤ length a.out-1.now
+other-room : (c : tie.Else-is_pocket) → let a = (start_of c.before).args in a.at + length (scalar_bytes a.c) ≤ length a.out.now
 other-room c = rw (other c) at (start_of c.before).requires.1
 
 put_utf8-requires : tie.Need-put_utf8-requires
@@ -46,7 +46,7 @@ returns-2 c =
     let at-put = c.before.before in
     let at_test = at-put.before.before in
     let a = (start_of at_test.before).args in (
-      rw (other at_test) (wrote-room a.out-1.now _ (scalar_bytes a.c) a.at at-put.put_scalar.result (other-room at_test) at-put.put_scalar.ensures),
+      rw (other at_test) (wrote-room a.out.now _ (scalar_bytes a.c) a.at at-put.put_scalar.result (other-room at_test) at-put.put_scalar.ensures),
       ap (λ n. a.at + n) (sized_of at_test.before).length_in-size.ensures,
     )
 

@@ -33,10 +33,10 @@ put_unit_spec =
     (λ c. let a = c.before.before.before in omega (arith, ap length (ub-one a.args.u (omega arith) (omega arith)), a.requires.1))
     (λ c. search rules)
     (λ c. let a = c.before.before.before in let e = ub-one a.args.u (omega arith) (omega arith) in
-    rw e (one-put a.args.out-1.now a.args.at a.args.u (omega (arith, ap length e, a.requires.1))))
-    (λ c κs. let a = two-of c in (omega arith, omega (arith, ap length (ub-two a.args.u (omega arith) (omega arith)), a.pre.1)))
+    rw e (one-put a.args.out.now a.args.at a.args.u (omega (arith, ap length e, a.requires.1))))
+    (λ c κs. let a = two-of c in (omega arith, omega (arith, ap length (ub-two a.args.u (omega arith) (omega arith)), a.requires.1)))
     (λ c. search rules)
     (λ c. let p = c.before.before in rw (ub-two (two-of p.before).args.u (omega arith) (omega arith)) p.put_two-then-u-lt2048.ensures)
-    (λ c κs. let a = three-of c in (omega arith, omega (arith, ap length (ub-three a.args.u (omega arith)), a.pre.1)))
+    (λ c κs. let a = three-of c in (omega arith, omega (arith, ap length (ub-three a.args.u (omega arith)), a.requires.1)))
     (λ c. search rules)
     (λ c. let p = c.before.before in rw (ub-three (three-of p.before).args.u (omega arith)) p.put_three.ensures))

@@ -15,21 +15,21 @@ use Rattle.chars.proofs.Sequences.{scalar_below, scalar-above, scalar-lone, scal
 use Rattle.chars.proofs.scalar_at.Statement.{statement}
 use Rattle.chars.proofs.scalar_at.Tie as tie
 
-abbrev called_of : tie.In-Is-2 → tie.After-unit_at
+abbrev called_of : tie.In-Is → tie.After-unit_at
 called_of c = c.before.before
 
-abbrev start_of : tie.In-Is-2 → tie.Start
+abbrev start_of : tie.In-Is → tie.Start
 start_of c = (called_of c).before.before
 
 -- the unit at the place
-first : (c : tie.In-Is-2) → let g = c.u-1.given.0 in unit_of (drop (start_of c).args.at (start_of c).args.s.now) ≡ is g.0 g.1.0
-first c = told _ (called_of c).unit_at.ensures c.in-Is.is
+first : (c : tie.In-Is) → let g = c.u-1.given.0 in unit_of (drop (start_of c).args.at (start_of c).args.s.now) ≡ is g.0 g.1.0
+first c = told _ (called_of c).unit_at.ensures c.in-Is-1.is
 
 -- it is a half, and a high one
-abbrev half_of : tie.Else-u-ge57344 → tie.In-Is-2
-half_of c = c.before.before.before
+abbrev half_of : tie.Else-u-ge57344 → tie.In-Is
+half_of c = c.before.before
 
-abbrev high-of : tie.Else-u-ge56320 → tie.In-Is-2
+abbrev high-of : tie.Else-u-ge56320 → tie.In-Is
 high-of c = half_of c.before
 
 half : (c : tie.Else-u-ge56320) (v : Sequence) → let u = high-of c in let a = (start_of u).args in let g = u.u-1.given.0 in
@@ -37,16 +37,16 @@ half : (c : tie.Else-u-ge56320) (v : Sequence) → let u = high-of c in let a = 
 half c v e = scalar-half _ (first (high-of c)) v (omega arith) (omega arith) (rw drop-drop e)
 
 -- and the unit behind it is another
-abbrev second-of : tie.In-Is-unit_at-2 → tie.Else-u-ge56320
+abbrev second-of : tie.In-Is-unit_at → tie.Else-u-ge56320
 second-of c = c.before.before.before
 
-second : (c : tie.In-Is-unit_at-2) → let u = high-of (second-of c) in let a = (start_of u).args in let g = u.u-1.given.0 in let h = c.v-1.given.0 in
+second : (c : tie.In-Is-unit_at) → let u = high-of (second-of c) in let a = (start_of u).args in let g = u.u-1.given.0 in let h = c.v-1.given.0 in
     unit_of (drop (a.at + g.1.0) a.s.now) ≡ is h.0 h.1.0
 second c = told _ c.before.before.unit_at-in-Is.ensures c.in-Is-unit_at.is
 
 -- which is none below a low half
-abbrev low_of : tie.Else-v-lt56320 → tie.In-Is-unit_at-2
-low_of c = c.before.before
+abbrev low_of : tie.Else-v-lt56320 → tie.In-Is-unit_at
+low_of c = c.before
 
 pub scalar_at_spec : {M : Type 1} → statement M
 scalar_at_spec =

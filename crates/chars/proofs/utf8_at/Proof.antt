@@ -30,13 +30,13 @@ told-unit : (c : tie.After-unit_at) (v : Sequence) → let a = (unit-of c.before
     unit_of (drop a.at a.s.now) ≡ v → utf8_of (drop a.at a.s.now) ≡ unpaired v
 told-unit c v e = let a = (unit-of c.before).args in utf8-of a.s.now a.at (omega arith) v (omega arith) (omega arith) e
 
-unit : (c : tie.In-Is-2) → let a = (unit-of c.before.before.before).args in let g = c.u-1.given.0 in
+unit : (c : tie.In-Is) → let a = (unit-of c.before.before.before).args in let g = c.u-1.given.0 in
     utf8_of (drop a.at a.s.now) ≡ unpaired (is g.0 g.1.0)
-unit c = told-unit c.before.before _ (told _ c.before.before.unit_at.ensures c.in-Is.is)
+unit c = told-unit c.before.before _ (told _ c.before.before.unit_at.ensures c.in-Is-1.is)
 
 -- that is not 0
-abbrev value_of : tie.Else-u-eq0 → tie.In-Is-2
-value_of c = c.before.before
+abbrev value_of : tie.Else-u-eq0 → tie.In-Is
+value_of c = c.before
 
 pub utf8_at_spec : {M : Type 1} → statement M
 utf8_at_spec =

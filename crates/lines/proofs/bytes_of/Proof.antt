@@ -10,7 +10,7 @@ returns : tie.Need-returns-in-Bytes
 returns c =
     let matched = c.before.before in
     let done = matched.before.unhex in
-    record { answer = count-bytes _ _ (sym c.before.in-Bytes.is ∙ done.ensures.answer); put = done.ensures.put }
+    record { answer = count-bytes _ _ (sym c.in-Bytes.is ∙ done.ensures.answer); put = done.ensures.put }
 
 returns-2 : tie.Need-returns-in-Bad
 returns-2 c =

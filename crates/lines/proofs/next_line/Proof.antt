@@ -25,7 +25,7 @@ loop-of c = let read = c.before.before.before in read.before.before.before
 
 -- What is left behind the byte that was taken lies in the chunk.
 on : (c : tie.Else-have-at Inv μ)
-    → let read = c.before.before.before.filled-left in InChunk read.new.0 (record { at = read.result.at + 1; have = read.result.have })
+    → let read = c.before.before.before.filled-left in InChunk read.new.chunk (record { at = read.result.at + 1; have = read.result.have })
 on c = record { order = omega arith; within = c.before.before.before.filled-left.ensures.within }
 
 returns : tie.Need-returns-then-have-at Inv μ

@@ -12,10 +12,10 @@ returns c =
     let n = c.before in
     let read = n.before in
     let a = read.before.before.before.args in
-    order-named a.out.now a.place _ (take a.size a.key.now) c.order-bytes.result (n.count.ensures ∙ read.u16-at.ensures) c.order-bytes.ensures
+    order-named a.out.now a.place _ (take a.size a.key.now) c.order_bytes.result (n.count.ensures ∙ read.u16_at.ensures) c.order_bytes.ensures
 
-pub order-name-spec : {M : Type 1} → statement M
-order-name-spec =
+pub order_name_spec : {M : Type 1} → statement M
+order_name_spec =
     tie.close
     (tie.spec
     (λ c. search rules)

@@ -8,14 +8,14 @@ use Rattle.snbt_keys.proofs.Shifts.{Moved, moved-start, moved-next, moved-end}
 use Rattle.snbt_keys.proofs.put_in.Statement.{statement}
 use Rattle.snbt_keys.proofs.put_in.Tie as tie
 
-abbrev invariant-loop : tie.invariant-loop
+abbrev invariant-loop : tie.invariant-loop-i
 invariant-loop keys₀ top index place i₀ keys i = (index ≤ i) × (i ≤ top) × Moved keys₀ keys top i
 
-abbrev decreases-loop : tie.decreases-loop
+abbrev decreases-loop : tie.decreases-loop-i
 decreases-loop keys₀ top index place i₀ keys i = i
 
-pub put-in-spec : {M : Type 1} → statement M
-put-in-spec =
+pub put_in_spec : {M : Type 1} → statement M
+put_in_spec =
     tie.close
     (tie.spec
     invariant-loop
@@ -30,10 +30,10 @@ put-in-spec =
     (λ c. omega arith)
     (λ c.
     let l = c.before.before in
-    (omega arith, omega arith, moved-next _ _ _ _ l.before.requires.1 l.loop.invariant.1 l.loop.invariant.2 (omega arith)))
+    (omega arith, omega arith, moved-next _ _ _ _ l.before.requires.1 l.loop-i.invariant.1 l.loop-i.invariant.2 (omega arith)))
     (λ c. search rules)
     (λ c. omega arith)
-    (λ c. simp length-set c.before.loop.invariant.2.len)
+    (λ c. simp length-set c.before.loop-i.invariant.2.len)
     (λ c.
     let l = c.before in
-    moved-end _ _ _ _ l.before.requires.1 l.loop.invariant.1 l.loop.invariant.2 _ _ l.loop.invariant.0 c.loop-test.false))
+    moved-end _ _ _ _ l.before.requires.1 l.loop-i.invariant.1 l.loop-i.invariant.2 _ _ l.loop-i.invariant.0 c.loop-i-test.false))

@@ -7,29 +7,29 @@ use Rattle.snbt_keys.proofs.Runs.{taken-first, spot-second}
 use Rattle.snbt_keys.proofs.spot_of.Statement.{statement}
 use Rattle.snbt_keys.proofs.spot_of.Tie as tie
 
-abbrev start_of : tie.After-shared-slice-known3 → tie.Start
+abbrev start_of : tie.After-shared_slice_known-3-1 → tie.Start
 start_of c = c.before.before.before
 
-pub spot-of-spec : {M : Type 1} → statement M
-spot-of-spec =
+pub spot_of_spec : {M : Type 1} → statement M
+spot_of_spec =
     tie.close
     (tie.spec
     (λ c κs. let k = (start_of c).requires.0 in omega (arith, k.first.low, k.second.low))
-    (λ c κs. let s = start_of c.before in (rw c.joint.ensures s.pre.0.first, s.pre.1))
+    (λ c κs. let s = start_of c.before in (rw c.joint-mid.ensures s.pre.0.first, s.pre.1))
     (λ c. search rules)
     (λ c. search rules)
     (λ c κs.
     let j = c.before.before.before in
     let s = start_of j.before in
-    (rw j.joint.ensures s.pre.0.second, s.pre.1))
+    (rw j.joint-mid.ensures s.pre.0.second, s.pre.1))
     (λ c.
     let h = c.before.before in
     let j = h.before in
     let s = start_of j.before in
-    taken-first s.pre.0 (take s.args.size s.args.key.now) (rw (c.enum_told.given.1, j.joint.ensures) at h.halve.ensures))
+    taken-first s.pre.0 (take s.args.size s.args.key.now) (rw (c.in-Taken.is, j.joint-mid.ensures) at h.halve.ensures))
     (λ c.
     let h = c.before.before.before in
     let j = h.before in
     let s = start_of j.before in
-    let f = rw (c.before.enum-told2.given.1, j.joint.ensures) at h.halve.ensures in
-    spot-second s.pre.0 (take s.args.size s.args.key.now) c.halve2.result f.new (rw j.joint.ensures at c.halve2.ensures)))
+    let f = rw (c.before.in-Free.is, j.joint-mid.ensures) at h.halve.ensures in
+    spot-second s.pre.0 (take s.args.size s.args.key.now) c.halve-in-Free.result f.new (rw j.joint-mid.ensures at c.halve-in-Free.ensures)))

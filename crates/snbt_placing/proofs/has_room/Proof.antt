@@ -8,11 +8,11 @@ use Rattle.snbt_placing.proofs.Rooms.{room-less}
 use Rattle.snbt_placing.proofs.has_room.Statement.{statement}
 use Rattle.snbt_placing.proofs.has_room.Tie as tie
 
-returns : tie.Need-returns
+returns : tie.Need-returns-then-size-room
 returns c = let a = c.before.args in room-less a.room a.at a.size (omega arith)
 
-returns-2 : tie.Need-returns-2
+returns-2 : tie.Need-returns
 returns-2 c = let a = c.before.args in rw (lt-leb (a.at + a.size) a.room (omega arith)) refl
 
-pub has-room-spec : {M : Type 1} → statement M
-has-room-spec = tie.close (tie.spec returns returns-2)
+pub has_room_spec : {M : Type 1} → statement M
+has_room_spec = tie.close (tie.spec returns returns-2)

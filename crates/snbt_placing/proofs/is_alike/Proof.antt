@@ -6,11 +6,11 @@ use native.Mathlib.Omega.{arith}
 use Rattle.snbt_placing.proofs.is_alike.Statement.{statement}
 use Rattle.snbt_placing.proofs.is_alike.Tie as tie
 
-returns : tie.Need-returns
+returns : tie.Need-returns-then-want-eq0
 returns c = rw (eq-eqb c.before.args.want 0 (omega arith)) refl
 
-returns-2 : tie.Need-returns-2
+returns-2 : tie.Need-returns
 returns-2 c = rw (ne_eqb c.before.args.want 0 (omega arith)) refl
 
-pub is-alike-spec : {M : Type 1} → statement M
-is-alike-spec = tie.close (tie.spec returns returns-2)
+pub is_alike_spec : {M : Type 1} → statement M
+is_alike_spec = tie.close (tie.spec returns returns-2)

@@ -24,31 +24,15 @@ returns-5 c = says-no (λ is. let e = c.before.before.word-end.ensures in let le
 
 returns-6 : tie.Need-returns-in-All
 returns-6 c =
-    let at-hop-through = c.before.before.before in
-    let at-word6 = at-hop-through.before in
-    let at-word5 = at-word6.before in
-    let at-else5 = at-word5.before in
-    let at-word4 = at-else5.before.before in
-    let at-else3 = at-word4.before in
-    let at-list-kind-at = at-else3.before in
-    let at-word3 = at-list-kind-at.before in
-    let at-else2 = at-word3.before in
-    let at-word2 = at-else2.before in
-    let at-else1 = at-word2.before in
-    let at-word = at-else1.before in
-    let start = at-word.before.before in
-    container-all _ _ _ _ _ _ at-word6.word-4.ensures at-word4.word-end.ensures at-hop-through.hop_through.result at-hop-through.hop_through.ensures
-    start.requires.2 (sym at-word.word.ensures ∙ at-else1.if-word-ne0.false) (sym at-word2.word-2.ensures ∙ at-else2.if-word-ne0-2.false)
-    (sym at-word3.word-3.ensures ∙ at-else3.if-word-list_kind_at.false ∙ at-list-kind-at.list_kind_at.ensures)
-    (rw at-word4.word-end.ensures at at-else5.if-n-end.false)
-    _ c.before.in-All.is _ at-word5.word-count.ensures
+    container-all _ _ _ _ _ _ c.word-4.ensures c.word-end.ensures c.hop_through.result c.hop_through.ensures
+    c.requires.2 (sym c.word.ensures ∙ c.if-word-ne0.false) (sym c.word-2.ensures ∙ c.if-word-ne0-2.false)
+    (sym c.word-3.ensures ∙ c.if-word-list_kind_at.false ∙ c.list_kind_at.ensures)
+    (rw c.word-end.ensures at c.if-n-end.false)
+    _ c.in-All.is _ c.word-count.ensures
 
 returns-7 : tie.Need-returns-in-Broken
 returns-7 c =
-    let at-word6 = c.before.before.before in
-    let at-else4 = at-word6.before.before.before in
-    let at-word4 = at-else4.before in
-    container-broken _ _ _ _ _ _ at-word6.word-4.ensures at-word4.word-end.ensures c.before.before.hop_through.result c.before.before.hop_through.ensures
+    container-broken _ _ _ _ _ _ c.word-4.ensures c.word-end.ensures c.hop_through.result c.hop_through.ensures
     c.in-Broken.is
 
 pub container_agrees_spec : {M : Type 1} → statement M

@@ -33,6 +33,5 @@ width_of_spec =
     (λ c. ap width_of (sym c.in-7.is))
     (λ c. ap width_of (sym c.in-11.is))
     (λ c. ap width_of (sym c.in-12.is))
-    (λ c. let r = c.match.rest in
-    other _ c.before.requires r.0.0.0.0.0.0.0.0.1 r.0.0.0.0.0.0.0.1 r.0.0.0.0.0.0.1 r.0.0.0.0.0.1 r.0.0.0.0.1 r.0.0.0.1 r.0.0.1
-    r.0.1 r.1))
+    (λ c. let r = c.in_default.in_default-own.rest in
+    other _ c.requires r.0.0.0.0.0.0.0.0.1 r.0.0.0.0.0.0.0.1 r.0.0.0.0.0.0.1 r.0.0.0.0.0.1 r.0.0.0.0.1 r.0.0.0.1 r.0.0.1 r.0.1 r.1))

@@ -12,8 +12,8 @@ use Rattle.snbt_floats.proofs.Operations.{cast-asks, cast-value, div-values, ten
 use Rattle.snbt_floats.proofs.decimal.scaled_down.Statement.{statement}
 use Rattle.snbt_floats.proofs.decimal.scaled_down.Tie as tie
 
-int-to-float-result : tie.Need-int-to-float-result
-int-to-float-result c = cast-asks binary64 c.before.args.w c.before.requires.0
+int_to_float-result : tie.Need-int_to_float-result
+int_to_float-result c = cast-asks binary64 c.before.args.w c.before.requires.0
 
 ten-requires : tie.Need-ten-requires
 ten-requires c κs = search rules
@@ -26,5 +26,5 @@ returns c =
     c.ten.ensures
     ∙ ap₂ (λ (x y : ℕ). round binary64 false x y) (mul-one a.args.w) (one-mul (10 ^ a.args.p))
 
-pub scaled-down-spec : {M : Type 1} → statement M
-scaled-down-spec = tie.close (tie.spec int-to-float-result ten-requires returns)
+pub scaled_down_spec : {M : Type 1} → statement M
+scaled_down_spec = tie.close (tie.spec int_to_float-result ten-requires returns)

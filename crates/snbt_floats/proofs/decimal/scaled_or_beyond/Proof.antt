@@ -25,25 +25,25 @@ size_of false p = refl
 size_of true zero = refl
 size_of true (suc p) = refl
 
-returns : tie.Need-returns
-returns c place = simp (eq-eqb _ _ c.before.if1.true, c.if2.true, minus-zero)
+returns : tie.Need-returns-then-negative
+returns c place = simp (eq-eqb _ _ c.before.if-w-eq0.true, c.if-negative.true, minus-zero)
 
-returns-2 : tie.Need-returns-2
-returns-2 c place = simp (eq-eqb _ _ c.before.if1.true, c.if2.false, plus-zero)
+returns-2 : tie.Need-returns-then-w-eq0
+returns-2 c place = simp (eq-eqb _ _ c.before.if-w-eq0.true, c.if-negative.false, plus-zero)
 
-returns-3 : tie.Need-returns-3
-returns-3 c place = simp (ne_eqb _ _ c.before.if1.false, lt-leb _ _ c.if3.true)
+returns-3 : tie.Need-returns-then-w-gt9007199254740992
+returns-3 c place = simp (ne_eqb _ _ c.before.if-w-eq0.false, lt-leb _ _ c.if-w-gt9007199254740992.true)
 
-returns-4 : tie.Need-returns-4
-returns-4 c place = simp (ne_eqb _ _ c.before.before.if1.false, le-leb _ _ c.before.if3.false, size_of, lt-leb _ _ c.if4.true)
+returns-4 : tie.Need-returns-then-p-gt22
+returns-4 c place = simp (ne_eqb _ _ c.before.before.if-w-eq0.false, le-leb _ _ c.before.if-w-gt9007199254740992.false, size_of, lt-leb _ _ c.if-p-gt22.true)
 
 decimal-requires : tie.Need-decimal-requires
 decimal-requires c κs = search rules
 
-returns-5 : tie.Need-returns-5
+returns-5 : tie.Need-returns
 returns-5 c place =
-    simp (ne_eqb _ _ c.before.before.before.if1.false, le-leb _ _ c.before.before.if3.false, size_of, le-leb _ _ c.before.if4.false)
+    simp (ne_eqb _ _ c.before.before.before.if-w-eq0.false, le-leb _ _ c.before.before.if-w-gt9007199254740992.false, size_of, le-leb _ _ c.before.if-p-gt22.false)
     (ap got c.decimal.ensures)
 
-pub scaled-or-beyond-spec : {M : Type 1} → statement M
-scaled-or-beyond-spec = tie.close (tie.spec returns returns-2 returns-3 returns-4 decimal-requires returns-5)
+pub scaled_or_beyond_spec : {M : Type 1} → statement M
+scaled_or_beyond_spec = tie.close (tie.spec returns returns-2 returns-3 returns-4 decimal-requires returns-5)

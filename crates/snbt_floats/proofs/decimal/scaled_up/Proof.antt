@@ -10,8 +10,8 @@ use Rattle.snbt_floats.proofs.Operations.{cast-asks, cast-value, mul-values}
 use Rattle.snbt_floats.proofs.decimal.scaled_up.Statement.{statement}
 use Rattle.snbt_floats.proofs.decimal.scaled_up.Tie as tie
 
-int-to-float-result : tie.Need-int-to-float-result
-int-to-float-result c = cast-asks binary64 c.before.args.w c.before.requires.0
+int_to_float-result : tie.Need-int_to_float-result
+int_to_float-result c = cast-asks binary64 c.before.args.w c.before.requires.0
 
 ten-requires : tie.Need-ten-requires
 ten-requires c κs = search rules
@@ -23,5 +23,5 @@ returns c =
     (cast-value binary64 a.args.w a.requires.0)
     c.ten.ensures
 
-pub scaled-up-spec : {M : Type 1} → statement M
-scaled-up-spec = tie.close (tie.spec int-to-float-result ten-requires returns)
+pub scaled_up_spec : {M : Type 1} → statement M
+scaled_up_spec = tie.close (tie.spec int_to_float-result ten-requires returns)

@@ -26,10 +26,10 @@ is-value n (inf s) t = absurd t
 is-value n (fin true m e) t = absurd t
 is-value n (fin false m e) t = (refl, eqb→eq (m * up e * 1) (n * down e) t)
 
-mul-result : tie.Need-overflow-mul-result
+mul-result : tie.Need-offset_bounds-p
 mul-result c = search rules
 
-array-read-result : tie.Need-array-read-result
+array-read-result : tie.Need-bounds-p
 array-read-result c = search rules
 
 -- the table's entries, as bits
@@ -46,5 +46,5 @@ unfolding tens of_bits
 returns c =
     is-value (10 ^ c.args.p) (get_or tens c.args.p nan) (at (λ (k : ℕ) (x : Float). is (10 ^ k) x) nan tens tt c.args.p (search rules))
 
-pub ten-spec : {M : Type 1} → statement M
-ten-spec = tie.close (tie.spec mul-result array-read-result returns)
+pub ten_spec : {M : Type 1} → statement M
+ten_spec = tie.close (tie.spec mul-result array-read-result returns)

@@ -37,35 +37,35 @@ some m h = omega arith
 zeros-lt : (m : ℕ) → 0 < m → m < 2 ^ 64 → count_leading_zeros 64 m < 64
 zeros-lt m P h = let t = leading_top 64 m P h in omega (arith, t.1)
 
-returns : tie.Need-returns
-returns c = zero_bits ∙ ap bits (sym c.if1.true)
+returns : tie.Need-returns-then-m-eq0
+returns c = zero_bits ∙ ap bits (sym c.if-m-eq0.true)
 
-cast-placed : tie.Need-overflow-cast-placed
+cast-placed : tie.Need-overflow_cast-placed
 cast-placed c = omega (arith, leading_le 64 c.before.args.m)
 
-shl-placed : tie.Need-overflow-shl-placed
-shl-placed c = zeros-lt c.before.args.m (some _ c.if1.false) c.before.ranges.m.fits
+shl-placed : tie.Need-overflow_shl-placed
+shl-placed c = zeros-lt c.before.args.m (some _ c.if-m-eq0.false) c.before.ranges.m.fits
 
-sub-exponent : tie.Need-overflow-sub-exponent
+sub-exponent : tie.Need-overflow_sub-exponent
 sub-exponent c = omega (arith, leading_le 64 c.before.args.m)
 
-cast-exponent : tie.Need-overflow-cast-exponent
+cast-exponent : tie.Need-overflow_cast-exponent
 cast-exponent c = search rules
 
-mul-result : tie.Need-overflow-mul-result
+mul-result : tie.Need-overflow_mul-result
 mul-result c = search rules
 
-rounded-shift-requires : tie.Need-rounded-shift-requires
-rounded-shift-requires c κs = search rules
+rounded_shift-requires : tie.Need-rounded_shift-requires
+rounded_shift-requires c κs = search rules
 
-add-result : tie.Need-overflow-add-result
-add-result c = omega (arith, c.rounded-shift.ensures, closest-le (placed c.before.before.args.m) 2048)
+add-result : tie.Need-overflow_add-result
+add-result c = omega (arith, c.rounded_shift.ensures, closest-le (placed c.before.before.args.m) 2048)
 
-returns-2 : tie.Need-returns-2
+returns-2 : tie.Need-returns
 returns-2 c =
     let a = c.before.before in
-    double a.args.m c.rounded-shift.result (some _ c.before.if1.false) a.ranges.m.fits c.rounded-shift.ensures
+    double a.args.m c.rounded_shift.result (some _ c.before.if-m-eq0.false) a.ranges.m.fits c.rounded_shift.ensures
 
-pub magnitude-bits-spec : {M : Type 1} → statement M
-magnitude-bits-spec =
-    tie.close (tie.spec returns cast-placed shl-placed sub-exponent cast-exponent mul-result rounded-shift-requires add-result returns-2)
+pub magnitude_bits_spec : {M : Type 1} → statement M
+magnitude_bits_spec =
+    tie.close (tie.spec returns cast-placed shl-placed sub-exponent cast-exponent mul-result rounded_shift-requires add-result returns-2)

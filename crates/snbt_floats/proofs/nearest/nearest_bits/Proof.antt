@@ -28,28 +28,28 @@ unfolding of_int
 minus zero h = absurd (h refl)
 minus (suc m) h = add_comm (to_bits binary64 (round binary64 false (suc m) 1)) (2 ^ 63) ∙ sym (sign_bit binary64 (suc m) 1)
 
-magnitude-bits-requires : tie.Need-magnitude-bits-requires
-magnitude-bits-requires c κs = search rules
+magnitude_bits-requires : tie.Need-magnitude_bits-bits-requires
+magnitude_bits-requires c κs = search rules
 
-returns : tie.Need-returns
+returns : tie.Need-returns-then-magnitude-eq0
 returns c =
     zero_bits
-    ∙ ap (λ (m : ℕ). bits true m) (sym c.if2.true)
-    ∙ ap (λ (b : Bool). bits b c.before.before.before.args.magnitude) (sym c.before.if1.true)
+    ∙ ap (λ (m : ℕ). bits true m) (sym c.if-magnitude-eq0.true)
+    ∙ ap (λ (b : Bool). bits b c.before.before.before.args.magnitude) (sym c.before.if-negative.true)
 
-add-result : tie.Need-overflow-add-result
-add-result c = omega (arith, c.before.before.magnitude-bits.ensures, unsigned-below binary64 c.before.before.before.args.magnitude 1)
+add-result : tie.Need-overflow_add-result
+add-result c = omega (arith, c.before.before.magnitude_bits-bits.ensures, unsigned-below binary64 c.before.before.before.args.magnitude 1)
 
-returns-2 : tie.Need-returns-2
+returns-2 : tie.Need-returns-then-negative
 returns-2 c =
     let m = c.before.before.before.args.magnitude in
-    ap (λ (x : ℕ). x + 2 ^ 63) c.before.before.magnitude-bits.ensures ∙ minus m c.if2.false ∙ ap (λ (b : Bool). bits b m) (sym c.before.if1.true)
+    ap (λ (x : ℕ). x + 2 ^ 63) c.before.before.magnitude_bits-bits.ensures ∙ minus m c.if-magnitude-eq0.false ∙ ap (λ (b : Bool). bits b m) (sym c.before.if-negative.true)
 
-returns-3 : tie.Need-returns-3
+returns-3 : tie.Need-returns
 returns-3 c =
     let m = c.before.before.args.magnitude in
-    c.before.magnitude-bits.ensures ∙ plain m ∙ ap (λ (b : Bool). bits b m) (sym c.if1.false)
+    c.before.magnitude_bits-bits.ensures ∙ plain m ∙ ap (λ (b : Bool). bits b m) (sym c.if-negative.false)
 
-pub nearest-bits-spec : {M : Type 1} → statement M
-nearest-bits-spec =
-    tie.close (tie.spec magnitude-bits-requires returns add-result returns-2 returns-3)
+pub nearest_bits_spec : {M : Type 1} → statement M
+nearest_bits_spec =
+    tie.close (tie.spec magnitude_bits-requires returns add-result returns-2 returns-3)

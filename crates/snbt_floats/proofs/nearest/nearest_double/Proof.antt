@@ -20,14 +20,14 @@ read_back z b e = ap (of_bits binary64) e ∙ of_bits-to_bits binary64 (of_int b
 no-nan-bits : (z : ℤ) (b : ℕ) → b ≡ to_bits binary64 (of_int binary64 z) → T (not (nan_bits binary64 b))
 no-nan-bits z b e = subst (λ (x : Bool). T (not x)) (sym (nan_bits_is binary64 b ∙ ap is_nan (read_back z b e))) (whole-no-nan binary64 z)
 
-nearest-bits-requires : tie.Need-nearest-bits-requires
-nearest-bits-requires c κs = search rules
+nearest_bits-requires : tie.Need-nearest_bits-requires
+nearest_bits-requires c κs = search rules
 
-float-from-bits-result : tie.Need-float-from-bits-result
-float-from-bits-result c = no-nan-bits (signed c.before.args.negative c.before.args.magnitude) c.nearest-bits.result c.nearest-bits.ensures
+float_from_bits-result : tie.Need-float_from_bits-result
+float_from_bits-result c = no-nan-bits (signed c.before.args.negative c.before.args.magnitude) c.nearest_bits.result c.nearest_bits.ensures
 
 returns : tie.Need-returns
-returns c = read_back (signed c.before.args.negative c.before.args.magnitude) c.nearest-bits.result c.nearest-bits.ensures
+returns c = read_back (signed c.before.args.negative c.before.args.magnitude) c.nearest_bits.result c.nearest_bits.ensures
 
-pub nearest-double-spec : {M : Type 1} → statement M
-nearest-double-spec = tie.close (tie.spec nearest-bits-requires float-from-bits-result returns)
+pub nearest_double_spec : {M : Type 1} → statement M
+nearest_double_spec = tie.close (tie.spec nearest_bits-requires float_from_bits-result returns)

@@ -48,54 +48,54 @@ tie-rule n b r Case.OnHalf t m = even_is (n / b) r m ∙ sym (rounds-even n b t)
     even_is kept r e = omega (arith, e.0, e.1, e.2)
 
 -- ---- the needs
-shr-kept : tie.Need-overflow-shr-kept
+shr-kept : tie.Need-overflow_shr-kept
 shr-kept c = search rules
 
-shl-dropped : tie.Need-overflow-shl-dropped
+shl-dropped : tie.Need-overflow_shl-dropped
 shl-dropped c = search rules
 
-rem-dropped : tie.Need-nonzero-rem-dropped
+rem-dropped : tie.Need-nonzero_rem-dropped
 rem-dropped c = subst (λ (x : ℕ). 0 < x) (sym (one_shl c.args.d c.requires.1)) (pow_pos c.args.d)
 
-sub-half : tie.Need-overflow-sub-half
+sub-half : tie.Need-overflow_sub-half
 sub-half c = search rules
 
-cast-half : tie.Need-overflow-cast-half
+cast-half : tie.Need-overflow_cast-half
 cast-half c = search rules
 
-shl-half : tie.Need-overflow-shl-half
+shl-half : tie.Need-overflow_shl-half
 shl-half c = search rules
 
 -- there is a next number
-small : (c : tie.After-case-of) → c.before.args.n / 2 ^ c.before.args.d < 2 ^ 63
+small : (c : tie.After-case_of) → c.before.args.n / 2 ^ c.before.args.d < 2 ^ 63
 small c = let at-start = c.before in kept_small at-start.args.n at-start.args.d at-start.ranges.n.fits at-start.requires.0
 
-add-result : tie.Need-overflow-add-result
-add-result c = omega (arith, small c.before.before)
+add-result : tie.Need-overflow_add-result
+add-result c = omega (arith, small c.before)
 
-even-of-requires : tie.Need-even-of-requires
-even-of-requires c κs = small c.before.before
+even_of-requires : tie.Need-even_of-requires
+even_of-requires c κs = small c.before
 
 -- what a case makes where it was told, behind `case_of`, is the nearest
-rounded : (c : tie.After-case-of) (k : Case) (r : ℕ) → c.case-of.result ≡ k → Made k (c.before.args.n / 2 ^ c.before.args.d) r
+rounded : (c : tie.After-case_of) (k : Case) (r : ℕ) → c.case_of.result ≡ k → Made k (c.before.args.n / 2 ^ c.before.args.d) r
     → r ≡ closest c.before.args.n (2 ^ c.before.args.d)
 rounded c k r e m =
     let at-start = c.before in
     let n = at-start.args.n in
     let d = at-start.args.d in
-    tie-rule n (2 ^ d) r k (over-power n d at-start.requires.0 at-start.requires.1 k (rw e at c.case-of.ensures)) m
+    tie-rule n (2 ^ d) r k (over-power n d at-start.requires.0 at-start.requires.1 k (rw e at c.case_of.ensures)) m
 
-returns : tie.Need-returns
-returns c = rounded c.before.before Case.BelowHalf _ c.enum_told.given.1 refl
+returns : tie.Need-returns-in-BelowHalf
+returns c = rounded c.before Case.BelowHalf _ c.in-BelowHalf.is refl
 
-returns-2 : tie.Need-returns-2
-returns-2 c = rounded c.before.before Case.AboveHalf _ c.enum-told2.given.1 refl
+returns-2 : tie.Need-returns-in-AboveHalf
+returns-2 c = rounded c.before Case.AboveHalf _ c.in-AboveHalf.is refl
 
-returns-3 : tie.Need-returns-3
-returns-3 c = let at_told = c.before in rounded at_told.before.before Case.OnHalf _ at_told.enum-told3.given.1 c.even-of.ensures
+returns-3 : tie.Need-returns-in-OnHalf
+returns-3 c = let at_told = c.before in rounded at_told.before Case.OnHalf _ at_told.in-OnHalf.is c.even_of.ensures
 
-pub rounded-shift-spec : {M : Type 1} → statement M
-rounded-shift-spec =
+pub rounded_shift_spec : {M : Type 1} → statement M
+rounded_shift_spec =
     tie.close
     (tie.spec
     shr-kept
@@ -109,7 +109,7 @@ rounded-shift-spec =
     (λ c. search rules)
     add-result
     (λ c. search rules)
-    even-of-requires
+    even_of-requires
     returns
     returns-2
     returns-3)

@@ -36,40 +36,40 @@ minus : (b : ℕ) → 2 ^ 63 ≤ b → b < 2 ^ 64 → 2 ^ 63 + b % 2 ^ 63 ≡ b
 minus b g h = omega arith
 
 known : (c : tie.Start) → T (fits binary64 c.args.x)
-known c = passes (fits binary64 c.args.x) c.well-formed.0.1
+known c = passes (fits binary64 c.args.x) c.well_formed.0.1
 
-float-to-bits-b : tie.Need-float-to-bits-b
-float-to-bits-b c = search rules
+float_to_bits-b : tie.Need-float_to_bits-b
+float_to_bits-b c = search rules
 
-single-magnitude-requires : tie.Need-single-magnitude-requires
-single-magnitude-requires c κs = no-nan-bits binary64 c.args.x (known c) c.requires
+single_magnitude-requires : tie.Need-single_magnitude-r-requires
+single_magnitude-requires c κs = no-nan-bits binary64 c.args.x (known c) c.requires
 
 zero_left : (x y : ℕ) → 0 + x ≡ y → x ≡ y
 zero_left x y e = omega arith
 
-returns : tie.Need-returns
+returns : tie.Need-returns-then-b-lt9223372036854775808
 returns c =
     let a = c.before.before in
-    zero_left c.before.single-magnitude.result (to_bits binary32 (to_single a.args.x))
-    (c.before.single-magnitude.ensures false ∙ again a.args.x _ (known a) (plus (to_bits binary64 a.args.x) c.if1.true))
+    zero_left c.before.single_magnitude-r.result (to_bits binary32 (to_single a.args.x))
+    (c.before.single_magnitude-r.ensures false ∙ again a.args.x _ (known a) (plus (to_bits binary64 a.args.x) c.if-b-lt9223372036854775808.true))
 
 turned : (x y : ℕ) → 2 ^ 31 + x ≡ y → x + 2 ^ 31 ≡ y
 turned x y e = omega arith
 
-negative : (c : tie.Else1) → c.before.single-magnitude.result + 2 ^ 31 ≡ to_bits binary32 (to_single c.before.before.args.x)
+negative : (c : tie.Else-b-lt9223372036854775808) → c.before.single_magnitude-r.result + 2 ^ 31 ≡ to_bits binary32 (to_single c.before.before.args.x)
 negative c =
     let a = c.before.before in
-    turned c.before.single-magnitude.result (to_bits binary32 (to_single a.args.x))
-    (c.before.single-magnitude.ensures true
-    ∙ again a.args.x _ (known a) (minus (to_bits binary64 a.args.x) c.if1.false (to_bits-lt binary64 a.args.x (known a))))
+    turned c.before.single_magnitude-r.result (to_bits binary32 (to_single a.args.x))
+    (c.before.single_magnitude-r.ensures true
+    ∙ again a.args.x _ (known a) (minus (to_bits binary64 a.args.x) c.if-b-lt9223372036854775808.false (to_bits-lt binary64 a.args.x (known a))))
 
-add-result : tie.Need-overflow-add-result
+add-result : tie.Need-overflow_add-result
 add-result c =
     let x = c.before.before.args.x in
     omega (arith, negative c, to_bits-lt binary32 (to_single x) (single-fits x))
 
-returns-2 : tie.Need-returns-2
+returns-2 : tie.Need-returns
 returns-2 c = negative c
 
-pub f32-bits-spec : {M : Type 1} → statement M
-f32-bits-spec = tie.close (tie.spec float-to-bits-b single-magnitude-requires returns add-result returns-2)
+pub f32_bits_spec : {M : Type 1} → statement M
+f32_bits_spec = tie.close (tie.spec float_to_bits-b single_magnitude-requires returns add-result returns-2)

@@ -20,41 +20,41 @@ left_over n d h g = shr_lt 23 d (lt_of_lt_of_le h (pow_mono (room d g)))
     room d g = omega arith
 
 -- the function starts, from where a single is made
-abbrev start_of : tie.Else2 → tie.Start
+abbrev start_of : tie.Else-field-lt873 → tie.Start
 start_of c = c.before.before
 
-returns : tie.Need-returns
-returns c s = sym (too_large s c.before.args.b c.before.requires c.if1.true)
+returns : tie.Need-returns-then-field-ge1151
+returns c s = sym (too_large s c.before.args.b c.before.requires c.if-field-ge1151.true)
 
-returns-2 : tie.Need-returns-2
-returns-2 c s = sym (too_small s c.before.before.args.b c.if2.true)
+returns-2 : tie.Need-returns-then-field-lt873
+returns-2 c s = sym (too_small s c.before.before.args.b c.if-field-lt873.true)
 
-cast-result : tie.Need-overflow-cast-result
+cast-result : tie.Need-overflow_cast-result
 cast-result c =
     let b = (start_of c.before.before).args.b in
     let n = 2 ^ 52 + b % 2 ^ 52 in
     let d = 926 - b / 2 ^ 52 in
-    omega (arith, c.rounded-shift.ensures, closest-le n (2 ^ d), left_over n d (omega arith) (omega arith))
+    omega (arith, c.rounded_shift.ensures, closest-le n (2 ^ d), left_over n d (omega arith) (omega arith))
 
-returns-3 : tie.Need-returns-3
+returns-3 : tie.Need-returns-then-field-lt897
 returns-3 c s =
     let b = (start_of c.before.before).args.b in
-    ap (λ (x : ℕ). cond s (2 ^ 31) 0 + x) c.rounded-shift.ensures ∙ sym (below-normal s b c.before.before.if2.false c.before.if3.true)
+    ap (λ (x : ℕ). cond s (2 ^ 31) 0 + x) c.rounded_shift.ensures ∙ sym (below-normal s b c.before.before.if-field-lt873.false c.before.if-field-lt897.true)
 
-add-result : tie.Need-overflow-add-result
-add-result c = omega (arith, c.rounded-shift2.ensures, closest-le (2 ^ 52 + (start_of c.before.before).args.b % 2 ^ 52) (2 ^ 29))
+add-result : tie.Need-overflow_add-result
+add-result c = omega (arith, c.rounded_shift-2.ensures, closest-le (2 ^ 52 + (start_of c.before.before).args.b % 2 ^ 52) (2 ^ 29))
 
-cast-result-2 : tie.Need-overflow-cast-result-2
-cast-result-2 c = omega (arith, c.rounded-shift2.ensures, closest-le (2 ^ 52 + (start_of c.before.before).args.b % 2 ^ 52) (2 ^ 29))
+cast-result-2 : tie.Need-overflow_cast-result-2
+cast-result-2 c = omega (arith, c.rounded_shift-2.ensures, closest-le (2 ^ 52 + (start_of c.before.before).args.b % 2 ^ 52) (2 ^ 29))
 
-returns-4 : tie.Need-returns-4
+returns-4 : tie.Need-returns
 returns-4 c s =
     let b = (start_of c.before.before).args.b in
-    ap (λ (x : ℕ). cond s (2 ^ 31) 0 + ((b / 2 ^ 52 - 897) * 2 ^ 23 + x)) c.rounded-shift2.ensures
-    ∙ sym (in-range s b c.before.if3.false c.before.before.before.if1.false)
+    ap (λ (x : ℕ). cond s (2 ^ 31) 0 + ((b / 2 ^ 52 - 897) * 2 ^ 23 + x)) c.rounded_shift-2.ensures
+    ∙ sym (in-range s b c.before.if-field-lt897.false c.before.before.before.if-field-ge1151.false)
 
-pub single-magnitude-spec : {M : Type 1} → statement M
-single-magnitude-spec =
+pub single_magnitude_spec : {M : Type 1} → statement M
+single_magnitude_spec =
     tie.close
     (tie.spec
     returns
