@@ -5,17 +5,17 @@ use Rattle.call_table.proofs.Words.{table-large, table-unfit, table-fit}
 use Rattle.call_table.proofs.is_table.Statement.{statement}
 use Rattle.call_table.proofs.is_table.Tie as tie
 
-returns : tie.Need-returns
-returns c = table-large _ _ c.before.enum_told.given.1 c.before.before.before.is_table.ensures.0
+returns : tie.Need-returns-in-OverLimit
+returns c = table-large _ _ c.before.in-OverLimit.is c.before.before.is_table.ensures.0
 
-returns-2 : tie.Need-returns-2
-returns-2 c = table-unfit _ _ c.before.enum-told2.given.1 c.before.before.before.is_table.ensures.0
+returns-2 : tie.Need-returns-in-NoTable
+returns-2 c = table-unfit _ _ c.before.in-NoTable.is c.before.before.is_table.ensures.0
 
-returns-3 : tie.Need-returns-3
-returns-3 c = table-fit _ _ c.before.enum-told3.given.1 c.before.before.before.is_table.ensures.0
+returns-3 : tie.Need-returns-in-Table
+returns-3 c = table-fit _ _ c.before.in-Table.is c.before.before.is_table.ensures.0
 
-pub is-table-spec : {M : Type 1} → statement M
-is-table-spec =
+pub is_table_spec : {M : Type 1} → statement M
+is_table_spec =
     tie.close
     (tie.spec
     (λ c κs. search rules)

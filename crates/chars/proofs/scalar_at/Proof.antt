@@ -16,7 +16,7 @@ use Rattle.chars.proofs.scalar_at.Statement.{statement}
 use Rattle.chars.proofs.scalar_at.Tie as tie
 
 abbrev called_of : tie.In-Is → tie.After-unit_at
-called_of c = c.before.before
+called_of c = c.before
 
 abbrev start_of : tie.In-Is → tie.Start
 start_of c = (called_of c).before.before
@@ -38,7 +38,7 @@ half c v e = scalar-half _ (first (high-of c)) v (omega arith) (omega arith) (rw
 
 -- and the unit behind it is another
 abbrev second-of : tie.In-Is-unit_at → tie.Else-u-ge56320
-second-of c = c.before.before.before
+second-of c = c.before.before
 
 second : (c : tie.In-Is-unit_at) → let u = high-of (second-of c) in let a = (start_of u).args in let g = u.u-1.given.0 in let h = c.v-1.given.0 in
     unit_of (drop (a.at + g.1.0) a.s.now) ≡ is h.0 h.1.0

@@ -30,7 +30,7 @@ told-unit : (c : tie.After-unit_at) (v : Sequence) → let a = (unit-of c.before
     unit_of (drop a.at a.s.now) ≡ v → utf8_of (drop a.at a.s.now) ≡ unpaired v
 told-unit c v e = let a = (unit-of c.before).args in utf8-of a.s.now a.at (omega arith) v (omega arith) (omega arith) e
 
-unit : (c : tie.In-Is) → let a = (unit-of c.before.before.before).args in let g = c.u-1.given.0 in
+unit : (c : tie.In-Is) → let a = (unit-of c.before.before).args in let g = c.u-1.given.0 in
     utf8_of (drop a.at a.s.now) ≡ unpaired (is g.0 g.1.0)
 unit c = told-unit c.before.before _ (told _ c.before.before.unit_at.ensures c.in-Is-1.is)
 

@@ -37,7 +37,7 @@ halve_spec =
     (λ c κs.
     let l = loop-of c in
     let s = start_of l.before in
-    (rw c.wide.ensures (s.pre.0.ends (l.loop-low.low + (l.loop-low.high - l.loop-low.low) / 2) (omega arith) (omega arith)), s.pre.1))
+    (rw c.wide.ensures (s.requires.0.ends (l.loop-low.low + (l.loop-low.high - l.loop-low.low) / 2) (omega arith) (omega arith)), s.requires.1))
     (λ c. search rules)
     (λ c. omega arith)
     (λ c. omega arith)

@@ -55,5 +55,5 @@ order_bytes_spec =
     left-long _ _ _ _ _ _ asked.0 asked.1 l.loop-i.invariant.1 (omega arith) c.if-size-n.true)
     (λ c.
     let l = c.before.before.before in
-    let asked = (start_of l.before).pre in
+    let asked = (start_of l.before).requires in
     left-same _ _ _ _ _ _ asked.0 asked.1 l.loop-i.invariant.1 (omega arith) (omega arith)))
