@@ -13,5 +13,5 @@ returns c =
     let n = c.args.n in
     ⊎_elim (λ low. omega (arith, low_digit n low)) (λ high. omega (arith, c.requires, high_digit n high)) (lt-or n 10)
 
-pub digit-spec : {M : Type 1} → statement M
-digit-spec = tie.close (tie.spec (λ c. search rules) (λ c. search rules) (λ c. search rules) (λ c. search rules) returns)
+pub digit_spec : {M : Type 1} → statement M
+digit_spec = tie.close (tie.spec (λ c. search rules) (λ c. search rules) (λ c. search rules) (λ c. search rules) returns)

@@ -7,20 +7,20 @@ use Rattle.form.proofs.Stored.{below-digits, decimal_digit, below-letters, lette
 use Rattle.table_store.proofs.digit_of.Statement.{statement}
 use Rattle.table_store.proofs.digit_of.Tie as tie
 
-returns : tie.Need-returns
-returns c = sym (below-digits _ c.if1.true)
+returns : tie.Need-returns-then-b-lt48
+returns c = sym (below-digits _ c.if-b-lt48.true)
 
-returns-2 : tie.Need-returns-2
-returns-2 c = sym (decimal_digit _ c.before.if1.false (omega (arith, c.if2.true)))
+returns-2 : tie.Need-returns-then-b-le57
+returns-2 c = sym (decimal_digit _ c.before.if-b-lt48.false (omega (arith, c.if-b-le57.true)))
 
-returns-3 : tie.Need-returns-3
-returns-3 c = sym (below-letters _ (omega (arith, c.before.if2.false)) c.if3.true)
+returns-3 : tie.Need-returns-then-b-lt97
+returns-3 c = sym (below-letters _ (omega (arith, c.before.if-b-le57.false)) c.if-b-lt97.true)
 
-returns-4 : tie.Need-returns-4
-returns-4 c = sym (letter-digit _ c.before.if3.false (omega (arith, c.if4.true)))
+returns-4 : tie.Need-returns-then-b-le102
+returns-4 c = sym (letter-digit _ c.before.if-b-lt97.false (omega (arith, c.if-b-le102.true)))
 
-returns-5 : tie.Need-returns-5
-returns-5 c = sym (above-digits _ (omega (arith, c.if4.false)))
+returns-5 : tie.Need-returns
+returns-5 c = sym (above-digits _ (omega (arith, c.if-b-le102.false)))
 
-pub digit-of-spec : {M : Type 1} → statement M
-digit-of-spec = tie.close (tie.spec returns returns-2 returns-3 (λ c. search rules) returns-4 returns-5)
+pub digit_of_spec : {M : Type 1} → statement M
+digit_of_spec = tie.close (tie.spec returns returns-2 returns-3 (λ c. search rules) returns-4 returns-5)

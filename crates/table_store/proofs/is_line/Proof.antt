@@ -13,32 +13,32 @@ use Rattle.table_store.proofs.is_line.Tie as tie
 abbrev start_of : tie.After-fed → tie.Start
 start_of c = c.before.before
 
-digits-at-requires : tie.Need-digits-at-requires
-digits-at-requires c κs =
+digits_at-requires : tie.Need-digits_at-requires
+digits_at-requires c κs =
     let at-fed = c.before in
-    let there = fed-there _ _ (sym at-fed.fed.ensures ∙ c.if1.true) in
+    let there = fed-there _ _ (sym at-fed.fed.ensures ∙ c.if-fed.true) in
     omega (arith, there.0)
 
-returns : tie.Need-returns
+returns : tie.Need-returns-then-fed
 returns c =
     let at-fed = c.before.before in
     let start = start_of at-fed in
-    subst (FirstLine start.args.words (drop start.args.at start.args.lines.now)) (sym c.digits-at.ensures)
-    (told_line start.args.words _ start.args.at start.pre.0 (sym at-fed.fed.ensures ∙ c.before.if1.true))
+    subst (FirstLine start.args.words (drop start.args.at start.args.lines.now)) (sym c.digits_at.ensures)
+    (told_line start.args.words _ start.args.at start.requires.0 (sym at-fed.fed.ensures ∙ c.before.if-fed.true))
 
-returns-2 : tie.Need-returns-2
+returns-2 : tie.Need-returns
 returns-2 c =
     let at-fed = c.before in
     let start = start_of at-fed in
-    unfed-line start.args.words _ start.args.at start.pre.0 (sym at-fed.fed.ensures ∙ c.if1.false)
+    unfed-line start.args.words _ start.args.at start.requires.0 (sym at-fed.fed.ensures ∙ c.if-fed.false)
 
-pub is-line-spec : {M : Type 1} → statement M
-is-line-spec =
+pub is_line_spec : {M : Type 1} → statement M
+is_line_spec =
     tie.close
     (tie.spec
     (λ c. omega (arith, c.before.requires.1))
-    (λ c. let start = c.before in omega (arith, start.requires.0, start.requires.1, start.well-formed.0.1))
+    (λ c. let start = c.before in omega (arith, start.requires.0, start.requires.1, start.well_formed.0.1))
     (λ c κs. search rules)
-    digits-at-requires
+    digits_at-requires
     returns
     returns-2)

@@ -12,27 +12,23 @@ use Rattle.table_store.proofs.Writing.{word-behind, feed-behind}
 use Rattle.table_store.proofs.put_line.Statement.{statement}
 use Rattle.table_store.proofs.put_line.Tie as tie
 
-abbrev invariant-loop : tie.invariant-loop
+abbrev invariant-loop : tie.invariant-loop-k
 invariant-loop table n out₀ k₀ out k = (out ≡ over out₀ (73 * n) (word_digits (part table (9 * n) k))) × (length out ≡ length out₀) × (k ≤ 9)
 
-abbrev decreases-loop : tie.decreases-loop
+abbrev decreases-loop : tie.decreases-loop-k
 decreases-loop table n out₀ k₀ out k = 9 - k
 
-loop-holds : tie.Need-loop-init invariant-loop decreases-loop
+loop-holds : tie.Need-loop-k-init invariant-loop decreases-loop
 unfolding word_digits
 loop-holds c = (sym (over_none _ _), refl, omega arith)
 
-loop-again : tie.Need-loop-preserved invariant-loop decreases-loop
+loop-again : tie.Need-loop-k-preserved invariant-loop decreases-loop
 loop-again c =
-    let at-put = c.before.before in
-    let at_arg = at-put.before.before in
-    let at-loop = at_arg.before.before in
-    let at-lists = at-loop.before in
-    let l = at-loop.loop in
-    let a = at-lists.before.before.args in (
-      at-put.put_word.ensures
+    let l = c.loop-k in
+    let a = c.args in (
+      c.put_word.ensures
           ∙ word-behind a.table.now (9 * a.n) l.k a.out.now (73 * a.n) l.out l.invariant.0 (omega arith) (omega arith),
-      at-put.put_word.auto.0 ∙ l.invariant.1,
+      c.put_word.auto.0 ∙ l.invariant.1,
       omega arith,
     )
 
@@ -40,13 +36,13 @@ returns : tie.Need-returns invariant-loop decreases-loop
 returns c =
     let at-loop = c.before in
     let at-lists = at-loop.before in
-    let l = at-loop.loop in
+    let l = at-loop.loop-k in
     let a = at-lists.before.before.args in
-    let all = rw (le_antisymm l.invariant.2 c.loop-test.false) at l.invariant.0 in
+    let all = rw (le_antisymm l.invariant.2 c.loop-k-test.false) at l.invariant.0 in
     feed-behind a.table.now (9 * a.n) 9 a.out.now (73 * a.n) l.out all (omega arith) (omega arith)
 
-pub put-line-spec : {M : Type 1} → statement M
-put-line-spec =
+pub put_line_spec : {M : Type 1} → statement M
+put_line_spec =
     tie.close
     (tie.spec
     invariant-loop
@@ -66,5 +62,5 @@ put-line-spec =
     (λ c. omega arith)
     (λ c. omega arith)
     (λ c. omega arith)
-    (λ c. simp length-set c.before.loop.invariant.1)
+    (λ c. simp length-set c.before.loop-k.invariant.1)
     returns)

@@ -12,34 +12,30 @@ use Rattle.table_store.proofs.Writing.{line-behind}
 use Rattle.table_store.proofs.put_lines.Statement.{statement}
 use Rattle.table_store.proofs.put_lines.Tie as tie
 
-abbrev invariant-loop : tie.invariant-loop
+abbrev invariant-loop : tie.invariant-loop-i
 invariant-loop table n out₀ i₀ out i = (out ≡ over out₀ 0 (lines_of 9 i table)) × (length out ≡ length out₀) × (i ≤ n)
 
-abbrev decreases-loop : tie.decreases-loop
+abbrev decreases-loop : tie.decreases-loop-i
 decreases-loop table n out₀ i₀ out i = n - i
 
-loop-holds : tie.Need-loop-init invariant-loop decreases-loop
+loop-holds : tie.Need-loop-i-init invariant-loop decreases-loop
 unfolding lines_of
 loop-holds c = (sym (over_none _ _), refl, omega arith)
 
-loop-again : tie.Need-loop-preserved invariant-loop decreases-loop
+loop-again : tie.Need-loop-i-preserved invariant-loop decreases-loop
 loop-again c =
-    let at-put = c.before.before in
-    let at_test = at-put.before.before in
-    let at-loop = at_test.before in
-    let at-lists = at-loop.before in
-    let l = at-loop.loop in
-    let a = at-lists.before.before.args in (
-      at-put.put-line.ensures ∙ line-behind 9 a.table.now l.i a.out.now l.out l.invariant.0 (omega arith) (omega arith),
-      at-put.put-line.auto.1.1.0 ∙ l.invariant.1,
+    let l = c.loop-i in
+    let a = c.args in (
+      c.put_line.ensures ∙ line-behind 9 a.table.now l.i a.out.now l.out l.invariant.0 (omega arith) (omega arith),
+      c.put_line.auto.1.1.0 ∙ l.invariant.1,
       omega arith,
     )
 
 returns : tie.Need-returns invariant-loop decreases-loop
-returns c = let l = c.before.loop in rw (le_antisymm l.invariant.2 c.loop-test.false) at l.invariant.0
+returns c = let l = c.before.loop-i in rw (le_antisymm l.invariant.2 c.loop-i-test.false) at l.invariant.0
 
-pub put-lines-spec : {M : Type 1} → statement M
-put-lines-spec =
+pub put_lines_spec : {M : Type 1} → statement M
+put_lines_spec =
     tie.close
     (tie.spec
     invariant-loop
@@ -49,5 +45,5 @@ put-lines-spec =
     (λ c. omega arith)
     (λ c. omega arith)
     loop-again
-    (λ c. c.before.loop.invariant.1)
+    (λ c. c.before.loop-i.invariant.1)
     returns)

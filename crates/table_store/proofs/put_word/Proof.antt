@@ -11,32 +11,32 @@ use Rattle.table_store.proofs.Writing.{digit-behind, digits-done}
 use Rattle.table_store.proofs.put_word.Statement.{statement}
 use Rattle.table_store.proofs.put_word.Tie as tie
 
-abbrev invariant-loop : tie.invariant-loop
+abbrev invariant-loop : tie.invariant-loop-i
 invariant-loop out₀ at word i₀ out i = (out ≡ over out₀ at (take i (hex_digits 8 word))) × (length out ≡ length out₀) × (i ≤ 8)
 
-abbrev decreases-loop : tie.decreases-loop
+abbrev decreases-loop : tie.decreases-loop-i
 decreases-loop out₀ at word i₀ out i = 8 - i
 
-loop-again : tie.Need-loop-preserved invariant-loop decreases-loop
+loop-again : tie.Need-loop-i-preserved invariant-loop decreases-loop
 loop-again c =
     let at-loop = c.before.before in
-    let l = at-loop.loop in
+    let l = at-loop.loop-i in
     let start = at-loop.before.before in
     let a = start.args in (
       ap (set l.out (a.at + l.i)) c.digit.ensures
-          ∙ digit-behind a.out.now l.out a.at a.word l.i l.invariant.0 c.before.loop-test.true start.requires,
+          ∙ digit-behind a.out.now l.out a.at a.word l.i l.invariant.0 c.before.loop-i-test.true start.requires,
       simp length-set l.invariant.1,
       omega arith,
     )
 
 returns : tie.Need-returns invariant-loop decreases-loop
 returns c =
-    let l = c.before.loop in
+    let l = c.before.loop-i in
     let a = c.before.before.before.args in
-    digits-done a.out.now l.out a.at a.word l.i l.invariant.0 c.loop-test.false
+    digits-done a.out.now l.out a.at a.word l.i l.invariant.0 c.loop-i-test.false
 
-pub put-word-spec : {M : Type 1} → statement M
-put-word-spec =
+pub put_word_spec : {M : Type 1} → statement M
+put_word_spec =
     tie.close
     (tie.spec
     invariant-loop
@@ -53,5 +53,5 @@ put-word-spec =
     (λ c. omega arith)
     (λ c. omega arith)
     loop-again
-    (λ c. c.before.loop.invariant.1)
+    (λ c. c.before.loop-i.invariant.1)
     returns)

@@ -6,33 +6,26 @@ use Rattle.table_store.proofs.Writing.{formed, lines-large, lines-unfit, lines-f
 use Rattle.table_store.proofs.write_lines.Statement.{statement}
 use Rattle.table_store.proofs.write_lines.Tie as tie
 
-mul-if1 : tie.Need-overflow-mul-if1
+mul-if1 : tie.Need-overflow_mul-n
 mul-if1 c =
-    let at-verdict = c.before.before in
-    omega (arith, (formed _ _ at-verdict.is_table.ensures.0 c.enum-told3.given.1).0.words)
+    omega (arith, (formed _ _ c.is_table.ensures.0 c.in-Table.is).0.words)
 
-returns : tie.Need-returns
+returns : tie.Need-returns-then-out-n
 returns c =
-    let at_told = c.before in
-    let at-verdict = at_told.before.before in
-    lines-full _ _ at-verdict.is_table.ensures.0 _ at_told.enum-told3.given.1 c.if1.true
+    lines-full _ _ c.is_table.ensures.0 _ c.in-Table.is c.if-out-n.true
 
-returns-2 : tie.Need-returns-2
-returns-2 c = let at-verdict = c.before.before in lines-large _ _ at-verdict.is_table.ensures.0 _ c.enum_told.given.1
+returns-2 : tie.Need-returns-in-OverLimit
+returns-2 c = lines-large _ _ c.is_table.ensures.0 _ c.in-OverLimit.is
 
-returns-3 : tie.Need-returns-3
-returns-3 c = let at-verdict = c.before.before in lines-unfit _ _ at-verdict.is_table.ensures.0 _ c.enum-told2.given.1
+returns-3 : tie.Need-returns-in-NoTable
+returns-3 c = lines-unfit _ _ c.is_table.ensures.0 _ c.in-NoTable.is
 
-returns-4 : tie.Need-returns-4
+returns-4 : tie.Need-returns-else-out-n
 returns-4 c =
-    let at-put = c.before.before in
-    let at_room = at-put.before.before in
-    let at_told = at_room.before in
-    let at-verdict = at_told.before.before in
-    lines-put _ _ at-verdict.is_table.ensures.0 _ at_told.enum-told3.given.1 at_room.if1.false at-put.put-lines.ensures
+    lines-put _ _ c.is_table.ensures.0 _ c.in-Table.is c.if-out-n.false c.put_lines.ensures
 
-pub write-lines-spec : {M : Type 1} → statement M
-write-lines-spec =
+pub write_lines_spec : {M : Type 1} → statement M
+write_lines_spec =
     tie.close
     (tie.spec
     (λ c κs. search rules)
