@@ -7,20 +7,20 @@ use Rattle.nbt_siblings.proofs.Wiping.{wiped-back}
 use Rattle.nbt_siblings.proofs.cells.half.Statement.{statement}
 use Rattle.nbt_siblings.proofs.cells.half.Tie as tie
 
-abbrev start_of : tie.After-enter → tie.Start
+abbrev start_of : tie.After-enter-r → tie.Start
 start_of c = let known = c.before.before in known.before.before
 
-abbrev entered_of : tie.After-wipe → tie.After-enter
+abbrev entered_of : tie.After-wipe → tie.After-enter-r
 entered_of c = let known = c.before.before in known.before.before
 
-back : (c : tie.After-wipe) → c.wipe.new.0 ≡ (start_of (entered_of c)).args.table.now
-back c = wiped-back (start_of (entered_of c)).requires.1 (entered_of c).enter.ensures.0 c.wipe.ensures
+back : (c : tie.After-wipe) → c.wipe.new.0 ≡ (start_of (entered_of c)).args.table-1.now
+back c = wiped-back (start_of (entered_of c)).requires.1 (entered_of c).enter-r.ensures.0 c.wipe.ensures
 
 wipe-requires : tie.Need-wipe-requires
 wipe-requires c κs =
     let entered = c.before.before.before in
     let p = (start_of entered).requires in
-    (omega (arith, p.0.wide), omega (arith, p.0.room, entered.enter.ensures.0.len))
+    (omega (arith, p.0.wide), omega (arith, p.0.room, entered.enter-r.ensures.0.len))
 
 pub half_spec : {M : Type 1} → statement M
 half_spec =
@@ -29,4 +29,4 @@ half_spec =
     (λ c κs. c.before.before.before.requires)
     wipe-requires
     (λ c. ap length (back c.before.before))
-    (λ c. let wiped = c.before.before in (back wiped, (entered_of wiped).enter.ensures.1)))
+    (λ c. let wiped = c.before.before in (back wiped, (entered_of wiped).enter-r.ensures.1)))

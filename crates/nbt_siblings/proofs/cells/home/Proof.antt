@@ -7,8 +7,8 @@ use Rattle.nbt_siblings.proofs.Stored.{home_below}
 use Rattle.nbt_siblings.proofs.cells.home.Statement.{statement}
 use Rattle.nbt_siblings.proofs.cells.home.Tie as tie
 
-pub home-spec : {M : Type 1} → statement M
-home-spec =
+pub home_spec : {M : Type 1} → statement M
+home_spec =
     tie.close
     (tie.spec
     (λ c. search rules)

@@ -13,28 +13,28 @@ hashed-requires c κs =
     let wide = room.before in
     let end = wide.before in
     let some = end.before.before in
-    let fam = some.before.before.before.requires in (
+    let fam = c.requires in (
       record {
         family = fam;
-        some = omega (arith, some.if1.false);
-        wide = omega (arith, wide.if3.false, end.cells-end.ensures.0);
-        small = omega (arith, end.cells-end.ensures.1, fam.small);
-        room = omega (arith, room.if4.false);
+        some = omega (arith, c.if-first-eq0.false);
+        wide = omega (arith, c.if-last-first-lt32.false, c.cells_end-last.ensures.0);
+        small = omega (arith, c.cells_end-last.ensures.1, fam.small);
+        room = omega (arith, c.if-table-last.false);
       },
-      rw c.before.if5.true at blank.blank.ensures,
+      rw c.if-blank.true at c.blank.ensures,
     )
 
-pub scattered-spec : {M : Type 1} → statement M
-scattered-spec =
+pub scattered_spec : {M : Type 1} → statement M
+scattered_spec =
     tie.close
     (tie.spec
     (λ c. (refl, tt))
     (λ c. (refl, tt))
-    (λ c κs. c.if2.false)
-    (λ c. omega (arith, c.cells-end.ensures.0))
+    (λ c κs. c.if-stop-first.false)
+    (λ c. omega (arith, c.cells_end-last.ensures.0))
     (λ c. (refl, tt))
     (λ c. (refl, tt))
-    (λ c κs. omega (arith, c.before.if4.false))
+    (λ c κs. omega (arith, c.before.if-table-last.false))
     hashed-requires
     (λ c. ap length c.before.before.hashed.ensures.0)
     (λ c. c.before.before.hashed.ensures)

@@ -6,11 +6,11 @@ use Rattle.nbt_siblings.proofs.Seen.{fresh-alone}
 use Rattle.nbt_siblings.proofs.classes.taken_in.Statement.{statement}
 use Rattle.nbt_siblings.proofs.classes.taken_in.Tie as tie
 
-returns-2 : tie.Need-returns-2
+returns-2 : tie.Need-returns
 returns-2 c =
     let known = c.before.before in
     let p = known.before.requires in
-    fresh-alone p.0 (λ j. omega (arith, known.shared-slice-known.given j)) _ (p.2 c.if1.false)
+    fresh-alone p.0 (λ j. omega (arith, known.shared_slice_known-1.given j)) _ (p.2 c.if-seen.false)
 
-pub taken-in-spec : {M : Type 1} → statement M
-taken-in-spec = tie.close (tie.spec (λ c κs. search rules) (λ c. search rules) returns-2)
+pub taken_in_spec : {M : Type 1} → statement M
+taken_in_spec = tie.close (tie.spec (λ c κs. search rules) (λ c. search rules) returns-2)

@@ -9,7 +9,7 @@ use Rattle.nbt_siblings.proofs.Tables.{slot-range}
 use Rattle.nbt_siblings.proofs.links.cell.Statement.{statement}
 use Rattle.nbt_siblings.proofs.links.cell.Tie as tie
 
-read : tie.Need-shared-slice-read-index
+read : tie.Need-bounds-table-slot
 read c =
     let slot = c.before in
     let a = slot.before.before.args in
@@ -21,8 +21,8 @@ returns c =
     let slot = c.before.before in
     c.index.ensures ∙ ap (λ k. get_or slot.before.before.args.table.now k 0) slot.slot.ensures
 
-pub cell-spec : {M : Type 1} → statement M
-cell-spec =
+pub cell_spec : {M : Type 1} → statement M
+cell_spec =
     tie.close
     (tie.spec
     (λ c κs. search rules)

@@ -7,7 +7,7 @@ use Rattle.nbt_siblings.proofs.marks.mark.Tie as tie
 
 returns : tie.Need-returns
 unfolding name_of
-returns c = rw (c.before.before.word.ensures, c.before.word2.ensures) at c.mark-span.ensures
+returns c = rw (c.before.before.word.ensures, c.before.word-2.ensures) at c.mark_span.ensures
 
 pub mark_spec : {M : Type 1} → statement M
 mark_spec = tie.close (tie.spec (λ c κs. search rules) (λ c κs. search rules) (λ c κs. search rules) returns)

@@ -13,10 +13,10 @@ returns c =
     let b2 = b3.before in
     let b1 = b2.before in
     let p = b1.before.before.requires in
-    c.stir.ensures ∙ rw (b1.both.ensures.0, b2.both2.ensures.0, b3.four.ensures.0, b4.four2.ensures.0) (mark-most _ _ _ p.0 _ refl p.1)
+    c.stir.ensures ∙ rw (b1.both.ensures.0, b2.both-2.ensures.0, b3.four.ensures.0, b4.four-2.ensures.0) (mark-most _ _ _ p.0 _ refl p.1)
 
-pub mark-long-spec : {M : Type 1} → statement M
-mark-long-spec =
+pub mark_long_spec : {M : Type 1} → statement M
+mark_long_spec =
     tie.close
     (tie.spec
     (λ c. search rules)

@@ -8,7 +8,7 @@ use Rattle.nbt_siblings.proofs.marks.stir.Tie as tie
 
 returns : tie.Need-returns
 unfolding stir_of
-returns c = rw (c.fold2.ensures, c.before.fold.ensures, c.before.before.mix.ensures) refl
+returns c = rw (c.fold-2.ensures, c.before.fold.ensures, c.before.before.mix.ensures) refl
 
-pub stir-spec : {M : Type 1} → statement M
-stir-spec = tie.close (tie.spec (λ c κs. search rules) (λ c κs. search rules) (λ c κs. search rules) returns)
+pub stir_spec : {M : Type 1} → statement M
+stir_spec = tie.close (tie.spec (λ c κs. search rules) (λ c κs. search rules) (λ c κs. search rules) returns)

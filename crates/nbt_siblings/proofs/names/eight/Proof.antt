@@ -8,8 +8,8 @@ use Rattle.nbt_siblings.proofs.names.eight.Tie as tie
 
 returns : tie.Need-returns
 unfolding eight_of
-returns c = omega (arith, c.four2.ensures.0, c.before.four.ensures.0)
+returns c = omega (arith, c.four-2.ensures.0, c.before.four.ensures.0)
 
-pub eight-spec : {M : Type 1} → statement M
-eight-spec =
+pub eight_spec : {M : Type 1} → statement M
+eight_spec =
     tie.close (tie.spec (λ c κs. search rules) (λ c. search rules) (λ c. search rules) (λ c κs. search rules) (λ c. search rules) returns)

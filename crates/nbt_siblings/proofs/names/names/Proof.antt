@@ -12,10 +12,10 @@ returns c =
     let w3 = w4.before in
     let w2 = w3.before in
     let w1 = w2.before in
-    rw (w1.word.ensures, w2.word2.ensures, w3.word3.ensures, w4.word4.ensures) at c.spans.ensures
+    rw (w1.word.ensures, w2.word-2.ensures, w3.word-3.ensures, w4.word-4.ensures) at c.spans.ensures
 
-pub names-spec : {M : Type 1} → statement M
-names-spec =
+pub names_spec : {M : Type 1} → statement M
+names_spec =
     tie.close
     (tie.spec
     (λ c κs. search rules)

@@ -6,21 +6,20 @@ use Rattle.nbt_siblings.proofs.Numbers.{num-other, num-alike}
 use Rattle.nbt_siblings.proofs.names.same_name.Statement.{statement}
 use Rattle.nbt_siblings.proofs.names.same_name.Tie as tie
 
-returns-2 : tie.Need-returns-2
+returns-2 : tie.Need-returns-in-Same
 returns-2 c =
     let spans = c.before.before in
-    let known = spans.before in
-    let p = known.before.requires in
-    num-alike _ (λ j. omega (arith, known.shared-slice-known.given j)) _ _ _ _ p.0 p.1 (rw c.enum-told2.given.1 at spans.spans.ensures)
+    let p = c.requires in
+    num-alike _ (λ j. omega (arith, c.shared_slice_known-1.given j)) _ _ _ _ p.0 p.1 (rw c.in-Same.is at c.spans.ensures)
 
-pub same-name-spec : {M : Type 1} → statement M
-same-name-spec =
+pub same_name_spec : {M : Type 1} → statement M
+same_name_spec =
     tie.close
     (tie.spec
     (λ c κs. search rules)
     (λ c. search rules)
     (λ c. search rules)
     (λ c. search rules)
-    (λ c. num-other _ _ (λ e. omega (arith, e, rw c.enum_told.given.1 at c.before.before.spans.ensures)))
+    (λ c. num-other _ _ (λ e. omega (arith, e, rw c.in-Less.is at c.before.spans.ensures)))
     returns-2
-    (λ c. num-other _ _ (λ e. omega (arith, e, rw c.enum-told3.given.1 at c.before.before.spans.ensures))))
+    (λ c. num-other _ _ (λ e. omega (arith, e, rw c.in-More.is at c.before.spans.ensures))))

@@ -7,21 +7,21 @@ use mathlib.Core.Logic.{inl, inr}
 use Rattle.nbt_siblings.proofs.sorting.lower.Statement.{statement}
 use Rattle.nbt_siblings.proofs.sorting.lower.Tie as tie
 
-returns-2 : tie.Need-returns-2
+returns-2 : tie.Need-returns-then-twin
 returns-2 c =
-    let twins = rw c.if2.true at c.before.twin.ensures in
-    record { twin = λ e. omega arith; le = omega (arith, c.before.before.if1.false); is = inr (refl, twins) }
+    let twins = rw c.if-twin.true at c.before.twin.ensures in
+    record { twin = λ e. omega arith; le = omega (arith, c.before.before.if-low-y.false); is = inr (refl, twins) }
 
-returns-3 : tie.Need-returns-3
+returns-3 : tie.Need-returns-else-twin
 returns-3 c =
-    let others = rw c.if2.false at c.before.twin.ensures in
+    let others = rw c.if-twin.false at c.before.twin.ensures in
     record { twin = λ e. absurd (others e); le = omega arith; is = inl refl }
 
 pub lower_spec : {M : Type 1} → statement M
 lower_spec =
     tie.close
     (tie.spec
-    (λ c. record { twin = λ e. c.if1.true; le = omega arith; is = inl refl })
+    (λ c. record { twin = λ e. c.if-low-y.true; le = omega arith; is = inl refl })
     (λ c κs. search rules)
     returns-2
     returns-3)
