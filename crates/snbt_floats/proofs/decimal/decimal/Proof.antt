@@ -12,7 +12,7 @@ use Rattle.snbt_form.specs.Values.{nearest_to}
 use Rattle.snbt_floats.proofs.Operations.{neg-round}
 use Rattle.snbt_floats.proofs.decimal.decimal.Statement.{statement}
 use Rattle.snbt_floats.proofs.decimal.decimal.Tie as tie
-use Rattle.snbt_floats.proofs.decimal.decimal.Tie.{then-down, else-down}
+use Rattle.snbt_floats.proofs.decimal.decimal.Lts.{then-down, else-down}
 
 scaled_down-requires : tie.Need-scaled_down-r-requires
 scaled_down-requires c κs = search rules
