@@ -1,4 +1,6 @@
 // One character of modified UTF-8 (rule 2) or UTF-8: the value at a place, and one value written, by the rule of a form where both are in use.
+#![tactic(auto)]
+
 ghost use Rattle.std.specs.Prelude.{◌≡◌, ℕ, ◌+◌, ◌%◌, ◌≤◌, ◌<◌, length, drop};
 ghost use Rattle.form.specs.Spans.{over};
 ghost use Rattle.form.specs.Form.{form_no};

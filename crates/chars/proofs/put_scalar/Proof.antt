@@ -44,13 +44,13 @@ put_scalar_spec =
     (λ c. search rules)
     (λ c κs. let k = c.before in let z = two-of (first_of k) in let x = (start_of z).args.c in let m = mask_lt (x - 65536) 10 in (
       omega (arith, m),
-      omega (arith, m, half_length (56320 + bit_and (x - 65536) 1023) (omega arith), pair-length x (omega arith), z.length_of-size.ensures, c.put_unit-2.auto.1.0),
+      omega (arith, m, half_length (56320 + bit_and (x - 65536) 1023) (omega arith), pair-length x (omega arith), z.length_of-size.ensures, c.put_unit-2.auto.out),
     ))
     (λ c. search rules)
     (λ c. search rules)
     (λ c. let p = c.before.before in let k = p.before.before in let z = two-of (first_of k) in let a = (start_of z).args in let e = z.length_of-size.ensures in (
       omega (arith, e),
       omega arith,
-      pair_put a.out-1.now _ _ a.c a.at (omega arith) (omega (arith, e, pair-length a.c (omega arith))) c.put_unit-2.ensures
+      pair_put a.out.now _ _ a.c a.at (omega arith) (omega (arith, e, pair-length a.c (omega arith))) c.put_unit-2.ensures
           (rw (← and_mask (a.c - 65536) 10) c.put_unit-3.ensures),
     )))

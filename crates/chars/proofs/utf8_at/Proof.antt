@@ -30,9 +30,8 @@ told-unit : (c : tie.After-unit_at) (v : Sequence) → let a = (unit-of c.before
     unit_of (drop a.at a.s.now) ≡ v → utf8_of (drop a.at a.s.now) ≡ unpaired v
 told-unit c v e = let a = (unit-of c.before).args in utf8-of a.s.now a.at (omega arith) v (omega arith) (omega arith) e
 
-unit : (c : tie.In-Is) → let a = (unit-of c.before.before).args in let g = c.u-1.given.0 in
-    utf8_of (drop a.at a.s.now) ≡ unpaired (is g.0 g.1.0)
-unit c = told-unit c.before.before _ (told _ c.before.before.unit_at.ensures c.in-Is-1.is)
+unit : (c : tie.In-Is) → utf8_of (drop c.args.at c.args.s.now) ≡ unpaired (is c.in-Is.u c.in-Is.n)
+unit c = told-unit c.before _ (told _ c.unit_at.ensures c.in-Is.is)
 
 -- that is not 0
 abbrev value_of : tie.Else-u-eq0 → tie.In-Is
@@ -60,11 +59,11 @@ utf8_at_spec =
     rw (drop4 a.s.now a.at (omega arith)) (simp (ne_eqb x 0 (omega arith), le-leb 240 x (omega arith), lt-leb 248 x (omega arith)) c.four.ensures))
     (λ c κs. search rules)
     (λ c. search rules)
-    (λ c. let u = c.before.before in rw (unit u) (simp (eq-eqb u.in-Is.u 0 (omega arith))))
+    (λ c. let u = c.before in rw (unit u) (simp (eq-eqb u.in-Is.u 0 (omega arith))))
     (λ c. let u = value_of c.before in rw (unit u) (simp (ne_eqb u.in-Is.u 0 (omega arith), lt-ltb u.in-Is.u 55296 (omega arith))))
     (λ c. let u = value_of c.before.before in let x = u.in-Is.u in
     rw (unit u) (simp (ne_eqb x 0 (omega arith), le-ltb x 55296 (omega arith), lt-ltb x 57344 (omega arith))))
     (λ c. search rules)
     (λ c. let u = value_of c.before.before in let x = u.in-Is.u in
     rw (unit u) (simp (ne_eqb x 0 (omega arith), le-ltb x 55296 (omega arith), le-ltb x 57344 (omega arith))))
-    (λ c. rw (told-unit c.before.before _ (told _ c.before.before.unit_at.ensures c.in-Stuck.is)) refl))
+    (λ c. rw (told-unit c.before _ (told _ c.unit_at.ensures c.in-Stuck.is)) refl))
