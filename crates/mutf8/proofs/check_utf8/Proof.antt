@@ -7,11 +7,11 @@ use Rattle.mutf8.proofs.Alike.{short-good}
 use Rattle.mutf8.proofs.check_utf8.Statement.{statement}
 use Rattle.mutf8.proofs.check_utf8.Tie as tie
 
-pub check-utf8-spec : {M : Type 1} → statement M
-check-utf8-spec =
+pub check_utf8_spec : {M : Type 1} → statement M
+check_utf8_spec =
     tie.close
     (tie.spec
     (λ c κs. search rules)
-    (λ c. short-good utf8 _ (sym c.before.is_plain.ensures ∙ c.if1.true))
+    (λ c. short-good utf8 _ (sym c.before.is_plain.ensures ∙ c.if-is_plain.true))
     (λ c κs. search rules)
     (λ c. c.judge.ensures))

@@ -13,23 +13,23 @@ use Rattle.mutf8.proofs.front_at.Statement.{statement}
 use Rattle.mutf8.proofs.front_at.Tie as tie
 
 -- the test of the form, where it is not the pocket edition's
-abbrev test_of : tie.After-scalar-at → tie.After-is-pocket
+abbrev test_of : tie.After-scalar_at → tie.After-is_pocket
 test_of c = c.before.before
 
-other : (c : tie.After-scalar-at) → eqb (test_of c).before.before.args.form 2 ≡ false
-other c = sym (test_of c).is-pocket.ensures ∙ c.before.if1.false
+other : (c : tie.After-scalar_at) → eqb (test_of c).before.before.args.form 2 ≡ false
+other c = sym (test_of c).is_pocket.ensures ∙ c.before.if-is_pocket.false
 
-pub front-at-spec : {M : Type 1} → statement M
-front-at-spec =
+pub front_at_spec : {M : Type 1} → statement M
+front_at_spec =
     tie.close
     (tie.spec
     (λ c κs. search rules)
     (λ c κs. search rules)
-    (λ c. rw (sym c.before.before.is-pocket.ensures ∙ c.before.if1.true) c.utf8-at.ensures)
+    (λ c. rw (sym c.is_pocket.ensures ∙ c.if-is_pocket.true) c.utf8_at.ensures)
     (λ c κs. search rules)
     (λ c. search rules)
     (λ c κs. search rules)
     (λ c. search rules)
-    (λ c. let v = c.before.before in let r = v.before.before in let e = told _ r.scalar-at.ensures v.c.given.1 in
-    rw (other r, e) (ap (is v.c.given.0.0) (c.length-of.ensures ∙ sym (width modified _ _ _ e))))
-    (λ c. let r = c.before.before in rw (other r) (sym (told _ r.scalar-at.ensures c.enum_told.given.1))))
+    (λ c. let v = c.before.before in let r = v.before.before in let e = told _ c.scalar_at.ensures c.in-Is.is in
+    rw (other r, e) (ap (is c.in-Is.c) (c.length_of.ensures ∙ sym (width modified _ _ _ e))))
+    (λ c. let r = c.before.before in rw (other r) (sym (told _ c.scalar_at.ensures c.in-Stuck.is))))

@@ -10,12 +10,12 @@ use Rattle.mutf8.proofs.is_well_formed.Tie as tie
 abbrev rule-of : tie.After-check → Rule
 rule-of c = (form_no c.before.before.args.form).strings
 
-pub is-well-formed-spec : {M : Type 1} → statement M
-is-well-formed-spec =
+pub is_well_formed_spec : {M : Type 1} → statement M
+is_well_formed_spec =
     tie.close
     (tie.spec
     (λ c κs. search rules)
     (λ c. search rules)
     (λ c. search rules)
-    (λ c. let at-check = c.before.before in judged-by (rule-of at-check) _ at-check.check.result _ c.enum_told.given.1 at-check.check.ensures)
-    (λ c. let at-check = c.before.before in judged-by (rule-of at-check) _ at-check.check.result _ c.enum-told2.given.1 at-check.check.ensures))
+    (λ c. let at-check = c.before.before in judged-by (rule-of at-check) _ at-check.check.result _ c.in-Good.is at-check.check.ensures)
+    (λ c. let at-check = c.before.before in judged-by (rule-of at-check) _ at-check.check.result _ c.in-Bad.is at-check.check.ensures))

@@ -14,29 +14,29 @@ use Rattle.mutf8.proofs.Alike.{walked-plain}
 use Rattle.mutf8.proofs.steps.Statement.{statement}
 use Rattle.mutf8.proofs.steps.Tie as tie
 
-abbrev Inv : tie.invariant-loop
+abbrev Inv : tie.invariant-loop-i
 Inv s at stop form i₀ i = (at ≤ i) × (i ≤ length s) × Walked (one_of (form_no form).strings) s at i
 
-abbrev μ : tie.decreases-loop
+abbrev μ : tie.decreases-loop-i
 μ s at stop form i₀ i = length s - i
 
 -- the turn of a byte that was looked at, and of a value that was read
-abbrev turn-of : tie.After-shared-slice-known2 Inv μ → tie.At-loop Inv μ
+abbrev turn-of : tie.After-shared_slice_known-in-loop-i-1 Inv μ → tie.At-loop-i Inv μ
 turn-of c = c.before.before
 
-abbrev call-of : tie.After-n Inv μ → tie.After-front-at Inv μ
-call-of c = c.before.before
+abbrev call-of : tie.In-Is Inv μ → tie.After-front_at Inv μ
+call-of c = c.before
 
-abbrev value_of : tie.After-n Inv μ → tie.At-loop Inv μ
+abbrev value_of : tie.In-Is Inv μ → tie.At-loop-i Inv μ
 value_of c = turn-of (call-of c).before.before.before
 
 -- the value takes a byte at least, and no more than there are
-reached : (c : tie.After-n Inv μ) → let l = value_of c in let n = c.n.given.0.1.0 in
-    (0 < n) × (l.loop.i + n ≤ length l.before.before.args.s.now)
-reached c = let a = (value_of c).before.before.args in reach (form_no a.form).strings a.s.now _ _ _ _ c.n.given.1 (call-of c).Front-at.ensures
+reached : (c : tie.In-Is Inv μ) → let l = value_of c in let n = c.in-Is.n in
+    (0 < n) × (l.loop-i.i + n ≤ length l.before.before.args.s.now)
+reached c = let a = (value_of c).before.before.args in reach (form_no a.form).strings a.s.now _ _ _ _ c.in-Is.is (call-of c).Front-at.ensures
 
-pub steps-spec : {M : Type 1} → statement M
-steps-spec =
+pub steps_spec : {M : Type 1} → statement M
+steps_spec =
     tie.close
     (tie.spec
     Inv
@@ -47,17 +47,17 @@ steps-spec =
     (λ c. omega arith)
     (λ c. omega arith)
     (λ c. let l = turn-of c.before.before in let a = l.before.before.args in
-    (omega arith, omega arith, walked-plain (form_no a.form).strings _ _ _ (omega arith) (zero_is _ _ _ _ c.before.unplain.ensures c.if1.true) l.loop.inv.2))
+    (omega arith, omega arith, walked-plain (form_no a.form).strings _ _ _ (omega arith) (zero_is _ _ _ _ c.before.unplain.ensures c.if-unplain-eq0.true) l.loop-i.inv.2))
     (λ c κs. search rules)
     (λ c. search rules)
     (λ c. omega (arith, reached c.before))
     (λ c. omega (arith, reached c.before))
     (λ c. let l = value_of c.before in let a = l.before.before.args in let r = reached c.before in (
-      omega (arith, l.loop.inv.0, r.0),
+      omega (arith, l.loop-i.inv.0, r.0),
       r.1,
-      walked_more (form_no a.form).strings a.s.now _ _ _ _ _ c.before.n.given.1 (call-of c.before).Front-at.ensures l.loop.inv.2,
+      walked_more (form_no a.form).strings a.s.now _ _ _ _ _ c.before.in-Is.is (call-of c.before).Front-at.ensures l.loop-i.inv.2,
     ))
     (λ c. search rules)
-    (λ c. let r = c.before.before in let v = (turn-of r.before.before.before).loop.inv in
-    record { on = v.0; within = v.1; walked = v.2; halted = λ _. told _ r.Front-at.ensures c.enum_told.given.1 })
-    (λ c. let v = c.before.loop.invariant in record { on = v.0; within = v.1; walked = v.2; halted = λ h. absurd (omega arith) }))
+    (λ c. let r = c.before.before in let v = (turn-of r.before.before.before).loop-i.inv in
+    record { on = v.0; within = v.1; walked = v.2; halted = λ _. told _ r.Front-at.ensures c.in-Stuck.is })
+    (λ c. let v = c.before.loop-i.invariant in record { on = v.0; within = v.1; walked = v.2; halted = λ h. absurd (omega arith) }))

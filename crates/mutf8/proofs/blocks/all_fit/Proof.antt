@@ -11,21 +11,21 @@ use Rattle.mutf8.proofs.Alike.{fitting-none, fitting-more}
 use Rattle.mutf8.proofs.blocks.all_fit.Statement.{statement}
 use Rattle.mutf8.proofs.blocks.all_fit.Tie as tie
 
-abbrev Inv : tie.invariant-loop
+abbrev Inv : tie.invariant-loop-k
 Inv s at top₀ k₀ top k = (k ≤ 64) × (top ≡ 0 → Fitting s at (at + k))
 
-abbrev μ : tie.decreases-loop
+abbrev μ : tie.decreases-loop-k
 μ s at top₀ k₀ top k = 64 - k
 
 -- the first of the three bytes has been read, and the turn
-abbrev read_of : tie.After-odd Inv μ → tie.After-shared-slice-known2 Inv μ
+abbrev read_of : tie.After-odd Inv μ → tie.After-shared_slice_known-in-loop-k-1 Inv μ
 read_of c = c.before.before.before
 
-abbrev turn-of : tie.After-odd Inv μ → tie.At-loop Inv μ
+abbrev turn-of : tie.After-odd Inv μ → tie.At-loop-k Inv μ
 turn-of c = (read_of c).before.before
 
-pub all-fit-spec : {M : Type 1} → statement M
-all-fit-spec =
+pub all_fit_spec : {M : Type 1} → statement M
+all_fit_spec =
     tie.close
     (tie.spec
     Inv
@@ -41,10 +41,10 @@ all-fit-spec =
     (λ c κs. search rules)
     (λ c. search rules)
     (λ c. omega arith)
-    (λ c. let turn = turn-of c.before in let l = turn.loop in let at = turn.before.before.args.at in (
+    (λ c. let turn = turn-of c.before in let l = turn.loop-k in let at = turn.before.before.args.at in (
       omega arith,
-      λ h. let e : at + (l.k + 1) ≡ at + l.k + 1 = omega arith in let z = raised-over l.top c.before.odd.result c.raise.result c.raise.ensures in
+      λ h. let e : at + (l.k + 1) ≡ at + l.k + 1 = omega arith in let z = raised-over l.top c.before.odd.result c.raise-top.result c.raise-top.ensures in
           rw e (fitting-more _ _ _ (l.inv.1 (omega (arith, h, z))) (c.before.odd.ensures (omega (arith, h, z)))),
     ))
-    (λ c. λ _. let l = c.before.before.loop in let e : l.k ≡ 64 = omega arith in rw e at (l.invariant.1 c.if1.true))
+    (λ c. λ _. let l = c.before.before.loop-k in let e : l.k ≡ 64 = omega arith in rw e at (l.invariant.1 c.if-top-eq0.true))
     (λ c. λ e. differ (sym e)))

@@ -8,37 +8,37 @@ use Rattle.mutf8.proofs.Alike.{passed_none, passed-join, fitting-passed}
 use Rattle.mutf8.proofs.blocks.blocks.Statement.{statement}
 use Rattle.mutf8.proofs.blocks.blocks.Tie as tie
 
-abbrev Inv : tie.invariant-loop
+abbrev Inv : tie.invariant-loop-left
 Inv s at i₀ left₀ i left = (i ≤ length s) × Edge s i × Passed s at i
 
-abbrev μ : tie.decreases-loop
+abbrev μ : tie.decreases-loop-left
 μ s at i₀ left₀ i left = left
 
-abbrev turn-of : tie.After-whole Inv μ → tie.At-loop Inv μ
+abbrev turn-of : tie.After-whole-next Inv μ → tie.At-loop-left Inv μ
 turn-of c = c.before.before.before
 
 -- the next place is an edge
-abbrev edge_of : tie.After-all-fit Inv μ → tie.After-is-edge Inv μ
+abbrev edge_of : tie.After-all_fit Inv μ → tie.After-is_edge Inv μ
 edge_of c = c.before.before
 
-pub blocks-spec : {M : Type 1} → statement M
-blocks-spec =
+pub blocks_spec : {M : Type 1} → statement M
+blocks_spec =
     tie.close
     (tie.spec
     Inv
     μ
     (λ c. let p = c.before.requires in (p.1, p.0, passed_none _ _ p.1))
     (λ c. omega arith)
-    (λ c. c.before.before.loop.invariant.2)
+    (λ c. c.before.before.loop-left.invariant.2)
     (λ c. omega arith)
     (λ c κs. (omega arith, omega arith))
-    (λ c κs. (omega (arith, c.whole.ensures), omega (arith, c.whole.ensures)))
-    (λ c κs. ((turn-of c.before.before).loop.inv.1.behind, omega arith))
+    (λ c κs. (omega (arith, c.whole-next.ensures), omega (arith, c.whole-next.ensures)))
+    (λ c κs. ((turn-of c.before.before).loop-left.inv.1.behind, omega arith))
     (λ c. omega arith)
     (λ c. omega arith)
-    (λ c. let e = edge_of c.before in let v = (turn-of e.before).loop.inv in let w = e.before.whole.ensures in
-    let g = e.is-edge.ensures c.before.before.if2.true in
-    (omega (arith, w), g, passed-join _ _ _ _ v.2 (fitting-passed _ _ _ _ (omega (arith, w)) w.0 (omega arith) (c.before.all_fit.ensures c.if3.true) v.1 g)))
-    (λ c. (turn-of (edge_of c.before).before).loop.inv.2)
-    (λ c. (turn-of c.before.before).loop.inv.2)
-    (λ c. c.before.loop.invariant.2))
+    (λ c. let e = edge_of c.before in let v = (turn-of e.before).loop-left.inv in let w = e.before.whole-next.ensures in
+    let g = e.is_edge.ensures c.before.before.if-is_edge.true in
+    (omega (arith, w), g, passed-join _ _ _ _ v.2 (fitting-passed _ _ _ _ (omega (arith, w)) w.0 (omega arith) (c.before.all_fit.ensures c.if-all_fit.true) v.1 g)))
+    (λ c. (turn-of (edge_of c.before).before).loop-left.inv.2)
+    (λ c. (turn-of c.before.before).loop-left.inv.2)
+    (λ c. c.before.loop-left.invariant.2))

@@ -6,8 +6,8 @@ use Rattle.form.proofs.Picks.{differ}
 use Rattle.mutf8.proofs.blocks.is_edge.Statement.{statement}
 use Rattle.mutf8.proofs.blocks.is_edge.Tie as tie
 
-pub is-edge-spec : {M : Type 1} → statement M
-is-edge-spec =
+pub is_edge_spec : {M : Type 1} → statement M
+is_edge_spec =
     tie.close
     (tie.spec
     (λ c. search rules)

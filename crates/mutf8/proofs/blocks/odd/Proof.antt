@@ -14,14 +14,14 @@ returns c e =
     let at-raise = at-barred.before in
     let at-wrong = at-raise.before in
     let at-differ = at-wrong.before in
-    let all = raised-over at-raise.raise.result at-barred.barred.result c.raise2.result c.raise2.ensures in
+    let all = raised-over at-raise.raise.result at-barred.barred.result c.raise-2.result c.raise-2.ensures in
     let some = raised-over at-differ.differ.result at-wrong.wrong.result at-raise.raise.result at-raise.raise.ensures in
     fits-of at-differ.before.before.due.ensures at-differ.before.follows.ensures
     (at-differ.differ.ensures (omega (arith, e, all, some))) (at-wrong.wrong.ensures (omega (arith, e, all, some)))
     (at-barred.barred.ensures (omega (arith, e, all)))
 
-pub odd-spec : {M : Type 1} → statement M
-odd-spec =
+pub odd_spec : {M : Type 1} → statement M
+odd_spec =
     tie.close
     (tie.spec
     (λ c κs. search rules)
