@@ -7,8 +7,8 @@ use Rattle.snbt_numbers.proofs.Grammar.{number-found, number-lacks}
 use Rattle.snbt_numbers.proofs.any_number.Statement.{statement}
 use Rattle.snbt_numbers.proofs.any_number.Tie as tie
 
-pub any-number-spec : {M : Type 1} → statement M
-any-number-spec =
+pub any_number_spec : {M : Type 1} → statement M
+any_number_spec =
     tie.close
     (tie.spec
     (λ c κs. search rules)
@@ -17,12 +17,12 @@ any-number-spec =
     let p = c.before.before in
     let s = p.before.before in
     let a = s.args in
-    c.decimal-number.ensures
-    ∙ number-found a.start a.end a.start a.text.now (le_trans s.requires.0 s.requires.1) s.requires.2 p.first_of.ensures s.requires.0 s.requires.3 c.before.if1.true)
+    c.decimal_number.ensures
+    ∙ number-found a.start a.end a.start a.text.now (le_trans s.requires.0 s.requires.1) s.requires.2 p.first_of-point.ensures s.requires.0 s.requires.3 c.before.if-point-end.true)
     (λ c κs. search rules)
     (λ c.
     let p = c.before.before in
     let s = p.before.before in
     let a = s.args in
-    c.whole-number.ensures
-    ∙ number-lacks a.start a.end a.start a.text.now (le_trans s.requires.0 s.requires.1) s.requires.2 p.first_of.ensures s.requires.0 s.requires.3 c.before.if1.false))
+    c.whole_number.ensures
+    ∙ number-lacks a.start a.end a.start a.text.now (le_trans s.requires.0 s.requires.1) s.requires.2 p.first_of-point.ensures s.requires.0 s.requires.3 c.before.if-point-end.false))

@@ -17,31 +17,31 @@ use Rattle.snbt_numbers.proofs.number_at.Statement.{statement}
 use Rattle.snbt_numbers.proofs.number_at.Tie as tie
 
 -- the beginning, and the sign before the digits
-abbrev start_of : tie.After-behind-minus → tie.Start
+abbrev start_of : tie.After-behind_minus-from → tie.Start
 start_of c = c.before.before.before
 
-abbrev sign_of : tie.After-run-from → tie.After-behind-minus
+abbrev sign_of : tie.After-run_from-row → tie.After-behind_minus-from
 sign_of c = c.before.before
 
 -- the digits begin in the token
-begins : (c : tie.After-behind-minus) → let a = (start_of c).args in Begins a.text.now a.start a.end c.behind-minus.result c.before.minus-at.result
-begins c = let s = start_of c in record { order = s.pre.0; within = s.pre.1; sign = c.before.minus-at.ensures; first = c.behind-minus.ensures }
+begins : (c : tie.After-behind_minus-from) → let a = (start_of c).args in Begins a.text.now a.start a.end c.behind_minus-from.result c.before.minus_at-negative.result
+begins c = let s = start_of c in record { order = s.requires.0; within = s.requires.1; sign = c.before.minus_at-negative.ensures; first = c.behind_minus-from.ensures }
 
 -- the sign and the first digits
-heads : (c : tie.After-run-from) → let f = sign_of c in let a = (start_of f).args in
-    HeadAt a.text.now a.start a.end f.before.minus-at.result c.run-from.result.value c.run-from.result.end
+heads : (c : tie.After-run_from-row) → let f = sign_of c in let a = (start_of f).args in
+    HeadAt a.text.now a.start a.end f.before.minus_at-negative.result c.run_from-row.result.value c.run_from-row.result.end
 heads c =
     let f = sign_of c in
     let a = (start_of f).args in
-    let e = f.behind-minus.ensures in
+    let e = f.behind_minus-from.ensures in
     record {
-      sign = f.before.minus-at.ensures;
-      room = subst (λ (n : ℕ). a.end ≤ n + 18) e (omega (arith, c.before.if1.false, (from_le (begins f)).1));
-      run = subst (λ (n : ℕ). RunAt a.text.now 0 n a.end c.run-from.result) e c.run-from.ensures;
+      sign = f.before.minus_at-negative.ensures;
+      room = subst (λ (n : ℕ). a.end ≤ n + 18) e (omega (arith, c.before.if-end-from-gt18.false, (from_le (begins f)).1));
+      run = subst (λ (n : ℕ). RunAt a.text.now 0 n a.end c.run_from-row.result) e c.run_from-row.ensures;
     }
 
-pub number-at-spec : {M : Type 1} → statement M
-number-at-spec =
+pub number_at_spec : {M : Type 1} → statement M
+number_at_spec =
     tie.close
     (tie.spec
     (λ c κs. search rules)
@@ -53,28 +53,28 @@ number-at-spec =
     let f = c.before in
     let s = start_of f in
     let within = (from_le (begins f)).1 in
-    (within, s.pre.1, omega (arith, c.if1.false, within), ten-pos (18 - (s.args.end - f.behind-minus.result))))
+    (within, s.pre.1, omega (arith, c.if-end-from-gt18.false, within), ten-pos (18 - (s.args.end - f.behind_minus-from.result))))
     (λ c κs. let r = c.before in ((start_of (sign_of r)).requires.1, heads r))
     (λ c. search rules)
-    (λ c κs. let r = c.before.before in run_small (begins (sign_of r)) r.run-from.ensures)
+    (λ c κs. let r = c.before.before in run_small (begins (sign_of r)) r.run_from-row.ensures)
     (λ c.
     let t = c.before in
     let r = t.before.before in
-    ap (λ (n : ℤ). got (int n)) (to_z-of_z w64 c.signed-i64.result (record { sfits = c.signed-i64.type-inv }) ∙ c.signed-i64.ensures)
-    ∙ short-int (begins (sign_of r)) r.run-from.ensures t.before.if2.false t.if3.true)
+    ap (λ (n : ℤ). got (int n)) (to_z-of_z w64 c.signed_i64.result (record { sfits = c.signed_i64.type_inv }) ∙ c.signed_i64.ensures)
+    ∙ short-int (begins (sign_of r)) r.run_from-row.ensures t.before.if-to-from.false t.if-to-end.true)
     (λ c. search rules)
     (λ c. search rules)
     (λ c κs. search rules)
     (λ c κs.
     let at_last = c.before.before.before in
     let r = at_last.before.before.before in
-    run_small (begins (sign_of r)) r.run-from.ensures)
+    run_small (begins (sign_of r)) r.run_from-row.ensures)
     (λ c.
     let x = c.before.before in
     let t = x.before.before in
     let e = t.before.before in
     let r = e.before in
-    c.suffixed-number.ensures
-    ∙ short-suffixed (begins (sign_of r)) r.run-from.ensures e.if2.false t.if4.true (sym x.is-suffix.ensures ∙ c.before.if5.true))
+    c.suffixed_number.ensures
+    ∙ short-suffixed (begins (sign_of r)) r.run_from-row.ensures e.if-to-from.false t.if-to-end-2.true (sym x.is_suffix.ensures ∙ c.before.if-is_suffix.true))
     (λ c κs. let r = c.before.before.before in ((start_of (sign_of r)).requires.1, heads r))
     (λ c. search rules))

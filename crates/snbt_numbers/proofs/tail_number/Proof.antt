@@ -19,11 +19,11 @@ bounds : (s : tie.Start) → let a = s.args in
 bounds s = let w = head-le s.requires.0 s.requires.1 in (w.0, w.1, s.requires.0, head-no-point s.requires.0 s.requires.1)
 
 -- a byte is left
-abbrev start_of : tie.After-shared-slice-known2 → tie.Start
+abbrev start_of : tie.After-shared_slice_known-2-1 → tie.Start
 start_of c = c.before.before.before
 
-pub tail-number-spec : {M : Type 1} → statement M
-tail-number-spec =
+pub tail_number_spec : {M : Type 1} → statement M
+tail_number_spec =
     tie.close
     (tie.spec
     (λ c κs. bounds c.before.before)
@@ -34,8 +34,8 @@ tail-number-spec =
     let t = c.before in
     let s = start_of t.before in
     let w = head-le s.pre.0 s.pre.1 in
-    c.fraction-number.ensures
+    c.fraction_number.ensures
     ∙ number-with s.args.start s.args.end s.args.start s.args.text.now (le_trans w.0 w.1) s.pre.0
-    (has-point s.pre.0 s.pre.1 t.before.before.if1.false t.if2.true))
+    (has-point s.pre.0 s.pre.1 t.before.before.if-end-at.false t.if-text-at-eq46.true))
     (λ c κs. bounds (start_of c.before))
     (λ c. search rules))

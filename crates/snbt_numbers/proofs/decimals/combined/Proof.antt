@@ -5,8 +5,8 @@ use mathlib.Core.Path.{refl, ◌∙◌}
 use Rattle.snbt_numbers.proofs.decimals.combined.Statement.{statement}
 use Rattle.snbt_numbers.proofs.decimals.combined.Tie as tie
 
-pub combined-spec : {M : Type 1} → statement M
-combined-spec =
+pub combined_spec : {M : Type 1} → statement M
+combined_spec =
     tie.close
     (tie.spec
     (λ c. search rules)
@@ -15,9 +15,9 @@ combined-spec =
     (λ c. search rules)
     (λ c κs. search rules)
     (λ c κs. search rules)
-    (λ c place. rw c.enum_told.given.1 refl)
-    (λ c place. let m = c.before.before.before in rw (m.m.given.1, c.enum-told2.given.1) refl)
+    (λ c place. rw c.in-Bad.is refl)
+    (λ c place. let m = c.before.before in rw (c.in-Value.is, c.in-Wrong.is) refl)
     (λ c place.
     let x = c.before.before.before in
-    let m = x.before.before.before in
-    rw (m.m.given.1, x.x.given.1) (c.Real-of.ensures place ∙ c.before.valued.ensures place)))
+    let m = x.before in
+    rw (c.in-Value.is, c.in-Power.is) (c.Real-of.ensures place ∙ c.valued.ensures place)))

@@ -10,19 +10,19 @@ use Rattle.snbt_numbers.proofs.Tokens.{unsigned-le, unsigned-part}
 use Rattle.snbt_numbers.proofs.decimals.decimal_at.Statement.{statement}
 use Rattle.snbt_numbers.proofs.decimals.decimal_at.Tie as tie
 
-pub decimal-at-spec : {M : Type 1} → statement M
-decimal-at-spec =
+pub decimal_at_spec : {M : Type 1} → statement M
+decimal_at_spec =
     tie.close
     (tie.spec
     (λ c κs. search rules)
     (λ c κs. search rules)
     (λ c κs.
     let s = c.before.before.before in
-    (unsigned-le s.args.at s.args.to c.behind-minus.result s.args.text.now s.requires.0 c.before.minus-at.ensures c.behind-minus.ensures, s.requires.1))
+    (unsigned-le s.args.at s.args.to c.behind_minus-from.result s.args.text.now s.requires.0 c.before.minus_at-negative.ensures c.behind_minus-from.ensures, s.requires.1))
     (λ c place.
     let f = c.before in
     let m = f.before in
     let s = m.before.before in
-    c.decimal-of.ensures place
-    ∙ ap₂ (λ (b : Bool) (l : List ℕ). decimal_of b l place) m.minus-at.ensures
-    (sym (unsigned-part s.args.at s.args.to f.behind-minus.result s.args.text.now s.requires.0 s.requires.1 m.minus-at.ensures f.behind-minus.ensures))))
+    c.decimal_of.ensures place
+    ∙ ap₂ (λ (b : Bool) (l : List ℕ). decimal_of b l place) m.minus_at-negative.ensures
+    (sym (unsigned-part s.args.at s.args.to f.behind_minus-from.result s.args.text.now s.requires.0 s.requires.1 m.minus_at-negative.ensures f.behind_minus-from.ensures))))

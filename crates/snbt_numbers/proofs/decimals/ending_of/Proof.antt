@@ -13,18 +13,18 @@ use Rattle.snbt_numbers.proofs.decimals.ending_of.Statement.{statement}
 use Rattle.snbt_numbers.proofs.decimals.ending_of.Tie as tie
 
 -- at a byte that is no letter
-by-digit : (c : tie.At-match-rest) {t : Bool} → is_digit c.before.args.b ≡ t → pick t Digit Other ≡ ending_of c.before.args.b
+by-digit : (c : tie.In_default) {t : Bool} → is_digit c.before.args.b ≡ t → pick t Digit Other ≡ ending_of c.before.args.b
 by-digit c e =
-    let r = c.match.rest in
+    let r = c.in_default.in_default-own.rest in
     let b = c.before.args.b in
     simp (ne_eqb b 102 (λ e. r.0.1 (inr e)), ne_eqb b 70 (λ e. r.0.1 (inl e)), ne_eqb b 100 (λ e. r.1 (inr e)), ne_eqb b 68 (λ e. r.1 (inl e)), e)
 
-pub ending-of-spec : {M : Type 1} → statement M
-ending-of-spec =
+pub ending_of_spec : {M : Type 1} → statement M
+ending_of_spec =
     tie.close
     (tie.spec
-    (λ c. by-digit c.before (below-digits _ c.if1.true))
-    (λ c. by-digit c.before.before (above-digits _ c.if2.true))
-    (λ c. ⊎_elim (λ e. ap ending_of (sym e)) (λ e. ap ending_of (sym e)) c.match.keys1)
-    (λ c. ⊎_elim (λ e. ap ending_of (sym e)) (λ e. ap ending_of (sym e)) c.match.keys2)
-    (λ c. by-digit c.before.before (is_digit_lem _ c.before.if1.false c.if2.false)))
+    (λ c. by-digit c.before (below-digits _ c.if-b-lt48.true))
+    (λ c. by-digit c.before.before (above-digits _ c.if-b-gt57.true))
+    (λ c. ⊎_elim (λ e. ap ending_of (sym e)) (λ e. ap ending_of (sym e)) c.in-102.is)
+    (λ c. ⊎_elim (λ e. ap ending_of (sym e)) (λ e. ap ending_of (sym e)) c.in-100.is)
+    (λ c. by-digit c.before.before (is_digit_lem _ c.before.if-b-lt48.false c.if-b-gt57.false)))

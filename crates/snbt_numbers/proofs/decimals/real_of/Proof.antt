@@ -5,11 +5,11 @@ use mathlib.Core.Path.{refl}
 use Rattle.snbt_numbers.proofs.decimals.real_of.Statement.{statement}
 use Rattle.snbt_numbers.proofs.decimals.real_of.Tie as tie
 
-pub real-of-spec : {M : Type 1} → statement M
-real-of-spec =
+pub real_of_spec : {M : Type 1} → statement M
+real_of_spec =
     tie.close
     (tie.spec
     (λ c. search rules)
     (λ c. search rules)
-    (λ c place. rw c.before.x.given.1 refl)
-    (λ c place. rw c.enum_told.given.1 refl))
+    (λ c place. rw c.in-Value.is refl)
+    (λ c place. rw c.in-Beyond.is refl))

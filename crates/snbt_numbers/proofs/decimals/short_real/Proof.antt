@@ -6,14 +6,13 @@ use Rattle.snbt_form.specs.Numbers.{real_number}
 use Rattle.snbt_numbers.proofs.decimals.short_real.Statement.{statement}
 use Rattle.snbt_numbers.proofs.decimals.short_real.Tie as tie
 
-pub short-real-spec : {M : Type 1} → statement M
-short-real-spec =
+pub short_real_spec : {M : Type 1} → statement M
+short_real_spec =
     tie.close
     (tie.spec
     (λ c κs. search rules)
     (λ c κs. search rules)
     (λ c κs. search rules)
     (λ c.
-    let r = c.before in
-    let a = r.before.before.args in
-    c.token-of.ensures ∙ ap (real_number a.single) (r.Real-of.ensures a.place ∙ r.before.scaled-or-beyond.ensures a.place)))
+    let a = c.args in
+    c.token_of.ensures ∙ ap (real_number a.single) (c.Real-of.ensures a.place ∙ c.scaled_or_beyond-x.ensures a.place)))

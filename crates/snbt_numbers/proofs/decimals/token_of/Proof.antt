@@ -5,14 +5,14 @@ use mathlib.Core.Path.{refl}
 use Rattle.snbt_numbers.proofs.decimals.token_of.Statement.{statement}
 use Rattle.snbt_numbers.proofs.decimals.token_of.Tie as tie
 
-pub token-of-spec : {M : Type 1} → statement M
-token-of-spec =
+pub token_of_spec : {M : Type 1} → statement M
+token_of_spec =
     tie.close
     (tie.spec
     (λ c. search rules)
-    (λ c. rw (c.if1.true, c.before.before.x.given.1) refl)
+    (λ c. rw (c.if-single.true, c.before.in-Is.is) refl)
     (λ c. search rules)
     (λ c. search rules)
-    (λ c. rw (c.if1.false, c.before.before.x.given.1) refl)
-    (λ c. rw c.enum_told.given.1 refl)
-    (λ c. rw c.enum-told2.given.1 refl))
+    (λ c. rw (c.if-single.false, c.before.in-Is.is) refl)
+    (λ c. rw c.in-Bad.is refl)
+    (λ c. rw c.in-Beyond.is refl))

@@ -11,22 +11,22 @@ use Rattle.snbt_numbers.specs.declared.decimals.Exponent.{Exponent}
 use Rattle.snbt_numbers.proofs.decimals.value_of.Statement.{statement}
 use Rattle.snbt_numbers.proofs.decimals.value_of.Tie as tie
 
-pub value-of-spec : {M : Type 1} → statement M
-value-of-spec =
+pub value_of_spec : {M : Type 1} → statement M
+value_of_spec =
     tie.close
     (tie.spec
     (λ c. search rules)
     (λ c. search rules)
     (λ c. search rules)
     (λ c. search rules)
-    (λ c. unfold value_in in λ place. simp (eq-eqb _ _ c.if1.true))
+    (λ c. unfold value_in in λ place. simp (eq-eqb _ _ c.if-point-from-eq0.true))
     (λ c κs. search rules)
     (λ c κs. search rules)
-    (λ c κs. let e = c.before.before in let s = e.before.before in omega (arith, s.well-formed.0.1, s.requires))
+    (λ c κs. let e = c.before.before in let s = e.before.before in omega (arith, s.well_formed.0.1, s.requires))
     (λ c. unfold value_in in λ place.
     let x = c.before in
     let e = x.before.before in
     let a = e.before.before.args in
-    simp (ne_eqb _ _ e.if1.false)
+    simp (ne_eqb _ _ e.if-point-from-eq0.false)
     (c.combined.ensures place
-    ∙ ap₂ (λ (m : Digits) (x : Exponent). combine a.negative (a.ex - (a.point + 1)) m x place) x.before.mantissa.ensures x.exponent-from.ensures)))
+    ∙ ap₂ (λ (m : Digits) (x : Exponent). combine a.negative (a.ex - (a.point + 1)) m x place) x.before.mantissa-m.ensures x.exponent_from-x.ensures)))

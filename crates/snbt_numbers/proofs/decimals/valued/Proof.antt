@@ -6,29 +6,29 @@ use Rattle.snbt_numbers.proofs.Powers.{down-sum, up_rest, down-rest, far-down}
 use Rattle.snbt_numbers.proofs.decimals.valued.Statement.{statement}
 use Rattle.snbt_numbers.proofs.decimals.valued.Tie as tie
 
-pub valued-spec : {M : Type 1} → statement M
-valued-spec =
+pub valued_spec : {M : Type 1} → statement M
+valued_spec =
     tie.close
     (tie.spec
     (λ c κs. search rules)
     (λ c place.
     let t = c.before in
     let a = t.before.before.args in
-    rw t.before.if1.true (c.scaled-or-beyond.ensures place ∙ far-down a.negative a.w a.e a.behind place t.if2.true))
+    rw t.before.if-down.true (c.scaled_or_beyond.ensures place ∙ far-down a.negative a.w a.e a.behind place t.if-e-gt22.true))
     (λ c. search rules)
     (λ c κs. search rules)
     (λ c place.
     let t = c.before in
     let a = t.before.before.args in
-    rw (t.before.if1.true, ← down-sum a.e a.behind) (c.scaled-or-beyond2.ensures place))
+    rw (t.before.if-down.true, ← down-sum a.e a.behind) (c.scaled_or_beyond-then-down.ensures place))
     (λ c κs. search rules)
     (λ c place.
     let t = c.before in
     let a = t.before.before.args in
-    rw (t.before.if1.false, ← up_rest a.e a.behind t.if3.true) (c.scaled-or-beyond3.ensures place))
+    rw (t.before.if-down.false, ← up_rest a.e a.behind t.if-behind-e.true) (c.scaled_or_beyond-then-behind-e.ensures place))
     (λ c. search rules)
     (λ c κs. search rules)
     (λ c place.
     let t = c.before in
     let a = t.before.before.args in
-    rw (t.before.if1.false, ← down-rest a.e a.behind t.if3.false) (c.scaled-or-beyond4.ensures place)))
+    rw (t.before.if-down.false, ← down-rest a.e a.behind t.if-behind-e.false) (c.scaled_or_beyond-2.ensures place)))

@@ -4,5 +4,5 @@ use borrow.Author.Rules.{rules}
 use Rattle.snbt_numbers.proofs.digits.behind_minus.Statement.{statement}
 use Rattle.snbt_numbers.proofs.digits.behind_minus.Tie as tie
 
-pub behind-minus-spec : {M : Type 1} → statement M
-behind-minus-spec = tie.close (tie.spec (λ c. search rules) (λ c. simp c.if1.true) (λ c. search rules))
+pub behind_minus_spec : {M : Type 1} → statement M
+behind_minus_spec = tie.close (tie.spec (λ c. search rules) (λ c. simp c.if-minus.true) (λ c. search rules))

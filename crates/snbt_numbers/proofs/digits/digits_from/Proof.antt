@@ -15,51 +15,51 @@ use Rattle.snbt_numbers.proofs.Rows.{is_digit_lem, below-digits, above-digits, d
 use Rattle.snbt_numbers.proofs.digits.digits_from.Statement.{statement}
 use Rattle.snbt_numbers.proofs.digits.digits_from.Tie as tie
 
-abbrev Inv : tie.invariant-loop
+abbrev Inv : tie.invariant-loop-i
 Inv text first at to n₀ i₀ n i = (i ≤ to) × (n ≤ cap) × (digits_of n (slice i to text) ≡ digits_of first (slice at to text))
 
-abbrev μ : tie.decreases-loop
+abbrev μ : tie.decreases-loop-i
 μ text first at to n₀ i₀ n i = to - i
 
 -- the beginning, and the turn
-abbrev start_of : tie.At-loop Inv μ → tie.Start Inv μ
+abbrev start_of : tie.At-loop-i Inv μ → tie.Start Inv μ
 start_of c = c.before.before
 
-abbrev turn-of : tie.Else2 Inv μ → tie.In-loop Inv μ
+abbrev turn-of : tie.Else-b-gt57 Inv μ → tie.In-loop-i Inv μ
 turn-of c = c.before.before.before
 
 -- the bytes from i on, by the first of them, are what was asked for
-byte-first : (c : tie.In-loop Inv μ) → let a = (start_of c.before).args in let l = c.before.loop in
+byte-first : (c : tie.In-loop-i Inv μ) → let a = (start_of c.before).args in let l = c.before.loop-i in
     digits_of l.n (get_or a.text.now l.i 0 ∷ slice (l.i + 1) a.to a.text.now) ≡ digits_of a.first (slice a.at a.to a.text.now)
 byte-first c =
     let s = start_of c.before in
-    let l = c.before.loop in
-    ap (digits_of l.n) (sym (slice_first l.i s.args.to s.args.text.now c.loop-test.true s.pre.2)) ∙ l.invariant.2
+    let l = c.before.loop-i in
+    ap (digits_of l.n) (sym (slice_first l.i s.args.to s.args.text.now c.loop-i-test.true s.requires.2)) ∙ l.invariant.2
 
 -- a byte that is no digit
-broken : (c : tie.In-loop Inv μ) → let a = (start_of c.before).args in is_digit (get_or a.text.now c.before.loop.i 0) ≡ false
+broken : (c : tie.In-loop-i Inv μ) → let a = (start_of c.before).args in is_digit (get_or a.text.now c.before.loop-i.i 0) ≡ false
     → Bad ≡ digits_of a.first (slice a.at a.to a.text.now)
-broken c e = digits-broken c.before.loop.n _ _ e ∙ byte-first c
+broken c e = digits-broken c.before.loop-i.n _ _ e ∙ byte-first c
 
-pub digits-from-spec : {M : Type 1} → statement M
-digits-from-spec =
+pub digits_from_spec : {M : Type 1} → statement M
+digits_from_spec =
     tie.close
     (tie.spec
     Inv
     μ
     (λ c. (omega arith, omega arith, refl))
     (λ c. omega arith)
-    (λ c. broken c.before.before (below-digits _ c.if1.true))
-    (λ c. broken c.before.before.before (above-digits _ c.if2.true))
+    (λ c. broken c.before.before (below-digits _ c.if-b-lt48.true))
+    (λ c. broken c.before.before.before (above-digits _ c.if-b-gt57.true))
     (λ c κs. (omega arith, omega arith))
     (λ c. omega arith)
     (λ c. omega arith)
     (λ c.
     let e = c.before in
     let turn = turn-of e in
-    let b = get_or (start_of turn.before).args.text.now turn.before.loop.i 0 in
-    (omega arith, omega arith, digits_more turn.before.loop.n c.next.result b _ (is_digit_lem b e.before.if1.false e.if2.false) c.next.ensures ∙ byte-first turn))
+    let b = get_or (start_of turn.before).args.text.now turn.before.loop-i.i 0 in
+    (omega arith, omega arith, digits_more turn.before.loop-i.n c.next-n.result b _ (is_digit_lem b e.before.if-b-lt48.false e.if-b-gt57.false) c.next-n.ensures ∙ byte-first turn))
     (λ c.
-    let l = c.before.loop in
+    let l = c.before.loop-i in
     let a = (start_of c.before).args in
-    digits-end l.n l.invariant.1 ∙ ap (digits_of l.n) (sym (slice-none l.i a.to a.text.now c.loop-test.false)) ∙ l.invariant.2))
+    digits-end l.n l.invariant.1 ∙ ap (digits_of l.n) (sym (slice-none l.i a.to a.text.now c.loop-i-test.false)) ∙ l.invariant.2))

@@ -8,11 +8,11 @@ use Rattle.form.specs.Answer.{pick}
 use Rattle.snbt_numbers.proofs.wholes.stem_end.Statement.{statement}
 use Rattle.snbt_numbers.proofs.wholes.stem_end.Tie as tie
 
-pub stem-end-spec : {M : Type 1} → statement M
-stem-end-spec =
+pub stem_end_spec : {M : Type 1} → statement M
+stem_end_spec =
     tie.close
     (tie.spec
     (λ c κs. search rules)
     (λ c. search rules)
-    (λ c. let e = c.before.before.args.end in ap (λ (b : Bool). pick b (e - 1) e) (sym c.if1.true ∙ c.before.is-suffix.ensures))
-    (λ c. let e = c.before.before.args.end in ap (λ (b : Bool). pick b (e - 1) e) (sym c.if1.false ∙ c.before.is-suffix.ensures)))
+    (λ c. let e = c.before.before.args.end in ap (λ (b : Bool). pick b (e - 1) e) (sym c.if-is_suffix.true ∙ c.before.is_suffix.ensures))
+    (λ c. let e = c.before.before.args.end in ap (λ (b : Bool). pick b (e - 1) e) (sym c.if-is_suffix.false ∙ c.before.is_suffix.ensures)))

@@ -28,8 +28,8 @@ back r z f e = to_z-of_z w64 r f ∙ e
 abbrev whole_of : tie.Start → ℤ
 whole_of s = signed s.args.negative s.args.m
 
-pub suffixed-number-spec : {M : Type 1} → statement M
-suffixed-number-spec =
+pub suffixed_number_spec : {M : Type 1} → statement M
+suffixed_number_spec =
     tie.close
     (tie.spec
     (λ c κs. search rules)
@@ -41,29 +41,29 @@ suffixed-number-spec =
     (λ c.
     let s = c.before.before in
     let z = whole_of s in
-    ap (λ (n : ℤ). got (byte n)) (back c.signed-i64.result z (record { sfits = c.signed-i64.type-inv }) c.signed-i64.ensures)
-    ∙ by-letter (byte z) s.args.b 66 98 z refl refl c.before.match.keys1)
+    ap (λ (n : ℤ). got (byte n)) (back c.signed_i64.result z (record { sfits = c.signed_i64.type_inv }) c.signed_i64.ensures)
+    ∙ by-letter (byte z) s.args.b 66 98 z refl refl c.before.in-98.is)
     (λ c.
     let s = c.before.before in
     let z = whole_of s in
-    ap (λ (n : ℤ). got (short n)) (back c.signed-i642.result z (record { sfits = c.signed-i642.type-inv }) c.signed-i642.ensures)
-    ∙ by-letter (short z) s.args.b 83 115 z refl refl c.before.match.keys2)
+    ap (λ (n : ℤ). got (short n)) (back c.signed_i64-in-115.result z (record { sfits = c.signed_i64-in-115.type_inv }) c.signed_i64-in-115.ensures)
+    ∙ by-letter (short z) s.args.b 83 115 z refl refl c.before.in-115.is)
     (λ c.
     let s = c.before.before in
     let z = whole_of s in
-    ap (λ (n : ℤ). got (long n)) (back c.signed-i643.result z (record { sfits = c.signed-i643.type-inv }) c.signed-i643.ensures)
-    ∙ by-letter (long z) s.args.b 76 108 z refl refl c.before.match.keys3)
+    ap (λ (n : ℤ). got (long n)) (back c.signed_i64-in-108.result z (record { sfits = c.signed_i64-in-108.type_inv }) c.signed_i64-in-108.ensures)
+    ∙ by-letter (long z) s.args.b 76 108 z refl refl c.before.in-108.is)
     (λ c.
     let s = c.before.before in
     let z = whole_of s in
-    ap (λ (x : Float). got (float x)) c.nearest-double.ensures ∙ by-letter (float (of_int binary64 z)) s.args.b 70 102 z refl refl c.before.match.keys4)
+    ap (λ (x : Float). got (float x)) c.nearest_double.ensures ∙ by-letter (float (of_int binary64 z)) s.args.b 70 102 z refl refl c.before.in-102.is)
     (λ c.
     let s = c.before.before in
     let z = whole_of s in
-    ap (λ (x : Float). got (double x)) c.nearest-double2.ensures ∙ by-letter (double (of_int binary64 z)) s.args.b 68 100 z refl refl c.before.match.keys5)
+    ap (λ (x : Float). got (double x)) c.nearest_double-in-100.ensures ∙ by-letter (double (of_int binary64 z)) s.args.b 68 100 z refl refl c.before.in-100.is)
     (λ c.
-    let r = c.before.match.rest in
+    let r = c.before.in_default.in_default-own.rest in
     let s = c.before.before in
     let z = whole_of s in
-    ap (λ (n : ℤ). got (int n)) (back c.signed-i644.result z (record { sfits = c.signed-i644.type-inv }) c.signed-i644.ensures)
+    ap (λ (n : ℤ). got (int n)) (back c.signed_i64-in_default.result z (record { sfits = c.signed_i64-in_default.type_inv }) c.signed_i64-in_default.ensures)
     ∙ ap got (sym (plain s.args.b z (no-suffix s.args.b r.0.0.0.0.1 r.0.0.0.1 r.0.0.1 r.0.1 r.1)))))
