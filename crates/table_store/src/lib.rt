@@ -1,5 +1,7 @@
 // Request [6]: a table stored as lines of lowercase hexadecimal, one record a line, and read back. A line has 73 bytes: nine words ([7]) of
 // eight digits, and a line feed. After good lines the next begins at a known place, so none is searched for.
+#![tactic(auto)]
+
 ghost use Rattle.std.specs.Prelude.{◌≡◌, true, ◌+◌, ◌*◌, ◌≤◌, ◌<◌, length, drop};
 ghost use Rattle.form.specs.Spans.{part, over};
 ghost use Rattle.form.specs.Stored.{hex_digit, hex_digits, line_of, lines_of, lines_in, digit_of, all_digits, hex_value, words_of, WriteLinesIs, ReadLinesIs};

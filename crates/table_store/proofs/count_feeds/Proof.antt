@@ -1,13 +1,13 @@
 -- `table_store::count_feeds` meets its contract: those counted and those still to come are all.
 -- Assumes nothing.
 use Prim.Native.Nat.{◌+◌, ◌-◌, ◌≤◌}
-use mathlib.Core.Logic.{⊎_elim}
 use mathlib.Core.Path.{◌≡◌}
 use native.Mathlib.Omega.{arith}
 use lib.ListN.{length, drop}
 use Rattle.table_store.specs.Steps.{feeds}
 use Rattle.table_store.proofs.Reading.{feeds-fed, feeds-plain, feeds-end, feeds-few}
 use Rattle.table_store.proofs.count_feeds.Statement.{statement}
+use Rattle.table_store.proofs.count_feeds.Lts.{then-lines-i-eq10, else-lines-i-eq10}
 use Rattle.table_store.proofs.count_feeds.Tie as tie
 
 abbrev invariant-loop : tie.invariant-loop-i
@@ -30,10 +30,10 @@ loop-again c =
     let h = at_test.loop-i-test.true in
     let l = at_test.before.loop-i in
     let s = at_test.before.before.args.lines.now in (
-      ⊎_elim
-          (λ fed. omega (arith, l.invariant.0, fed.1, feeds-fed s l.i h fed.0.taken))
-          (λ plain. omega (arith, l.invariant.0, plain.1, feeds-plain s l.i h plain.0.left))
-          c.if-lines-i-eq10.branch,
+      elim c.if-lines-i-eq10.branch [
+        | then-lines-i-eq10 w ↦ omega (arith, l.invariant.0, w.n-is, feeds-fed s l.i h w.if-lines-i-eq10.true)
+        | else-lines-i-eq10 w ↦ omega (arith, l.invariant.0, w.n-is, feeds-plain s l.i h w.if-lines-i-eq10.false)
+      ],
       omega (arith, h),
     )
 

@@ -2,7 +2,6 @@
 -- Assumes nothing.
 use borrow.Author.Rules.{rules}
 use Prim.Native.Nat.{◌+◌, ◌-◌, ◌≤◌, ◌<◌}
-use mathlib.Core.Logic.{⊎_elim}
 use mathlib.Core.Path.{◌≡◌, ap, ◌∙◌}
 use native.Mathlib.Omega.{arith}
 use native.Mathlib.Nat.{le_antisymm}
@@ -12,6 +11,7 @@ use Rattle.form.specs.Spans.{part}
 use Rattle.form.specs.Stored.{all_digits}
 use Rattle.table_store.proofs.Reading.{no-digits, larger, not-larger}
 use Rattle.table_store.proofs.digits_at.Statement.{statement}
+use Rattle.table_store.proofs.digits_at.Lts.{then-largest-value, else-largest-value}
 use Rattle.table_store.proofs.digits_at.Tie as tie
 
 abbrev Inv : tie.invariant-loop-k
@@ -32,10 +32,12 @@ loop-again c =
     let start = start_of at_test.before in
     let s = start.args.lines.now in
     let there : start.args.at + l.k < length s = omega (arith, start.requires, at_test.loop-k-test.true) in (
-      ⊎_elim
-          (λ above. ap (λ x. ltb x 16) above.1 ∙ larger s start.args.at l.k there _ at_value.digit_of-value.ensures l.largest l.invariant.0 above.0.taken)
-          (λ below. ap (λ x. ltb x 16) below.1 ∙ not-larger s start.args.at l.k there _ at_value.digit_of-value.ensures l.largest l.invariant.0 below.0.left)
-          c.if-largest-value.branch,
+      elim c.if-largest-value.branch [
+        | then-largest-value w ↦
+            ap (λ x. ltb x 16) w.largest-is ∙ larger s start.args.at l.k there _ at_value.digit_of-value.ensures l.largest l.invariant.0 w.if-largest-value.true
+        | else-largest-value w ↦
+            ap (λ x. ltb x 16) w.largest-is ∙ not-larger s start.args.at l.k there _ at_value.digit_of-value.ensures l.largest l.invariant.0 w.if-largest-value.false
+      ],
       omega (arith, at_test.loop-k-test.true),
     )
 

@@ -28,7 +28,7 @@ loop-again c =
     let a = c.args in (
       c.put_word.ensures
           ∙ word-behind a.table.now (9 * a.n) l.k a.out.now (73 * a.n) l.out l.invariant.0 (omega arith) (omega arith),
-      c.put_word.auto.0 ∙ l.invariant.1,
+      c.put_word.auto.out ∙ l.invariant.1,
       omega arith,
     )
 

@@ -27,7 +27,7 @@ loop-again c =
     let l = c.loop-i in
     let a = c.args in (
       c.put_line.ensures ∙ line-behind 9 a.table.now l.i a.out.now l.out l.invariant.0 (omega arith) (omega arith),
-      c.put_line.auto.1.1.0 ∙ l.invariant.1,
+      c.put_line.auto.out ∙ l.invariant.1,
       omega arith,
     )
 

@@ -26,7 +26,7 @@ returns c =
     let at_take = take-of at_count in
     let taken = told _ _ _ c.in-Done.is at_take.take_lines.ensures in
     subst (ReadLinesIs _ _ _) (sym c.clear.ensures)
-    (too_many_lem _ _ at_take.take_lines.new.1.0 (omega (arith, c.if-count-gt-RECORDS.true, taken-many _ _ _ _ taken)) at_take.take_lines.kept.1.0)
+    (too_many_lem _ _ at_take.take_lines.new.table (omega (arith, c.if-count-gt-RECORDS.true, taken-many _ _ _ _ taken)) at_take.take_lines.auto.table)
 
 returns-2 : tie.Need-returns-then-count_lines-gt-RECORDS
 returns-2 c =
@@ -34,7 +34,7 @@ returns-2 c =
     let at-number = number_of at_clear in
     let at_take = take-of at-number.before in
     subst (ReadLinesIs _ _ _) (sym at_clear.clear-in-Refused.ensures)
-    (too_many_lem _ _ at_take.take_lines.new.1.0 (omega (arith, c.if-count_lines-gt-RECORDS.true, c.count_lines.ensures)) at_take.take_lines.kept.1.0)
+    (too_many_lem _ _ at_take.take_lines.new.table (omega (arith, c.if-count_lines-gt-RECORDS.true, c.count_lines.ensures)) at_take.take_lines.auto.table)
 
 returns-3 : tie.Need-returns-else-count-gt-RECORDS
 returns-3 c =

@@ -77,10 +77,10 @@ take_line_spec =
     (λ c. omega (arith, c.loop-k-test.true))
     (λ c. let start = start_of c.before in omega (arith, start.requires.0, start.well_formed.0.1, c.loop-k-test.true))
     word_at-requires
-    (λ c. let start = start_of c.before.before in omega (arith, start.requires.1, start.good.1.1.0.1))
-    (λ c. let start = start_of c.before.before in omega (arith, start.pre.1, start.good.1.1.0.1, c.before.loop-k-test.true))
-    (λ c. let start = start_of c.before.before in omega (arith, start.pre.1, start.good.1.1.0.1, c.before.loop-k-test.true))
-    (λ c. let start = start_of c.before.before in omega (arith, start.pre.1, c.before.before.loop-k.invariant.0, c.before.loop-k-test.true))
+    (λ c. let start = start_of c.before.before in omega (arith, start.requires.1, start.well_formed.1.1.0.1))
+    (λ c. let start = start_of c.before.before in omega (arith, start.requires.1, start.well_formed.1.1.0.1, c.before.loop-k-test.true))
+    (λ c. let start = start_of c.before.before in omega (arith, start.requires.1, start.well_formed.1.1.0.1, c.before.loop-k-test.true))
+    (λ c. let start = start_of c.before.before in omega (arith, start.requires.1, c.before.before.loop-k.invariant.0, c.before.loop-k-test.true))
     (λ c. omega (arith, c.before.loop-k-test.true))
     (λ c. omega (arith, c.before.loop-k-test.true))
     loop-again

@@ -1,6 +1,5 @@
 -- `table_store::take_lines` meets its contract: after n lines their words stand in the table, and the answer is what the others add.
 -- Assumes nothing.
-use borrow.Author.Tests.{not-true, not-false}
 use Prim.Native.Nat.{◌+◌, ◌-◌, ◌*◌, ◌^◌, ◌<◌}
 use native.Mathlib.Omega.{arith}
 use mathlib.Core.Bool.{Bool, true, false}
@@ -92,7 +91,7 @@ take_lines_spec =
     μ
     (λ c. sofar-start _ _)
     (λ c. omega (arith, c.loop-n.invariant.begun, (start_of c).well_formed.0.1))
-    (λ c. omega (arith, c.before.loop-n.invariant.begun, (start_of c.before).good.0.1))
+    (λ c. omega (arith, c.before.loop-n.invariant.begun, (start_of c.before).well_formed.0.1))
     (λ c κs. (c.loop-n-test.true, omega arith))
     (λ c. omega (arith, few (loop-of c.before)))
     (λ c. same (loop-of c.before))
