@@ -1,5 +1,7 @@
 // The keys of the compound that is open, for refusal 6 of the text parser (rule 15): their places in the output, in two runs, each sorted
 // by the bytes of the names. A key is looked up by halving; a new one is put into the second run, of fewer than 512 keys, at its index.
+#![tactic(auto)]
+
 ghost use Rattle.std.specs.Prelude.{◌≡◌, ◌∷◌, ◌++◌, false, ◌+◌, ◌-◌, ◌≤◌, ◌<◌, min, length, take, drop};
 ghost use Rattle.form.specs.Spans.{part};
 ghost use Rattle.snbt_form.specs.Text.{known};

@@ -7,13 +7,6 @@ use Rattle.snbt_keys.proofs.Merges.{full-whole, full-merged}
 use Rattle.snbt_keys.proofs.add.Statement.{statement}
 use Rattle.snbt_keys.proofs.add.Tie as tie
 
--- what is asked, and the place put in
-abbrev start_of : tie.After-put_in-arg-1 → tie.Start
-start_of c = c.before.before.before
-
-abbrev put_of : tie.After-joint-mid → tie.After-put_in
-put_of c = c.before.before.before
-
 pub add_spec : {M : Type 1} → statement M
 add_spec =
     tie.close
@@ -21,24 +14,16 @@ add_spec =
     (λ c κs. search rules)
     (λ c κs. search rules)
     (λ c. search rules)
-    (λ c κs.
-    let j = c.before.before in
-    let p = put_of j in
-    (full-whole (start_of p.before).requires _ p.put_in.ensures j.joint-mid.ensures c.before.if-top-mid-eq511.true, omega arith))
+    (λ c κs. (full-whole c.requires _ c.put_in.ensures c.joint-mid.ensures c.if-top-mid-eq511.true, omega arith))
     (λ c. search rules)
-    (λ c.
-    let m = c.before.before in
-    let test = m.before.before in
-    let j = test.before in
-    let p = put_of j in (
-      full-merged (start_of p.before).requires _ p.put_in.ensures j.joint-mid.ensures test.if-top-mid-eq511.true _ _ m.merge.ensures m.merge.auto.1.0,
-      λ h. absurd (h (omega (arith, test.if-top-mid-eq511.true, j.joint-mid.ensures))),
+    (λ c. (
+      full-merged c.requires _ c.put_in.ensures c.joint-mid.ensures c.if-top-mid-eq511.true _ _ c.merge.ensures c.merge.auto.keys,
+      λ h. absurd (h (omega (arith, c.if-top-mid-eq511.true, c.joint-mid.ensures))),
     ))
     (λ c. search rules)
     (λ c.
-    let j = c.before in
-    let p = put_of j in
-    let s = start_of p.before in
-    let k = s.pre.kept in
-    let near = joint-near s.args.base s.args.top (omega (arith, k.first.low, k.second.low)) in
-    (added-stays s.pre _ p.put_in.ensures (omega (arith, k.first.low, k.second.low, j.joint-mid.ensures, c.if-top-mid-eq511.false, near)), λ h. p.put_in.ensures)))
+    let k = c.requires.kept in
+    let near = joint-near c.args.base c.args.top (omega (arith, k.first.low, k.second.low)) in (
+      added-stays c.requires _ c.put_in.ensures (omega (arith, k.first.low, k.second.low, c.joint-mid.ensures, c.if-top-mid-eq511.false, near)),
+      λ h. c.put_in.ensures,
+    )))

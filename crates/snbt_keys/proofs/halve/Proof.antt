@@ -15,49 +15,31 @@ invariant-loop out keys base top key size low₀ high₀ low high = Sides out ke
 abbrev decreases-loop : tie.decreases-loop-low
 decreases-loop out keys base top key size low₀ high₀ low high = high - low
 
--- the beginning, and the turn
-abbrev start_of : tie.After-shared_slice_known-3-1 invariant-loop decreases-loop → tie.Start invariant-loop decreases-loop
-start_of c = c.before.before.before
-
-abbrev loop-of : tie.After-wide invariant-loop decreases-loop → tie.At-loop-low invariant-loop decreases-loop
-loop-of c = c.before.before.before
-
 pub halve_spec : {M : Type 1} → statement M
 halve_spec =
     tie.close
     (tie.spec
     invariant-loop
     decreases-loop
-    (λ c. sides-start (start_of c).requires.0 _)
+    (λ c. sides-start c.requires.0 _)
     (λ c. omega arith)
     (λ c. omega arith)
     (λ c. search rules)
     (λ c. omega arith)
     (λ c κs. search rules)
-    (λ c κs.
-    let l = loop-of c in
-    let s = start_of l.before in
-    (rw c.wide.ensures (s.requires.0.ends (l.loop-low.low + (l.loop-low.high - l.loop-low.low) / 2) (omega arith) (omega arith)), s.requires.1))
+    (λ c κs. (
+      rw c.wide.ensures (c.requires.0.ends (c.loop-low.low + (c.loop-low.high - c.loop-low.low) / 2) (omega arith) (omega arith)),
+      c.requires.1,
+    ))
     (λ c. search rules)
     (λ c. omega arith)
     (λ c. omega arith)
-    (λ c.
-    let n = c.before.before in
-    let w = n.before in
-    let l = loop-of w in
-    sides-up (start_of l.before).pre.0 _ l.loop-low.inv (omega arith) (omega arith) (rw (c.in-Less.is, w.wide.ensures) at n.order_name.ensures))
+    (λ c. sides-up c.requires.0 _ c.loop-low.invariant (omega arith) (omega arith) (rw (c.in-Less.is, c.wide.ensures) at c.order_name.ensures))
     (λ c. search rules)
     (λ c. omega arith)
-    (λ c.
-    let n = c.before.before in
-    let w = n.before in
-    let l = loop-of w in
-    sides-down (start_of l.before).pre.0 _ l.loop-low.inv (omega arith) (omega arith) (rw (c.in-More.is, w.wide.ensures) at n.order_name.ensures))
+    (λ c. sides-down c.requires.0 _ c.loop-low.invariant (omega arith) (omega arith) (rw (c.in-More.is, c.wide.ensures) at c.order_name.ensures))
     (λ c. search rules)
     (λ c.
-    let n = c.before.before in
-    let w = n.before in
-    let l = loop-of w in
-    sides-taken (start_of l.before).pre.0 _ {m = l.loop-low.low + (l.loop-low.high - l.loop-low.low) / 2} l.loop-low.inv (omega arith) (omega arith)
-    (rw (c.in-Same.is, w.wide.ensures) at n.order_name.ensures))
-    (λ c. let l = c.before in sides-free (start_of l.before).pre.0 _ l.loop-low.invariant c.loop-low-test.false))
+    sides-taken c.requires.0 _ {m = c.loop-low.low + (c.loop-low.high - c.loop-low.low) / 2} c.loop-low.invariant (omega arith) (omega arith)
+    (rw (c.in-Same.is, c.wide.ensures) at c.order_name.ensures))
+    (λ c. sides-free c.requires.0 _ c.loop-low.invariant c.loop-low-test.false))
