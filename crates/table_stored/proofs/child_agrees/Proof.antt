@@ -10,55 +10,55 @@ use Rattle.table_stored.proofs.child_agrees.Statement.{statement}
 use Rattle.table_stored.proofs.child_agrees.Tie as tie
 
 -- Where the child's end is known to be good, from where its parent is.
-abbrev end_of : tie.Else3 → tie.Else2
+abbrev end_of : tie.Else-not-parent_agrees → tie.Else-end-next
 end_of c = c.before.before
 
 -- Where the function starts, from there.
-abbrev start_of : tie.Else2 → tie.Start
+abbrev start_of : tie.Else-end-next → tie.Start
 start_of c = let at_next = c.before.before in at_next.before.before
 
-returns : tie.Need-returns
-returns c = says-no (λ is. omega (arith, c.before.word.ensures, is.on, c.if1.true))
+returns : tie.Need-returns-then-next-j
+returns c = says-no (λ is. omega (arith, c.before.word-next.ensures, is.on, c.if-next-j.true))
 
-returns-2 : tie.Need-returns-2
-returns-2 c = says-no (λ is. omega (arith, c.before.before.word.ensures, is.within, c.if2.true))
+returns-2 : tie.Need-returns-then-end-next
+returns-2 c = says-no (λ is. omega (arith, c.before.before.word-next.ensures, is.within, c.if-end-next.true))
 
-returns-3 : tie.Need-returns-3
-returns-3 c = says-no (λ is. c.before.parent-agrees.ensures.no (not-true _ c.if3.true) is.parent)
+returns-3 : tie.Need-returns-then-not-parent_agrees
+returns-3 c = says-no (λ is. c.before.parent_agrees.ensures.no (c.if-not-parent_agrees.true) is.parent)
 
-returns-4 : tie.Need-returns-4
+returns-4 : tie.Need-returns-then-not-list
 returns-4 c =
     let at-parent = c.before in
     let at-end = end_of at-parent in
-    let e = at-end.before.before.word.ensures in
+    let e = at-end.before.before.word-next.ensures in
     says-yes (record {
-      on = omega (arith, e, at-end.before.if1.left);
-      within = omega (arith, e, at-end.if2.left);
-      nameless = λ p. absurd (apart _ p (not-true _ c.if4.true));
-      parent = at-parent.before.parent-agrees.ensures.yes (not-false _ at-parent.if3.false);
+      on = omega (arith, e, at-end.before.if-next-j.false);
+      within = omega (arith, e, at-end.if-end-next.false);
+      nameless = λ p. absurd (apart _ p (c.if-not-list.true));
+      parent = at-parent.before.parent_agrees.ensures.yes (at-parent.if-not-parent_agrees.false);
     })
 
-returns-5 : tie.Need-returns-5
-returns-5 c = says-no (λ is. c.if5.true (c.before.word2.ensures ∙ (is.nameless (not-false _ c.before.before.if4.false)).0))
+returns-5 : tie.Need-returns-then-word-ne0
+returns-5 c = says-no (λ is. c.if-word-ne0.true (c.before.word.ensures ∙ (is.nameless (c.before.before.if-not-list.false)).0))
 
-returns-6 : tie.Need-returns-6
+returns-6 : tie.Need-returns
 returns-6 c =
     let at_name = c.before in
     let at-list = at_name.before.before in
     let at-parent = at-list.before in
     let at-end = end_of at-parent in
-    let e = at-end.before.before.word.ensures in
+    let e = at-end.before.before.word-next.ensures in
     says-eqb _ _
     (λ p. record {
-      on = omega (arith, e, at-end.before.if1.left);
-      within = omega (arith, e, at-end.if2.left);
-      nameless = λ _. (sym at_name.before.word2.ensures ∙ at_name.if5.false, sym c.word3.ensures ∙ p);
-      parent = at-parent.before.parent-agrees.ensures.yes (not-false _ at-parent.if3.false);
+      on = omega (arith, e, at-end.before.if-next-j.false);
+      within = omega (arith, e, at-end.if-end-next.false);
+      nameless = λ _. (sym at_name.before.word.ensures ∙ at_name.if-word-ne0.false, sym c.word-2.ensures ∙ p);
+      parent = at-parent.before.parent_agrees.ensures.yes (at-parent.if-not-parent_agrees.false);
     })
-    (λ is. c.word3.ensures ∙ (is.nameless (not-false _ at-list.if4.false)).1)
+    (λ is. c.word-2.ensures ∙ (is.nameless (at-list.if-not-list.false)).1)
 
-pub child-agrees-spec : {M : Type 1} → statement M
-child-agrees-spec =
+pub child_agrees_spec : {M : Type 1} → statement M
+child_agrees_spec =
     tie.close
     (tie.spec
     (λ c κs. word-there _ _ _ 7 c.before.requires (omega arith))

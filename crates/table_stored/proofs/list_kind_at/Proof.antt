@@ -11,48 +11,48 @@ use Rattle.table_stored.proofs.list_kind_at.Statement.{statement}
 use Rattle.table_stored.proofs.list_kind_at.Tie as tie
 
 -- Where the function starts, from where the record is known to be a list.
-abbrev start_of : tie.Else1 → tie.Start
+abbrev start_of : tie.Else-word-ne-LIST → tie.Start
 start_of c = c.before.before.before
 
 -- Where it is known to be one, from where it has elements.
-abbrev list_of : tie.Else2 → tie.Else1
+abbrev list_of : tie.Else-word-eq0 → tie.Else-word-ne-LIST
 list_of c = c.before.before
 
-returns : tie.Need-returns
-returns c = kind-other _ _ (λ e. c.if1.true (c.before.word.ensures ∙ e))
+returns : tie.Need-returns-then-word-ne-LIST
+returns c = kind-other _ _ (λ e. c.if-word-ne-LIST.true (c.before.word.ensures ∙ e))
 
-returns-2 : tie.Need-returns-2
+returns-2 : tie.Need-returns-then-word-eq0
 returns-2 c =
     let at-list = c.before.before in
-    kind-empty _ _ (sym at-list.before.word.ensures ∙ at-list.if1.false) (sym c.before.word2.ensures ∙ c.if2.true)
+    kind-empty _ _ (sym at-list.before.word.ensures ∙ at-list.if-word-ne-LIST.false) (sym c.before.word-2.ensures ∙ c.if-word-eq0.true)
 
-returns-3 : tie.Need-returns-3
+returns-3 : tie.Need-returns-then-n-i
 returns-3 c =
     let at_some = c.before in
     let at-list = list_of at_some in
     let start = start_of at-list in
     let a = start.args in
-    let last : a.n ≡ a.i + 1 = omega (arith, start.pre.0, c.if3.true) in
-    kind-past _ _ (sym at-list.before.word.ensures ∙ at-list.if1.left) (λ e. at_some.if2.false (at_some.before.word2.ensures ∙ e))
-    (subst (λ (x : ℕ). line_word (edition_of a.nine) a.lines.now x 0 ≡ 0) last (word-past _ _ _ start.pre.1))
+    let last : a.n ≡ a.i + 1 = omega (arith, start.requires.0, c.if-n-i.true) in
+    kind-past _ _ (sym at-list.before.word.ensures ∙ at-list.if-word-ne-LIST.false) (λ e. at_some.if-word-eq0.false (at_some.before.word-2.ensures ∙ e))
+    (subst (λ (x : ℕ). line_word (edition_of a.nine) a.lines.now x 0 ≡ 0) last (word-past _ _ _ start.requires.1))
 
-returns-4 : tie.Need-returns-4
+returns-4 : tie.Need-returns
 returns-4 c =
     let at_some = c.before.before in
     let at-list = list_of at_some in
-    c.word3.ensures
-    ∙ kind-first _ _ (sym at-list.before.word.ensures ∙ at-list.if1.left) (λ e. at_some.if2.false (at_some.before.word2.ensures ∙ e))
+    c.word-3.ensures
+    ∙ kind-first _ _ (sym at-list.before.word.ensures ∙ at-list.if-word-ne-LIST.false) (λ e. at_some.if-word-eq0.false (at_some.before.word-2.ensures ∙ e))
 
-pub list-kind-at-spec : {M : Type 1} → statement M
-list-kind-at-spec =
+pub list_kind_at_spec : {M : Type 1} → statement M
+list_kind_at_spec =
     tie.close
     (tie.spec
     (λ c κs. let start = c.before in lined-word _ _ _ _ 0 start.requires.1 start.requires.0 (omega arith))
     returns
-    (λ c κs. let start = start_of c in lined-word _ _ _ _ 5 start.pre.1 start.pre.0 (omega arith))
+    (λ c κs. let start = start_of c in lined-word _ _ _ _ 5 start.requires.1 start.requires.0 (omega arith))
     returns-2
     (λ c. search rules)
     returns-3
     (λ c. search rules)
-    (λ c κs. let start = start_of (list_of c.before) in lined-word _ _ _ _ 0 start.pre.1 c.if3.false (omega arith))
+    (λ c κs. let start = start_of (list_of c.before) in lined-word _ _ _ _ 0 start.requires.1 c.if-n-i.false (omega arith))
     returns-4)

@@ -7,17 +7,17 @@ use Rattle.table_stored.proofs.Words.{parent-there}
 use Rattle.table_stored.proofs.parent_agrees.Statement.{statement}
 use Rattle.table_stored.proofs.parent_agrees.Tie as tie
 
-returns : tie.Need-returns
-returns c = says-yes (λ p. absurd (apart _ p (not-true _ c.if1.true)))
+returns : tie.Need-returns-then-not-nine
+returns c = says-yes (λ p. absurd (apart _ p (c.if-not-nine.true)))
 
 word-requires : tie.Need-word-requires
 word-requires c κs =
     let start = c.before.before in
-    parent-there start.args.nine _ _ start.requires (not-false _ c.if1.false)
+    parent-there start.args.nine _ _ start.requires (c.if-not-nine.false)
 
-returns-2 : tie.Need-returns-2
+returns-2 : tie.Need-returns
 returns-2 c =
-    says-eqb _ _ (λ p _. sym c.word.ensures ∙ p) (λ is. c.word.ensures ∙ is (not-false _ c.before.if1.false))
+    says-eqb _ _ (λ p _. sym c.word.ensures ∙ p) (λ is. c.word.ensures ∙ is (c.before.if-not-nine.false))
 
-pub parent-agrees-spec : {M : Type 1} → statement M
-parent-agrees-spec = tie.close (tie.spec returns word-requires returns-2)
+pub parent_agrees_spec : {M : Type 1} → statement M
+parent_agrees_spec = tie.close (tie.spec returns word-requires returns-2)

@@ -10,35 +10,35 @@ use Rattle.table_stored.specs.Words.{edition_of, line_word}
 use Rattle.table_stored.proofs.records_agree.Statement.{statement}
 use Rattle.table_stored.proofs.records_agree.Tie as tie
 
-abbrev invariant-loop : tie.invariant-loop
+abbrev invariant-loop : tie.invariant-loop-i
 invariant-loop doc-len lines nine n i₀ i = (i ≤ n) × ((k : ℕ) → k < i → RowIs doc-len (line_word (edition_of nine) lines) nine n k)
 
-abbrev decreases-loop : tie.decreases-loop
+abbrev decreases-loop : tie.decreases-loop-i
 decreases-loop doc-len lines nine n i₀ i = n - i
 
-returns : tie.Need-returns invariant-loop decreases-loop
+returns : tie.Need-returns-then-not-record_agrees invariant-loop decreases-loop
 returns c =
     let at-record = c.before in
     let at_test = at-record.before in
-    says-no (λ is. at-record.record-agrees.ensures.no (not-true _ c.if1.true) (is at_test.before.loop.i at_test.loop-test.true))
+    says-no (λ is. at-record.record_agrees.ensures.no (c.if-not-record_agrees.true) (is at_test.before.loop-i.i at_test.loop-i-test.true))
 
-loop-again : tie.Need-loop-preserved invariant-loop decreases-loop
+loop-again : tie.Need-loop-i-preserved invariant-loop decreases-loop
 loop-again c =
     let at-record = c.before in
     let at_test = at-record.before in
-    let v = at_test.before.loop.invariant in
-    (omega (arith, at_test.loop-test.true), below_more _ _ v.1 (at-record.record-agrees.ensures.yes (not-false _ c.if1.false)))
+    let v = at_test.before.loop-i.invariant in
+    (omega (arith, at_test.loop-i-test.true), below_more _ _ v.1 (at-record.record_agrees.ensures.yes (c.if-not-record_agrees.false)))
 
-pub records-agree-spec : {M : Type 1} → statement M
-records-agree-spec =
+pub records_agree_spec : {M : Type 1} → statement M
+records_agree_spec =
     tie.close
     (tie.spec
     invariant-loop
     decreases-loop
     (λ c. (omega arith, λ k h. absurd (omega arith)))
-    (λ c κs. (c.loop-test.true, c.before.before.before.requires))
+    (λ c κs. (c.loop-i-test.true, c.before.before.before.requires))
     returns
     (λ c. omega arith)
     (λ c. omega arith)
     loop-again
-    (λ c. says-yes (λ i h. c.before.loop.invariant.1 i (omega arith))))
+    (λ c. says-yes (λ i h. c.before.loop-i.invariant.1 i (omega arith))))
