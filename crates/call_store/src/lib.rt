@@ -1,4 +1,6 @@
 // Stored lines under the promises of their C names: each fills eight words that the caller lends (include/tikfazrul.h).
+#![tactic(auto)]
+
 ghost use Rattle.calls.specs.Calls.{WriteLinesCalled, ReadLinesCalled};
 
 use table_store::Answer;

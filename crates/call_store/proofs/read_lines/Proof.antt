@@ -6,21 +6,21 @@ use Rattle.call_store.proofs.read_lines.Statement.{statement}
 use Rattle.call_store.proofs.read_lines.Tie as tie
 
 -- The place that both ways to an answer go by.
-abbrev call-of : tie.After-slice-known2 → tie.After-read-lines
+abbrev call-of : tie.After-slice_known-2-1 → tie.After-read_lines
 call-of c = c.before.before
 
-returns : tie.Need-returns
+returns : tie.Need-returns-in-Done
 returns c =
     let at-answer = c.before.before in
-    lines-read _ _ _ (call-of at-answer.before.before).read_lines.ensures at-answer.records.given.1
+    lines-read _ _ _ (call-of at-answer).read_lines.ensures c.in-Done.is
 
-returns-2 : tie.Need-returns-2
+returns-2 : tie.Need-returns-in-Refused
 returns-2 c =
     let at-answer = c.before.before in
-    lines-unread _ _ _ (call-of at-answer.before.before).read_lines.ensures at-answer.refusal.given.1
+    lines-unread _ _ _ (call-of at-answer).read_lines.ensures c.in-Refused.is
 
-pub read-lines-spec : {M : Type 1} → statement M
-read-lines-spec =
+pub read_lines_spec : {M : Type 1} → statement M
+read_lines_spec =
     tie.close
     (tie.spec
     (λ c κs. search rules)

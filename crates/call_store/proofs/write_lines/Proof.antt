@@ -6,21 +6,21 @@ use Rattle.call_store.proofs.write_lines.Statement.{statement}
 use Rattle.call_store.proofs.write_lines.Tie as tie
 
 -- The place that both ways to an answer go by.
-abbrev call-of : tie.After-slice-known2 → tie.After-write-lines
+abbrev call-of : tie.After-slice_known-2-1 → tie.After-write_lines
 call-of c = c.before.before
 
-returns : tie.Need-returns
+returns : tie.Need-returns-in-Done
 returns c =
     let at-answer = c.before.before in
-    lines-written _ _ _ _ (call-of at-answer.before.before).write_lines.ensures at-answer.bytes.given.1
+    lines-written _ _ _ _ (call-of at-answer).write_lines.ensures c.in-Done.is
 
-returns-2 : tie.Need-returns-2
+returns-2 : tie.Need-returns-in-Refused
 returns-2 c =
     let at-answer = c.before.before in
-    lines-unwritten _ _ _ _ (call-of at-answer.before.before).write_lines.ensures at-answer.refusal.given.1
+    lines-unwritten _ _ _ _ (call-of at-answer).write_lines.ensures c.in-Refused.is
 
-pub write-lines-spec : {M : Type 1} → statement M
-write-lines-spec =
+pub write_lines_spec : {M : Type 1} → statement M
+write_lines_spec =
     tie.close
     (tie.spec
     (λ c κs. search rules)
