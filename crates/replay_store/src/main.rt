@@ -4,6 +4,8 @@
 // the room of the output in bytes, decimal. For each case it prints the answer and then, after a reading, every word of the table, which
 // was filled with AAAAAAAA before, or that each is 0; after a writing the whole output, which was filled with AA before. The answers in
 // stdout are of a second reading of the paper: tests/replay/store.py made them.
+#![tactic(auto)]
+
 use lines::Line;
 use table_store::Answer;
 
