@@ -1,6 +1,8 @@
 // Modified UTF-8 (rule 2) and UTF-8: whether a slice is well formed, and where it is not.
 // Text is passed in blocks of 64 bytes without a branch for each byte; what no block takes is read value by value. Plain bytes are all from 1
 // to 127 here, so `plain` is given 0, which is none of them.
+#![tactic(auto)]
+
 pub mod blocks;
 
 ghost use Rattle.std.specs.Prelude.{◌≡◌, ◌≤◌, ◌<◌, length, drop};

@@ -12,12 +12,9 @@ use Rattle.mutf8.proofs.Codings.{width}
 use Rattle.mutf8.proofs.front_at.Statement.{statement}
 use Rattle.mutf8.proofs.front_at.Tie as tie
 
--- the test of the form, where it is not the pocket edition's
-abbrev test_of : tie.After-scalar_at → tie.After-is_pocket
-test_of c = c.before.before
-
-other : (c : tie.After-scalar_at) → eqb (test_of c).before.before.args.form 2 ≡ false
-other c = sym (test_of c).is_pocket.ensures ∙ c.before.if-is_pocket.false
+-- the form is not the pocket edition's
+other : (c : tie.After-scalar_at) → eqb c.args.form 2 ≡ false
+other c = sym c.is_pocket.ensures ∙ c.if-is_pocket.false
 
 pub front_at_spec : {M : Type 1} → statement M
 front_at_spec =
@@ -30,6 +27,6 @@ front_at_spec =
     (λ c. search rules)
     (λ c κs. search rules)
     (λ c. search rules)
-    (λ c. let v = c.before.before in let r = v.before.before in let e = told _ c.scalar_at.ensures c.in-Is.is in
+    (λ c. let r = c.before.before in let e = told _ c.scalar_at.ensures c.in-Is.is in
     rw (other r, e) (ap (is c.in-Is.c) (c.length_of.ensures ∙ sym (width modified _ _ _ e))))
-    (λ c. let r = c.before.before in rw (other r) (sym (told _ c.scalar_at.ensures c.in-Stuck.is))))
+    (λ c. rw (other c.before) (sym (told _ c.scalar_at.ensures c.in-Stuck.is))))

@@ -17,5 +17,5 @@ is_well_formed_spec =
     (λ c κs. search rules)
     (λ c. search rules)
     (λ c. search rules)
-    (λ c. let at-check = c.before.before in judged-by (rule-of at-check) _ at-check.check.result _ c.in-Good.is at-check.check.ensures)
-    (λ c. let at-check = c.before.before in judged-by (rule-of at-check) _ at-check.check.result _ c.in-Bad.is at-check.check.ensures))
+    (λ c. let at-check = c.before in judged-by (rule-of at-check) _ at-check.check.result _ c.in-Good.is at-check.check.ensures)
+    (λ c. let at-check = c.before in judged-by (rule-of at-check) _ at-check.check.result _ c.in-Bad.is at-check.check.ensures))

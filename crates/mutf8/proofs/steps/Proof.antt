@@ -33,7 +33,7 @@ value_of c = turn-of (call-of c).before.before.before
 -- the value takes a byte at least, and no more than there are
 reached : (c : tie.In-Is Inv μ) → let l = value_of c in let n = c.in-Is.n in
     (0 < n) × (l.loop-i.i + n ≤ length l.before.before.args.s.now)
-reached c = let a = (value_of c).before.before.args in reach (form_no a.form).strings a.s.now _ _ _ _ c.in-Is.is (call-of c).Front-at.ensures
+reached c = let a = (value_of c).before.before.args in reach (form_no a.form).strings a.s.now _ _ _ _ c.in-Is.is (call-of c).front_at.ensures
 
 pub steps_spec : {M : Type 1} → statement M
 steps_spec =
@@ -41,23 +41,23 @@ steps_spec =
     (tie.spec
     Inv
     μ
-    (λ c. (omega arith, c.before.requires.0, none))
+    (λ c. (omega arith, c.requires.0, none))
     (λ c. omega arith)
     (λ c κs. search rules)
     (λ c. omega arith)
     (λ c. omega arith)
-    (λ c. let l = turn-of c.before.before in let a = l.before.before.args in
-    (omega arith, omega arith, walked-plain (form_no a.form).strings _ _ _ (omega arith) (zero_is _ _ _ _ c.before.unplain.ensures c.if-unplain-eq0.true) l.loop-i.inv.2))
+    (λ c. let l = turn-of c.before.before in let a = l.args in
+    (omega arith, omega arith, walked-plain (form_no a.form).strings _ _ _ (omega arith) (zero_is _ _ _ _ c.unplain.ensures c.if-unplain-eq0.true) l.loop-i.invariant.2))
     (λ c κs. search rules)
     (λ c. search rules)
-    (λ c. omega (arith, reached c.before))
-    (λ c. omega (arith, reached c.before))
-    (λ c. let l = value_of c.before in let a = l.before.before.args in let r = reached c.before in (
-      omega (arith, l.loop-i.inv.0, r.0),
+    (λ c. omega (arith, reached c))
+    (λ c. omega (arith, reached c))
+    (λ c. let l = value_of c in let a = l.args in let r = reached c in (
+      omega (arith, l.loop-i.invariant.0, r.0),
       r.1,
-      walked_more (form_no a.form).strings a.s.now _ _ _ _ _ c.before.in-Is.is (call-of c.before).Front-at.ensures l.loop-i.inv.2,
+      walked_more (form_no a.form).strings a.s.now _ _ _ _ _ c.in-Is.is (call-of c).front_at.ensures l.loop-i.invariant.2,
     ))
     (λ c. search rules)
-    (λ c. let r = c.before.before in let v = (turn-of r.before.before.before).loop-i.inv in
-    record { on = v.0; within = v.1; walked = v.2; halted = λ _. told _ r.Front-at.ensures c.in-Stuck.is })
-    (λ c. let v = c.before.loop-i.invariant in record { on = v.0; within = v.1; walked = v.2; halted = λ h. absurd (omega arith) }))
+    (λ c. let r = c.before.before in let v = (turn-of r.before.before).loop-i.invariant in
+    record { on = v.0; within = v.1; walked = v.2; halted = λ _. told _ c.front_at.ensures c.in-Stuck.is })
+    (λ c. let v = c.loop-i.invariant in record { on = v.0; within = v.1; walked = v.2; halted = λ h. absurd (omega arith) }))

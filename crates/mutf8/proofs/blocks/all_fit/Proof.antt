@@ -44,7 +44,7 @@ all_fit_spec =
     (λ c. let turn = turn-of c.before in let l = turn.loop-k in let at = turn.before.before.args.at in (
       omega arith,
       λ h. let e : at + (l.k + 1) ≡ at + l.k + 1 = omega arith in let z = raised-over l.top c.before.odd.result c.raise-top.result c.raise-top.ensures in
-          rw e (fitting-more _ _ _ (l.inv.1 (omega (arith, h, z))) (c.before.odd.ensures (omega (arith, h, z)))),
+          rw e (fitting-more _ _ _ (l.invariant.1 (omega (arith, h, z))) (c.before.odd.ensures (omega (arith, h, z)))),
     ))
     (λ c. λ _. let l = c.before.before.loop-k in let e : l.k ≡ 64 = omega arith in rw e at (l.invariant.1 c.if-top-eq0.true))
     (λ c. λ e. differ (sym e)))

@@ -33,12 +33,12 @@ blocks_spec =
     (λ c. omega arith)
     (λ c κs. (omega arith, omega arith))
     (λ c κs. (omega (arith, c.whole-next.ensures), omega (arith, c.whole-next.ensures)))
-    (λ c κs. ((turn-of c.before.before).loop-left.inv.1.behind, omega arith))
+    (λ c κs. ((turn-of c.before.before).loop-left.invariant.1.behind, omega arith))
     (λ c. omega arith)
     (λ c. omega arith)
-    (λ c. let e = edge_of c.before in let v = (turn-of e.before).loop-left.inv in let w = e.before.whole-next.ensures in
+    (λ c. let e = edge_of c.before in let v = (turn-of e.before).loop-left.invariant in let w = e.before.whole-next.ensures in
     let g = e.is_edge.ensures c.before.before.if-is_edge.true in
     (omega (arith, w), g, passed-join _ _ _ _ v.2 (fitting-passed _ _ _ _ (omega (arith, w)) w.0 (omega arith) (c.before.all_fit.ensures c.if-all_fit.true) v.1 g)))
-    (λ c. (turn-of (edge_of c.before).before).loop-left.inv.2)
-    (λ c. (turn-of c.before.before).loop-left.inv.2)
+    (λ c. (turn-of (edge_of c.before).before).loop-left.invariant.2)
+    (λ c. (turn-of c.before.before).loop-left.invariant.2)
     (λ c. c.before.loop-left.invariant.2))
