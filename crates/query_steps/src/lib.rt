@@ -15,7 +15,7 @@ const DEEP: u8 = 4;
 
 // A step: its kind, and of a name its span in the query's bytes, of an index its number in `at`. Words of four bytes keep the query small,
 // which is passed by value.
-#[derive(Drop)]
+#[derive(Clone, Copy)]
 pub struct Step {
     pub kind: u8,
     pub at: u32,
