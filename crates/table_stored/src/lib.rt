@@ -1,6 +1,8 @@
 // Request [8]: rule 7 asked of stored lines, whose words are read where they stand, since no table is lent. The functions are those of `table`
 // with a line's digits in the place of a table's words; they cite the same laws. `nine` says which edition the lines are of: records of nine
 // words, the last of which names the parent ([7]), or of eight (01).
+#![tactic(auto)]
+
 ghost use Rattle.std.specs.Prelude.{◌≡◌, true, ℕ, ◌+◌, ◌≤◌, ◌<◌};
 ghost use Rattle.form.specs.Table.{holds};
 ghost use Rattle.form.specs.Moved.{words_in};

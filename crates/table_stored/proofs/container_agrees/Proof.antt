@@ -8,10 +8,7 @@ use Rattle.table_stored.proofs.Words.{lined-word}
 use Rattle.table_stored.proofs.container_agrees.Statement.{statement}
 use Rattle.table_stored.proofs.container_agrees.Tie as tie
 
--- Backwards from the hops: where the record's end is known to be good, then its list kind, then its length, and where the function starts.
-abbrev end_of : tie.After-hop_through → tie.Else-n-end
-end_of c = c.before.before.before
-
+-- Backwards from where the record's end is known to be good: where its list kind is, then its length, and where the function starts.
 abbrev listed_of : tie.Else-n-end → tie.Else-word-list_kind_at
 listed_of c = c.before.before.before
 
@@ -46,27 +43,20 @@ hop_through-requires c κs =
 
 returns-6 : tie.Need-returns-in-All
 returns-6 c =
-    let at-hops = c.before.before.before in
-    let at-end = end_of at-hops in
-    let at_Listed = listed_of at-end in
-    let at_long = long_of at_Listed in
-    let at-payload = at_long.before.before in
-    let h = at-hops.hop_through in
-    let e = at-end.before.before.word-end.ensures in
-    container-all _ _ _ _ _ _ at-hops.before.word-4.ensures e h.result h.ensures
-    (start_of at_long).requires.2
-    (sym at-payload.before.word.ensures ∙ at-payload.if-word-ne0.left)
-    (sym at_long.before.word-2.ensures ∙ at_long.if-word-ne0-2.left)
-    (sym at_Listed.before.before.word-3.ensures ∙ at_Listed.if-word-list_kind_at.left ∙ at_Listed.before.list_kind_at.ensures)
-    (omega (arith, e, at-end.if-n-end.left))
-    _ c.before.in-All.is _ at-hops.before.before.word-count.ensures
+    let h = c.hop_through in
+    let e = c.word-end.ensures in
+    container-all _ _ _ _ _ _ c.word-4.ensures e h.result h.ensures
+    c.requires.2
+    (sym c.word.ensures ∙ c.if-word-ne0.false)
+    (sym c.word-2.ensures ∙ c.if-word-ne0-2.false)
+    (sym c.word-3.ensures ∙ c.if-word-list_kind_at.false ∙ c.list_kind_at.ensures)
+    (omega (arith, e, c.if-n-end.false))
+    _ c.in-All.is _ c.word-count.ensures
 
 returns-7 : tie.Need-returns-in-Broken
 returns-7 c =
-    let at-hops = c.before.before in
     let h = c.hop_through in
-    let e = (end_of at-hops).before.before.word-end.ensures in
-    container-broken _ _ _ _ _ _ c.word-4.ensures e h.result h.ensures c.in-Broken.is
+    container-broken _ _ _ _ _ _ c.word-4.ensures c.word-end.ensures h.result h.ensures c.in-Broken.is
 
 pub container_agrees_spec : {M : Type 1} → statement M
 container_agrees_spec =

@@ -1,6 +1,5 @@
 -- `table_stored::hop_through` meets its contract: each hop goes from a child to the next, and none is passed twice.
 -- Assumes nothing.
-use borrow.Author.Tests.{not-true, not-false}
 use Prim.Native.Nat.{◌-◌}
 use native.Mathlib.Omega.{arith}
 use Rattle.table.proofs.Children.{Hopped, hop-none, hop-more, hop-done, hop-broken}

@@ -1,7 +1,6 @@
 -- `table_stored::is_table` meets its contract: the first record holds the others, and each of them agrees.
 -- Assumes nothing.
 use borrow.Author.Rules.{rules}
-use borrow.Author.Tests.{not-true, not-false}
 use mathlib.Core.Path.{sym, ◌∙◌}
 use native.Mathlib.Omega.{arith}
 use Rattle.table.proofs.Tests.{says-no, says-as}

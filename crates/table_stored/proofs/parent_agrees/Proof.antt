@@ -1,6 +1,5 @@
 -- `table_stored::parent_agrees` meets its contract: the parent's word is asked for where there is one.
 -- Assumes nothing.
-use borrow.Author.Tests.{not-true, not-false}
 use mathlib.Core.Path.{sym, ◌∙◌}
 use Rattle.table.proofs.Tests.{apart, says-yes, says-eqb}
 use Rattle.table_stored.proofs.Words.{parent-there}

@@ -1,7 +1,6 @@
 -- `table_stored::record_agrees` meets its contract: a record's kind says which of the two sorts it is.
 -- Assumes nothing.
 use borrow.Author.Rules.{rules}
-use borrow.Author.Tests.{not-true, not-false}
 use Prim.Native.Nat.{ℕ, ◌+◌, ◌≤◌}
 use mathlib.Core.Path.{◌≡◌, sym, ap, ◌∙◌}
 use native.Mathlib.Omega.{arith}
@@ -68,9 +67,9 @@ record_agrees_spec =
     (λ c κs. let start = c.before.before in lined-word _ _ _ _ 2 start.requires.1 start.requires.0 (omega arith))
     (λ c κs. search rules)
     returns
-    (λ c κs. let start = start_of c.before in lined-word _ _ _ _ 0 start.pre.1 start.pre.0 (omega arith))
+    (λ c κs. let start = start_of c.before in lined-word _ _ _ _ 0 start.requires.1 start.requires.0 (omega arith))
     (λ c κs. search rules)
     container_agrees-requires
     returns-2
-    (λ c κs. let start = start_of (name_of c.before) in start.pre.1.line _ start.pre.0)
+    (λ c κs. let start = start_of (name_of c.before) in start.requires.1.line _ start.requires.0)
     returns-3)

@@ -1,7 +1,6 @@
 -- `table_stored::records_agree` meets its contract: the records before the one at hand agree.
 -- Assumes nothing.
 use borrow.Author.Count.{below_more}
-use borrow.Author.Tests.{not-true, not-false}
 use Prim.Native.Nat.{ℕ, ◌-◌, ◌≤◌, ◌<◌}
 use native.Mathlib.Omega.{arith}
 use Rattle.form.specs.Rows.{RowIs}
