@@ -80,11 +80,11 @@ module _ (doc t : List ℕ) (first stop : ℕ) (o : Holds (length doc) t first s
       → siblings t stop fuel i ≡ numbers i rest
   unfolding numbers
   siblings-are {i = i} none fuel a l = siblings-none t stop fuel i (ahead_none a)
-  siblings-are {i = i} (node h inner later) fuel a l =
+  siblings-are {done = done} {i = i} (node h inner later) fuel a l =
       let b = ahead-below a in
       siblings-on t stop fuel i (omega (arith, b, l)) b
       ∙ ap (λ k. i ∷ siblings t stop (fuel - 1) k) (ahead-end a)
-      ∙ ap (λ r. i ∷ r) (siblings-are later (fuel - 1) (ahead-next a) (omega (arith, b, l)))
+      ∙ ap (λ r. i ∷ r) (siblings-are {done = done ⊕ node h inner none} later (fuel - 1) (ahead-next a) (omega (arith, b, l)))
 
   all : siblings t stop stop first ≡ numbers first o.acc
   all = siblings-are o.acc stop (ahead-all o) (omega arith)
@@ -93,9 +93,9 @@ module _ (doc t : List ℕ) (first stop : ℕ) (o : Holds (length doc) t first s
       → (z : ℕ) → Mem z (numbers i rest) → Known doc t stop z
   unfolding numbers NamesIn Free
   each none a n r z m = absurd (mem-none z m)
-  each {i = i} (node h inner later) a n r z m =
+  each {done = done} {i = i} (node h inner later) a n r z m =
       mem-cases (Known doc t stop z) z i (numbers (i + 1 + size inner) later) (λ q. subst (λ k. Known doc t stop k) (sym q) (known a n.0 r.0))
-      (each later (ahead-next a) n.1 r.1 z) m
+      (each {done = done ⊕ node h inner none} later (ahead-next a) n.1 r.1 z) m
 
   -- the requires of `first_repeat`
   pub family-of : Free o.acc → stop < 4294967296 → 9 * stop ≤ length t → Family doc t first stop
@@ -115,7 +115,7 @@ module _ (doc t : List ℕ) (first stop : ℕ) (o : Holds (length doc) t first s
   answers none seen a has = refl
   answers {done = done} {i = i} (node h inner later) seen a has =
       go (has_name doc (part doc h.name h.name_length) done) refl
-      (answers later (i ∷ seen) (ahead-next a)
+      (answers {done = done ⊕ node h inner none} later (i ∷ seen) (ahead-next a)
       (λ n. ap (λ b. same b n || among (name_of doc t) n seen) (name-is a)
       ∙ ap (λ b. same (part doc h.name h.name_length) n || b) (has n)
       ∙ or_comm (same (part doc h.name h.name_length) n) (has_name doc n done)
@@ -138,7 +138,7 @@ module _ (doc t : List ℕ) (first stop : ℕ) (o : Holds (length doc) t first s
   once : {done : Forest} {i : ℕ} (rest : Forest) → Ahead (length doc) t first stop o done rest i → names_once doc done rest ≡ refusal_of t (repeat_in doc i done rest)
   unfolding names_once repeat_in
   once none a = refl
-  once {done = done} {i = i} (node h inner later) a = go (has_name doc (part doc h.name h.name_length) done) refl (once later (ahead-next a))
+  once {done = done} {i = i} (node h inner later) a = go (has_name doc (part doc h.name h.name_length) done) refl (once {done = done ⊕ node h inner none} later (ahead-next a))
     where
       go : (b : Bool) → has_name doc (part doc h.name h.name_length) done ≡ b
           → names_once doc (done ⊕ node h inner none) later ≡ refusal_of t (repeat_in doc (i + 1 + size inner) (done ⊕ node h inner none) later)

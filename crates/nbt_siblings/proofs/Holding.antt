@@ -105,8 +105,8 @@ module _ (doc t : List ℕ) (n to : ℕ) (o : Holds (length doc) t n to) (name :
       → among doc t fuel i to name ≡ has_name doc name rest
   unfolding has_name
   search-from {i = i} none fuel a l = among_none doc t i to name fuel (ahead_none a)
-  search-from {i = i} (node h inner later) fuel a l =
-      go (same (part doc h.name h.name_length) name) refl (search-from later (fuel - 1) (ahead-next a) (omega (arith, l, ahead-below a)))
+  search-from {done = done} {i = i} (node h inner later) fuel a l =
+      go (same (part doc h.name h.name_length) name) refl (search-from {done = done ⊕ node h inner none} later (fuel - 1) (ahead-next a) (omega (arith, l, ahead-below a)))
     where
       here : same (part doc (word t i 1) (word t i 2)) name ≡ same (part doc h.name h.name_length) name
       here = ap (λ s. same s name) (ahead-name a doc)

@@ -2,6 +2,8 @@
 // rise from each record to the next do not repeat (`sorting`); else each record goes to a cell that its name gives (`cells`, `marks`); and where
 // cells do not do, the records are sorted as a list (`sorting`). Cells and lists live in the records' free words, which are 0 before and after
 // (`links`). How two names are compared stands in `names`.
+#![tactic(auto)]
+
 mod cells;
 mod classes;
 mod links;

@@ -16,77 +16,47 @@ Inv doc table₀ first stop last class spare₀ i₀ table spare i = Filled doc 
 abbrev μ : tie.decreases-loop-i
 μ doc table₀ first stop last class spare₀ i₀ table spare i = stop - i
 
-abbrev start_of : tie.At-loop-i Inv μ → tie.Start Inv μ
-start_of c = c.before.before.before
-
-abbrev turn-of : tie.After-place Inv μ → tie.In-loop-i Inv μ
-turn-of c = c.before.before
-
-abbrev on_of : tie.In-On Inv μ → tie.After-place Inv μ
-on_of c = let known = c.before.before in known.before
-
-abbrev used-of : tie.After-word-i Inv μ → tie.In-On Inv μ
-used-of c = let told = c.before.before.before in told.before
-
 -- with the record at hand placed, those before the next stand in cells
 next : (c : tie.In-On Inv μ) →
-    let place = on_of c in
-    let loop = (turn-of place).before in
-    let a = (start_of loop).args in
-    Filled a.doc.now a.table.now a.first a.stop a.last a.class place.place.new.1.0 (end_of a.table.now loop.loop-i.i)
+    Filled c.args.doc.now c.args.table.now c.args.first c.args.stop c.args.last c.args.class c.place.new.table (end_of c.args.table.now c.loop-i.i)
 next c =
-    let known = c.before.before in
-    let place = known.before.before in
-    let turn = turn-of place in
-    let start = start_of turn.before in
-    filled_next start.pre.0 turn.before.loop-i.inv turn.loop-i-test.taken (λ j. omega (arith, turn.before.before.before.shared_slice_known-1.given j)) _
-    c.in-On.used (rw c.in-On.is at place.place.ensures)
+    filled_next c.requires.0 c.loop-i.invariant c.loop-i-test.true (λ j. omega (arith, c.shared_slice_known-1.given j)) _
+    c.in-On.used (rw c.in-On.is at c.place.ensures)
 
 place-requires : tie.Need-place-requires Inv μ
 place-requires c κs =
-    let turn = c.before in
-    let r = (start_of turn.before).requires.0 in
-    let i = turn.before.loop-i.invariant in
-    (filled-fit r i turn.loop-i-test.true, filled-cells r i, r.wide, r.small)
+    let r = c.requires.0 in
+    let i = c.loop-i.invariant in
+    (filled-fit r i c.loop-i-test.true, filled-cells r i, r.wide, r.small)
 
 returns-2 : tie.Need-returns-in-Twin Inv μ
 returns-2 c =
-    let known = c.before.before in
-    let place = known.before.before in
-    let turn = turn-of place in
-    let i = turn.before.loop-i.inv in
-    let h = rw c.in-Twin.is at place.place.ensures in
-    (frame_same i.frame h.0, (filled-twin (start_of turn.before).pre.0 i turn.loop-i-test.taken h.1, i.none))
+    let i = c.loop-i.invariant in
+    let h = rw c.in-Twin.is at c.place.ensures in
+    (frame_same i.frame h.0, (filled-twin c.requires.0 i c.loop-i-test.true h.1, i.none))
 
 returns-3 : tie.Need-returns-in-Full Inv μ
-returns-3 c =
-    let known = c.before.before in
-    let place = known.before.before in
-    (frame_same (turn-of place).before.loop-i.invariant.frame (rw c.in-Full.is at place.place.ensures), tt)
+returns-3 c = (frame_same c.loop-i.invariant.frame (rw c.in-Full.is at c.place.ensures), tt)
 
 word-requires : tie.Need-word-i-requires Inv μ
 word-requires c κs =
-    let used = c.before.before.before in
-    let turn = turn-of (on_of used) in
-    let i = turn.before.loop-i.inv in
-    (omega (arith, (filled-fit (start_of turn.before).pre.0 i turn.loop-i-test.taken).room, i.frame.len, (next used).frame.len), omega arith)
+    let i = c.loop-i.invariant in
+    (omega (arith, (filled-fit c.requires.0 i c.loop-i-test.true).room, i.frame.len, (next c.before).frame.len), omega arith)
 
 loop-less : tie.Need-loop-i-smaller Inv μ
 loop-less c =
-    let used = used-of c in
-    let turn = turn-of (on_of used) in
     omega (
       arith,
       c.word-i.ensures,
-      agree-end (next used).frame turn.before.loop-i.i,
-      filled_on (start_of turn.before).pre.0 turn.before.loop-i.inv turn.loop-i-test.taken,
-      turn.loop-i-test.taken,
+      agree-end (next c.before.before).frame c.loop-i.i,
+      filled_on c.requires.0 c.loop-i.invariant c.loop-i-test.true,
+      c.loop-i-test.true,
     )
 
 loop-again : tie.Need-loop-i-preserved Inv μ
 loop-again c =
-    let used = used-of c in
-    filled_at (next used) (c.word-i.ensures ∙ agree-end (next used).frame (turn-of (on_of used)).before.loop-i.i)
+    let filled = next c.before.before in
+    filled_at filled (c.word-i.ensures ∙ agree-end filled.frame c.loop-i.i)
 
 pub enter_spec : {M : Type 1} → statement M
 enter_spec =
@@ -94,13 +64,13 @@ enter_spec =
     (tie.spec
     Inv
     μ
-    (λ c. omega (arith, c.before.before.requires.0.wide))
-    (λ c. omega (arith, c.before.before.requires.0.small))
-    (λ c. let p = c.before.before.requires in filled-start p.0 _ p.1)
+    (λ c. omega (arith, c.requires.0.wide))
+    (λ c. omega (arith, c.requires.0.small))
+    (λ c. filled-start c.requires.0 _ c.requires.1)
     place-requires
     (λ c. search rules)
-    (λ c. (next c.before.before).frame.len)
-    (λ c. ((next c.before.before).frame, tt))
+    (λ c. (next c.before).frame.len)
+    (λ c. ((next c.before).frame, tt))
     (λ c. search rules)
     (λ c. (returns-2 c).0.len)
     returns-2
@@ -110,5 +80,5 @@ enter_spec =
     word-requires
     loop-less
     loop-again
-    (λ c. c.before.loop-i.invariant.frame.len)
-    (λ c. let i = c.before.loop-i.invariant in (i.frame, filled-end (start_of c.before).pre.0 i c.loop-i-test.false)))
+    (λ c. c.loop-i.invariant.frame.len)
+    (λ c. (c.loop-i.invariant.frame, filled-end c.requires.0 c.loop-i.invariant c.loop-i-test.false)))

@@ -7,26 +7,17 @@ use Rattle.nbt_siblings.proofs.Wiping.{wiped-back}
 use Rattle.nbt_siblings.proofs.cells.half.Statement.{statement}
 use Rattle.nbt_siblings.proofs.cells.half.Tie as tie
 
-abbrev start_of : tie.After-enter-r → tie.Start
-start_of c = let known = c.before.before in known.before.before
-
-abbrev entered_of : tie.After-wipe → tie.After-enter-r
-entered_of c = let known = c.before.before in known.before.before
-
-back : (c : tie.After-wipe) → c.wipe.new.0 ≡ (start_of (entered_of c)).args.table-1.now
-back c = wiped-back (start_of (entered_of c)).requires.1 (entered_of c).enter-r.ensures.0 c.wipe.ensures
+back : (c : tie.After-wipe) → c.wipe.new.table ≡ c.args.table.now
+back c = wiped-back c.requires.1 c.enter-r.ensures.0 c.wipe.ensures
 
 wipe-requires : tie.Need-wipe-requires
-wipe-requires c κs =
-    let entered = c.before.before.before in
-    let p = (start_of entered).requires in
-    (omega (arith, p.0.wide), omega (arith, p.0.room, entered.enter-r.ensures.0.len))
+wipe-requires c κs = (omega (arith, c.requires.0.wide), omega (arith, c.requires.0.room, c.enter-r.ensures.0.len))
 
 pub half_spec : {M : Type 1} → statement M
 half_spec =
     tie.close
     (tie.spec
-    (λ c κs. c.before.before.before.requires)
+    (λ c κs. c.requires)
     wipe-requires
     (λ c. ap length (back c.before.before))
-    (λ c. let wiped = c.before.before in (back wiped, (entered_of wiped).enter-r.ensures.1)))
+    (λ c. (back c.before.before, c.enter-r.ensures.1)))

@@ -8,11 +8,6 @@ use Rattle.nbt_siblings.proofs.cells.scattered.Tie as tie
 
 hashed-requires : tie.Need-hashed-requires
 hashed-requires c κs =
-    let blank = c.before.before in
-    let room = blank.before.before in
-    let wide = room.before in
-    let end = wide.before in
-    let some = end.before.before in
     let fam = c.requires in (
       record {
         family = fam;
@@ -34,9 +29,9 @@ scattered_spec =
     (λ c. omega (arith, c.cells_end-last.ensures.0))
     (λ c. (refl, tt))
     (λ c. (refl, tt))
-    (λ c κs. omega (arith, c.before.if-table-last.false))
+    (λ c κs. omega (arith, c.if-table-last.false))
     hashed-requires
-    (λ c. ap length c.before.before.hashed.ensures.0)
-    (λ c. c.before.before.hashed.ensures)
+    (λ c. ap length c.hashed.ensures.0)
+    (λ c. c.hashed.ensures)
     (λ c. refl)
     (λ c. (refl, tt)))

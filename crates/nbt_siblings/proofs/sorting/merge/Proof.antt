@@ -15,60 +15,42 @@ Inv doc table₀ a na b nb up x₀ y₀ p₀ q₀ acc₀ table x y p q acc = Mer
 abbrev μ : tie.decreases-loop-p
 μ doc table₀ a na b nb up x₀ y₀ p₀ q₀ acc₀ table x y p q acc = p + q
 
-abbrev start_of : tie.At-loop-p Inv μ → tie.Start Inv μ
-start_of c = c.before.before.before
-
-abbrev loop-of : tie.After-pick Inv μ → tie.At-loop-p Inv μ
-loop-of c = c.before.before
-
-abbrev taken_of : tie.After-slice_known-then-pick-1 Inv μ → tie.Then-pick Inv μ
-taken_of c = let linked = c.before.before in linked.before.before
-
-abbrev left-of : tie.After-slice_known-else-pick-1 Inv μ → tie.Else-pick Inv μ
-left-of c = let linked = c.before.before in linked.before.before
-
 -- what was picked
 abbrev Picks : tie.After-pick Inv μ → Bool → Type 0
 Picks c b =
-    let l = (loop-of c).loop-p in
-    let a = (start_of (loop-of c)).args in
+    let l = c.loop-p in
+    let a = c.args in
     Picked a.up l.p l.q (rank a.doc.now l.table l.x) (rank a.doc.now l.table l.y) b
 
 one : (c : tie.Then-pick Inv μ) → Picks c.before true
-one c = rw c.if-pick.true at c.before.pick.ensures
+one c = rw c.if-pick.true at c.pick.ensures
 
 two : (c : tie.Else-pick Inv μ) → Picks c.before false
-two c = rw c.if-pick.false at c.before.pick.ensures
+two c = rw c.if-pick.false at c.pick.ensures
 
 pick-requires : tie.Need-pick-requires Inv μ
 pick-requires c κs =
-    let loop = c.before.before in
-    let fit = (start_of loop).requires.fit in
-    (c.before.loop-p-test.true, merging-fit fit loop.loop-p.invariant, merging-fit fit (merging-swap loop.loop-p.invariant))
+    let fit = c.requires.fit in
+    let i = c.loop-p.invariant in
+    (c.loop-p-test.true, merging-fit fit i, merging-fit fit (merging-swap i))
 
 relink-requires : tie.Need-relink-next-requires Inv μ
-relink-requires c κs =
-    let loop = loop-of c.before.before in
-    ((merging-fit (start_of loop).requires.fit loop.loop-p.invariant (one c.before).0).room, loop.loop-p.invariant.small)
+relink-requires c κs = ((merging-fit c.requires.fit c.loop-p.invariant (one c.before).0).room, c.loop-p.invariant.small)
 
 loop-again : tie.Need-loop-p-preserved-then-pick Inv μ
 loop-again c =
-    let taken = taken_of c in
-    let loop = loop-of taken.before in
-    let e = c.before.before.relink-next.ensures in
-    merging-one (start_of loop).requires.fit loop.loop-p.invariant (one taken).0 (one taken).1 e.0 e.1
+    let picked = one c.before.before.before.before in
+    let e = c.relink-next.ensures in
+    merging-one c.requires.fit c.loop-p.invariant picked.0 picked.1 e.0 e.1
 
 relink-requires-2 : tie.Need-relink-next-requires-else-pick Inv μ
-relink-requires-2 c κs =
-    let loop = loop-of c.before.before in
-    ((merging-fit (start_of loop).requires.fit (merging-swap loop.loop-p.invariant) (two c.before).0).room, loop.loop-p.invariant.small)
+relink-requires-2 c κs = ((merging-fit c.requires.fit (merging-swap c.loop-p.invariant) (two c.before).0).room, c.loop-p.invariant.small)
 
 loop-again-2 : tie.Need-loop-p-preserved Inv μ
 loop-again-2 c =
-    let left = left-of c in
-    let loop = loop-of left.before in
-    let e = c.before.before.relink-next-else-pick.ensures in
-    merging-swap (merging-one (start_of loop).requires.fit (merging-swap loop.loop-p.invariant) (two left).0 (two left).1 e.0 e.1)
+    let picked = two c.before.before.before.before in
+    let e = c.relink-next-else-pick.ensures in
+    merging-swap (merging-one c.requires.fit (merging-swap c.loop-p.invariant) picked.0 picked.1 e.0 e.1)
 
 pub merge_spec : {M : Type 1} → statement M
 merge_spec =
@@ -76,16 +58,16 @@ merge_spec =
     (tie.spec
     Inv
     μ
-    (λ c. merging_start _ _ _ _ _ _ _ c.before.before.requires)
-    (λ c. omega (arith, c.loop-p.invariant.le, (start_of c).requires.few))
+    (λ c. merging_start _ _ _ _ _ _ _ c.requires)
+    (λ c. omega (arith, c.loop-p.invariant.le, c.requires.few))
     pick-requires
     relink-requires
-    (λ c. omega (arith, (one (taken_of c)).0))
-    (λ c. omega (arith, (one (taken_of c)).0))
+    (λ c. omega (arith, (one c.before.before.before.before).0))
+    (λ c. omega (arith, (one c.before.before.before.before).0))
     loop-again
     relink-requires-2
-    (λ c. omega (arith, (two (left-of c)).0))
-    (λ c. omega (arith, (two (left-of c)).0))
+    (λ c. omega (arith, (two c.before.before.before.before).0))
+    (λ c. omega (arith, (two c.before.before.before.before).0))
     loop-again-2
-    (λ c. c.before.loop-p.invariant.agree.len)
-    (λ c. merging-end (start_of c.before).pre.fit c.before.loop-p.invariant c.loop-p-test.false))
+    (λ c. c.loop-p.invariant.agree.len)
+    (λ c. merging-end c.requires.fit c.loop-p.invariant c.loop-p-test.false))

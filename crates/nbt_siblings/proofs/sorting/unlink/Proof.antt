@@ -12,30 +12,14 @@ Inv doc table₀ head n none x₀ left₀ low₀ table x left low = Scan doc tab
 abbrev μ : tie.decreases-loop-left
 μ doc table₀ head n none x₀ left₀ low₀ table x left low = left
 
-abbrev start_of : tie.At-loop-left Inv μ → tie.Start Inv μ
-start_of c = c.before.before.before
-
 lower-requires : tie.Need-lower-low-requires Inv μ
-lower-requires c κs =
-    let linked = c.before.before.before in
-    let turn = linked.before.before in
-    let loop = turn.before in
-    scan-fits (start_of loop).requires loop.loop-left.invariant turn.loop-left-test.true linked.relink-y.ensures.0 linked.relink-y.ensures.1
+lower-requires c κs = scan-fits c.requires c.loop-left.invariant c.loop-left-test.true c.relink-y.ensures.0 c.relink-y.ensures.1
 
 loop-again : tie.Need-loop-left-preserved Inv μ
-loop-again c =
-    let known = c.before.before in
-    let linked = known.before.before in
-    let turn = linked.before.before in
-    let loop = turn.before in
-    scan-on (start_of loop).requires loop.loop-left.invariant turn.loop-left-test.true linked.relink-y.ensures.0 linked.relink-y.ensures.1 c.lower-low.ensures
+loop-again c = scan-on c.requires c.loop-left.invariant c.loop-left-test.true c.relink-y.ensures.0 c.relink-y.ensures.1 c.lower-low.ensures
 
 returns : tie.Need-returns Inv μ
-returns c =
-    let linked = c.before.before in
-    let end = linked.before.before in
-    let loop = end.before in
-    scan-last (start_of loop).requires loop.loop-left.invariant linked.relink.ensures.1 end.loop-left-test.false
+returns c = scan-last c.requires c.loop-left.invariant c.relink.ensures.1 c.loop-left-test.false
 
 pub unlink_spec : {M : Type 1} → statement M
 unlink_spec =
@@ -43,12 +27,12 @@ unlink_spec =
     (tie.spec
     Inv
     μ
-    (λ c. scan-start c.before.before.requires)
-    (λ c κs. let loop = c.before.before in ((scan-here (start_of loop).requires loop.loop-left.invariant).room, omega arith))
+    (λ c. scan-start c.requires)
+    (λ c κs. ((scan-here c.requires c.loop-left.invariant).room, omega arith))
     lower-requires
     (λ c. omega arith)
     (λ c. omega arith)
     loop-again
-    (λ c κs. let loop = c.before.before in ((scan-here (start_of loop).requires loop.loop-left.invariant).room, omega arith))
-    (λ c. let linked = c.before.before in linked.relink.auto.0 ∙ linked.before.before.before.loop-left.invariant.frame.len)
+    (λ c κs. ((scan-here c.requires c.loop-left.invariant).room, omega arith))
+    (λ c. c.relink.auto.table ∙ c.loop-left.invariant.frame.len)
     returns)
