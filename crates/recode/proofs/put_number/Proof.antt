@@ -14,11 +14,11 @@ returns c =
     let at_from = at-number.before in
     let at_source = at_from.before in
     let a = at_source.before.before.before.args in
-    one-put a.way _ _ a.at a.width _ _ _ _ a.out.now _ at_source.source.ensures at_from.is-pocket.ensures at-number.number_in.ensures.is
-    at_Target.target.ensures at-to.is-pocket2.ensures at-put.put_in.ensures
+    one-put a.way _ _ a.at a.width _ _ _ _ a.out.now _ at_source.source.ensures at_from.is_pocket.ensures at-number.number_in-v.ensures.is
+    at_Target.target.ensures at-to.is_pocket-2.ensures at-put.put_in.ensures
 
-pub put-number-spec : {M : Type 1} → statement M
-put-number-spec =
+pub put_number_spec : {M : Type 1} → statement M
+put_number_spec =
     tie.close
     (tie.spec
     (λ c κs. search rules)

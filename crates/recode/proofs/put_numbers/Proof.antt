@@ -13,54 +13,54 @@ use Rattle.recode.proofs.Numbers.{same-order, other-order, other_length}
 use Rattle.recode.proofs.put_numbers.Statement.{statement}
 use Rattle.recode.proofs.put_numbers.Tie as tie
 
-abbrev start_of : tie.After-same-order → tie.Start
+abbrev start_of : tie.After-same_order → tie.Start
 start_of c = c.before.before.before
 
 -- the order is the same, or it is not
-same : (c : tie.Then1) → let way = way_no (start_of c.before).args.way in same_order way.from.order way.to.order ≡ true
-same c = sym c.before.same-order.ensures ∙ c.if1.true
+same : (c : tie.Then-same_order) → let way = way_no (start_of c.before).args.way in same_order way.from.order way.to.order ≡ true
+same c = sym c.before.same_order.ensures ∙ c.if-same_order.true
 
-other : (c : tie.Else1) → let way = way_no (start_of c.before).args.way in same_order way.from.order way.to.order ≡ false
-other c = sym c.before.same-order.ensures ∙ c.if1.false
+other : (c : tie.Else-same_order) → let way = way_no (start_of c.before).args.way in same_order way.from.order way.to.order ≡ false
+other c = sym c.before.same_order.ensures ∙ c.if-same_order.false
 
 copy-requires : tie.Need-copy-requires
 copy-requires c κs =
     let at_test = c.before in
     let start = start_of at_test.before in
     let a = start.args in
-    let pre = start.pre in
+    let pre = start.requires in
     let as_is = same-order (way_no a.way) a.width a.doc.now a.start a.size (same at_test) in
     (pre.2, omega (arith, pre.3, ap length as_is, part_length a.doc.now a.start a.size pre.2))
 
-returns : tie.Need-returns
+returns : tie.Need-returns-then-same_order
 returns c =
     let at_copy = c.before.before in
     let at_test = at_copy.before.before in
     let start = start_of at_test.before in
     let a = start.args in
-    copied _ a.doc.now a.out.now _ a.start a.size a.at start.pre.2
+    copied _ a.doc.now a.out.now _ a.start a.size a.at start.requires.2
     (same-order (way_no a.way) a.width a.doc.now a.start a.size (same at_test)) at_copy.copy.ensures
 
-put-turned-requires : tie.Need-put-turned-requires
-put-turned-requires c κs =
+put_turned-requires : tie.Need-put_turned-requires
+put_turned-requires c κs =
     let at_test = c.before in
     let start = start_of at_test.before in
     let a = start.args in
-    let pre = start.pre in
+    let pre = start.requires in
     let whole = div-mul-le_self a.size a.width in
     let size = other_length (way_no a.way) a.width a.doc.now a.start a.size pre.2 (other at_test) in
     (pre.1, omega (arith, whole, pre.2), omega (arith, size, pre.3))
 
-returns-2 : tie.Need-returns-2
+returns-2 : tie.Need-returns
 returns-2 c =
     let at-put = c.before.before in
     let at_test = at-put.before.before in
     let start = start_of at_test.before in
     let a = start.args in
-    rw (other-order (way_no a.way) a.width a.doc.now a.start a.size start.pre.2 (other at_test)) at-put.put-turned.ensures
+    rw (other-order (way_no a.way) a.width a.doc.now a.start a.size start.requires.2 (other at_test)) at-put.put_turned.ensures
 
-pub put-numbers-spec : {M : Type 1} → statement M
-put-numbers-spec =
+pub put_numbers_spec : {M : Type 1} → statement M
+put_numbers_spec =
     tie.close
     (tie.spec
     (λ c κs. search rules)
@@ -69,6 +69,6 @@ put-numbers-spec =
     (λ c. search rules)
     returns
     (λ c. search rules)
-    put-turned-requires
+    put_turned-requires
     (λ c. search rules)
     returns-2)

@@ -13,56 +13,56 @@ use Rattle.recode.proofs.Numbers.{room, put-none, put-length, put-more, put_all}
 use Rattle.recode.proofs.put_turned.Statement.{statement}
 use Rattle.recode.proofs.put_turned.Tie as tie
 
-abbrev invariant-loop : tie.invariant-loop
+abbrev invariant-loop : tie.invariant-loop-i
 invariant-loop doc start count width out₀ at way i₀ out i = (i ≤ count) × (out ≡ over out₀ at (each_number (way_no way) width i (drop start doc)))
 
-abbrev decreases-loop : tie.decreases-loop
+abbrev decreases-loop : tie.decreases-loop-i
 decreases-loop doc start count width out₀ at way i₀ out i = count - i
 
-abbrev start_of : tie.At-loop invariant-loop decreases-loop → tie.Start invariant-loop decreases-loop
+abbrev start_of : tie.At-loop-i invariant-loop decreases-loop → tie.Start invariant-loop decreases-loop
 start_of c = c.before.before.before
 
 -- the numbers so far end no later than all of them, and one more does so too
-so_far : (c : tie.At-loop invariant-loop decreases-loop) → let a = (start_of c).args in c.loop.i * a.width ≤ a.count * a.width
-so_far c = mul-le-mul_right (start_of c).args.width c.loop.invariant.0
+so_far : (c : tie.At-loop-i invariant-loop decreases-loop) → let a = (start_of c).args in c.loop-i.i * a.width ≤ a.count * a.width
+so_far c = mul-le-mul_right (start_of c).args.width c.loop-i.invariant.0
 
-one_more : (c : tie.In-loop invariant-loop decreases-loop) → let l = c.before in let a = (start_of l).args in l.loop.i * a.width + a.width ≤ a.count * a.width
-one_more c = let a = (start_of c.before).args in room c.before.loop.i a.count a.width c.loop-test.true
+one_more : (c : tie.In-loop-i invariant-loop decreases-loop) → let l = c.before in let a = (start_of l).args in l.loop-i.i * a.width + a.width ≤ a.count * a.width
+one_more c = let a = (start_of c.before).args in room c.before.loop-i.i a.count a.width c.loop-i-test.true
 
 -- the output is as long as it was
-long : (c : tie.At-loop invariant-loop decreases-loop) → length c.loop.out ≡ length (start_of c).args.out.now
+long : (c : tie.At-loop-i invariant-loop decreases-loop) → length c.loop-i.out ≡ length (start_of c).args.out.now
 long c =
     let a = (start_of c).args in
-    put-length (way_no a.way) a.width a.out.now a.at (drop a.start a.doc.now) c.loop.i c.loop.out (omega (arith, so_far c)) c.loop.invariant.1
+    put-length (way_no a.way) a.width a.out.now a.at (drop a.start a.doc.now) c.loop-i.i c.loop-i.out (omega (arith, so_far c)) c.loop-i.invariant.1
 
-put-number-requires : tie.Need-put-number-requires invariant-loop decreases-loop
-put-number-requires c κs =
+put_number-requires : tie.Need-put_number-requires invariant-loop decreases-loop
+put_number-requires c κs =
     let in-loop = c.before in
-    let pre = (start_of in-loop.before).pre in
+    let pre = (start_of in-loop.before).requires in
     (pre.0, omega (arith, one_more in-loop), omega (arith, one_more in-loop, long in-loop.before))
 
-loop-again : tie.Need-loop-preserved invariant-loop decreases-loop
+loop-again : tie.Need-loop-i-preserved invariant-loop decreases-loop
 loop-again c =
     let at-put = c.before.before in
     let in-loop = at-put.before.before in
     let at-loop = in-loop.before in
     let a = (start_of at-loop).args in
-    let l = at-loop.loop in (
+    let l = at-loop.loop-i in (
       omega arith,
       put-more (way_no a.way) a.width a.out.now a.at (drop a.start a.doc.now) l.i l.out _ (omega (arith, so_far at-loop)) l.invariant.1
-          (rw (drop-drop (l.i * a.width) a.start a.doc.now) at-put.put-number.ensures),
+          (rw (drop-drop (l.i * a.width) a.start a.doc.now) at-put.put_number.ensures),
     )
 
 returns : tie.Need-returns invariant-loop decreases-loop
 returns c =
-    let l = c.before.loop in
+    let l = c.before.loop-i in
     let a = (start_of c.before).args in
     let e : l.i ≡ a.count = omega arith in
     put_all (way_no a.way) a.width a.out.now a.at (drop a.start a.doc.now) a.count l.out
     (l.invariant.1 ∙ ap (λ k. over a.out.now a.at (each_number (way_no a.way) a.width k (drop a.start a.doc.now))) e)
 
-pub put-turned-spec : {M : Type 1} → statement M
-put-turned-spec =
+pub put_turned_spec : {M : Type 1} → statement M
+put_turned_spec =
     tie.close
     (tie.spec
     invariant-loop
@@ -71,7 +71,7 @@ put-turned-spec =
     (λ c. omega (arith, one_more c))
     (λ c. omega (arith, one_more c))
     (λ c. omega (arith, one_more c.before))
-    put-number-requires
+    put_number-requires
     (λ c. omega arith)
     (λ c. omega arith)
     loop-again
