@@ -1,5 +1,7 @@
 // Rule 13: the number that an unquoted token's bytes spell, or its refusal. `number_at` is what the lexer calls; the bits
 // of what it answers are `raw::bits_of`, the double's own, and `snbt_floats::single::f32_bits`.
+#![tactic(auto)]
+
 pub mod decimals;
 pub mod digits;
 pub mod runs;

@@ -14,15 +14,11 @@ any_number_spec =
     (λ c κs. search rules)
     (λ c κs. search rules)
     (λ c.
-    let p = c.before.before in
-    let s = p.before.before in
-    let a = s.args in
+    let a = c.args in
     c.decimal_number.ensures
-    ∙ number-found a.start a.end a.start a.text.now (le_trans s.requires.0 s.requires.1) s.requires.2 p.first_of-point.ensures s.requires.0 s.requires.3 c.before.if-point-end.true)
+    ∙ number-found a.start a.end a.start a.text.now (le_trans c.requires.0 c.requires.1) c.requires.2 c.first_of-point.ensures c.requires.0 c.requires.3 c.if-point-end.true)
     (λ c κs. search rules)
     (λ c.
-    let p = c.before.before in
-    let s = p.before.before in
-    let a = s.args in
+    let a = c.args in
     c.whole_number.ensures
-    ∙ number-lacks a.start a.end a.start a.text.now (le_trans s.requires.0 s.requires.1) s.requires.2 p.first_of-point.ensures s.requires.0 s.requires.3 c.before.if-point-end.false))
+    ∙ number-lacks a.start a.end a.start a.text.now (le_trans c.requires.0 c.requires.1) c.requires.2 c.first_of-point.ensures c.requires.0 c.requires.3 c.if-point-end.false))

@@ -16,27 +16,19 @@ use Rattle.snbt_numbers.proofs.OnePass.{Begins, none-no-point, from_le, run_smal
 use Rattle.snbt_numbers.proofs.number_at.Statement.{statement}
 use Rattle.snbt_numbers.proofs.number_at.Tie as tie
 
--- the beginning, and the sign before the digits
-abbrev start_of : tie.After-behind_minus-from → tie.Start
-start_of c = c.before.before.before
-
-abbrev sign_of : tie.After-run_from-row → tie.After-behind_minus-from
-sign_of c = c.before.before
-
 -- the digits begin in the token
-begins : (c : tie.After-behind_minus-from) → let a = (start_of c).args in Begins a.text.now a.start a.end c.behind_minus-from.result c.before.minus_at-negative.result
-begins c = let s = start_of c in record { order = s.requires.0; within = s.requires.1; sign = c.before.minus_at-negative.ensures; first = c.behind_minus-from.ensures }
+begins : (c : tie.After-behind_minus-from) → let a = c.args in Begins a.text.now a.start a.end c.behind_minus-from.result c.minus_at-negative.result
+begins c = record { order = c.requires.0; within = c.requires.1; sign = c.minus_at-negative.ensures; first = c.behind_minus-from.ensures }
 
 -- the sign and the first digits
-heads : (c : tie.After-run_from-row) → let f = sign_of c in let a = (start_of f).args in
-    HeadAt a.text.now a.start a.end f.before.minus_at-negative.result c.run_from-row.result.value c.run_from-row.result.end
+heads : (c : tie.After-run_from-row) → let a = c.args in
+    HeadAt a.text.now a.start a.end c.minus_at-negative.result c.run_from-row.result.value c.run_from-row.result.end
 heads c =
-    let f = sign_of c in
-    let a = (start_of f).args in
-    let e = f.behind_minus-from.ensures in
+    let a = c.args in
+    let e = c.behind_minus-from.ensures in
     record {
-      sign = f.before.minus_at-negative.ensures;
-      room = subst (λ (n : ℕ). a.end ≤ n + 18) e (omega (arith, c.before.if-end-from-gt18.false, (from_le (begins f)).1));
+      sign = c.minus_at-negative.ensures;
+      room = subst (λ (n : ℕ). a.end ≤ n + 18) e (omega (arith, c.if-end-from-gt18.false, (from_le (begins c.before.before)).1));
       run = subst (λ (n : ℕ). RunAt a.text.now 0 n a.end c.run_from-row.result) e c.run_from-row.ensures;
     }
 
@@ -47,34 +39,24 @@ number_at_spec =
     (λ c κs. search rules)
     (λ c κs. search rules)
     (λ c. (from_le (begins c)).1)
-    (λ c κs. let s = start_of c.before in (le_refl s.args.start, s.pre.0, s.pre.1, none-no-point s.args.start s.args.text.now))
+    (λ c κs. (le_refl c.args.start, c.requires.0, c.requires.1, none-no-point c.args.start c.args.text.now))
     (λ c. search rules)
     (λ c κs.
-    let f = c.before in
-    let s = start_of f in
-    let within = (from_le (begins f)).1 in
-    (within, s.pre.1, omega (arith, c.if-end-from-gt18.false, within), ten-pos (18 - (s.args.end - f.behind_minus-from.result))))
-    (λ c κs. let r = c.before in ((start_of (sign_of r)).requires.1, heads r))
+    let within = (from_le (begins c.before)).1 in
+    (within, c.requires.1, omega (arith, c.if-end-from-gt18.false, within), ten-pos (18 - (c.args.end - c.behind_minus-from.result))))
+    (λ c κs. (c.requires.1, heads c.before))
     (λ c. search rules)
-    (λ c κs. let r = c.before.before in run_small (begins (sign_of r)) r.run_from-row.ensures)
+    (λ c κs. run_small (begins c.before.before.before.before) c.run_from-row.ensures)
     (λ c.
-    let t = c.before in
-    let r = t.before.before in
     ap (λ (n : ℤ). got (int n)) (to_z-of_z w64 c.signed_i64.result (record { sfits = c.signed_i64.type_inv }) ∙ c.signed_i64.ensures)
-    ∙ short-int (begins (sign_of r)) r.run_from-row.ensures t.before.if-to-from.false t.if-to-end.true)
+    ∙ short-int (begins c.before.before.before.before.before) c.run_from-row.ensures c.if-to-from.false c.if-to-end.true)
     (λ c. search rules)
     (λ c. search rules)
     (λ c κs. search rules)
     (λ c κs.
-    let at_last = c.before.before.before in
-    let r = at_last.before.before.before in
-    run_small (begins (sign_of r)) r.run_from-row.ensures)
+    run_small (begins c.before.before.before.before.before.before.before.before) c.run_from-row.ensures)
     (λ c.
-    let x = c.before.before in
-    let t = x.before.before in
-    let e = t.before.before in
-    let r = e.before in
     c.suffixed_number.ensures
-    ∙ short-suffixed (begins (sign_of r)) r.run_from-row.ensures e.if-to-from.false t.if-to-end-2.true (sym x.is_suffix.ensures ∙ c.before.if-is_suffix.true))
-    (λ c κs. let r = c.before.before.before in ((start_of (sign_of r)).requires.1, heads r))
+    ∙ short-suffixed (begins c.before.before.before.before.before.before.before.before.before) c.run_from-row.ensures c.if-to-from.false c.if-to-end-2.true (sym c.is_suffix.ensures ∙ c.if-is_suffix.true))
+    (λ c κs. (c.requires.1, heads c.before.before.before))
     (λ c. search rules))

@@ -18,10 +18,6 @@ bounds : (s : tie.Start) → let a = s.args in
     (a.start ≤ a.at) × (a.at ≤ a.end) × (a.end ≤ length a.text.now) × (has is_point (slice a.start a.at a.text.now) ≡ false)
 bounds s = let w = head-le s.requires.0 s.requires.1 in (w.0, w.1, s.requires.0, head-no-point s.requires.0 s.requires.1)
 
--- a byte is left
-abbrev start_of : tie.After-shared_slice_known-2-1 → tie.Start
-start_of c = c.before.before.before
-
 pub tail_number_spec : {M : Type 1} → statement M
 tail_number_spec =
     tie.close
@@ -31,11 +27,9 @@ tail_number_spec =
     (λ c. search rules)
     (λ c κs. search rules)
     (λ c.
-    let t = c.before in
-    let s = start_of t.before in
-    let w = head-le s.pre.0 s.pre.1 in
+    let w = head-le c.requires.0 c.requires.1 in
     c.fraction_number.ensures
-    ∙ number-with s.args.start s.args.end s.args.start s.args.text.now (le_trans w.0 w.1) s.pre.0
-    (has-point s.pre.0 s.pre.1 t.before.before.if-end-at.false t.if-text-at-eq46.true))
-    (λ c κs. bounds (start_of c.before))
+    ∙ number-with c.args.start c.args.end c.args.start c.args.text.now (le_trans w.0 w.1) c.requires.0
+    (has-point c.requires.0 c.requires.1 c.if-end-at.false c.if-text-at-eq46.true))
+    (λ c κs. bounds c.before.before.before.before)
     (λ c. search rules))

@@ -16,8 +16,6 @@ combined_spec =
     (λ c κs. search rules)
     (λ c κs. search rules)
     (λ c place. rw c.in-Bad.is refl)
-    (λ c place. let m = c.before.before in rw (c.in-Value.is, c.in-Wrong.is) refl)
+    (λ c place. rw (c.in-Value.is, c.in-Wrong.is) refl)
     (λ c place.
-    let x = c.before.before.before in
-    let m = x.before in
-    rw (c.in-Value.is, c.in-Power.is) (c.Real-of.ensures place ∙ c.valued.ensures place)))
+    rw (c.in-Value.is, c.in-Power.is) (c.real_of.ensures place ∙ c.valued.ensures place)))

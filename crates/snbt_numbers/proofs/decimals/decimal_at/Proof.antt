@@ -17,12 +17,8 @@ decimal_at_spec =
     (λ c κs. search rules)
     (λ c κs. search rules)
     (λ c κs.
-    let s = c.before.before.before in
-    (unsigned-le s.args.at s.args.to c.behind_minus-from.result s.args.text.now s.requires.0 c.before.minus_at-negative.ensures c.behind_minus-from.ensures, s.requires.1))
+    (unsigned-le c.args.at c.args.to c.behind_minus-from.result c.args.text.now c.requires.0 c.minus_at-negative.ensures c.behind_minus-from.ensures, c.requires.1))
     (λ c place.
-    let f = c.before in
-    let m = f.before in
-    let s = m.before.before in
     c.decimal_of.ensures place
-    ∙ ap₂ (λ (b : Bool) (l : List ℕ). decimal_of b l place) m.minus_at-negative.ensures
-    (sym (unsigned-part s.args.at s.args.to f.behind_minus-from.result s.args.text.now s.requires.0 s.requires.1 m.minus_at-negative.ensures f.behind_minus-from.ensures))))
+    ∙ ap₂ (λ (b : Bool) (l : List ℕ). decimal_of b l place) c.minus_at-negative.ensures
+    (sym (unsigned-part c.args.at c.args.to c.behind_minus-from.result c.args.text.now c.requires.0 c.requires.1 c.minus_at-negative.ensures c.behind_minus-from.ensures))))

@@ -12,13 +12,10 @@ decimal_of_spec =
     tie.close
     (tie.spec
     (λ c κs. search rules)
-    (λ c place. let f = c.before in let s = f.before.before in no-point s.args.negative place f.first_of-point.ensures s.requires.1 c.if-to-point.true)
+    (λ c place. no-point c.args.negative place c.first_of-point.ensures c.requires.1 c.if-to-point.true)
     (λ c. search rules)
     (λ c κs. search rules)
     (λ c κs. search rules)
     (λ c place.
-    let g = c.before in
-    let f = g.before.before in
-    let s = f.before.before in
     c.value_of.ensures place
-    ∙ with-point s.args.negative place f.first_of-point.ensures g.first_of-ex.ensures s.requires.1 (omega (arith, s.well_formed.0.1)) g.before.if-to-point.false))
+    ∙ with-point c.args.negative place c.first_of-point.ensures c.first_of-ex.ensures c.requires.1 (omega (arith, c.well_formed.0.1)) c.if-to-point.false))

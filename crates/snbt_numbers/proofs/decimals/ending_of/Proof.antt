@@ -13,10 +13,10 @@ use Rattle.snbt_numbers.proofs.decimals.ending_of.Statement.{statement}
 use Rattle.snbt_numbers.proofs.decimals.ending_of.Tie as tie
 
 -- at a byte that is no letter
-by-digit : (c : tie.In_default) {t : Bool} → is_digit c.before.args.b ≡ t → pick t Digit Other ≡ ending_of c.before.args.b
+by-digit : (c : tie.In_default) {t : Bool} → is_digit c.args.b ≡ t → pick t Digit Other ≡ ending_of c.args.b
 by-digit c e =
     let r = c.in_default.in_default-own.rest in
-    let b = c.before.args.b in
+    let b = c.args.b in
     simp (ne_eqb b 102 (λ e. r.0.1 (inr e)), ne_eqb b 70 (λ e. r.0.1 (inl e)), ne_eqb b 100 (λ e. r.1 (inr e)), ne_eqb b 68 (λ e. r.1 (inl e)), e)
 
 pub ending_of_spec : {M : Type 1} → statement M
@@ -27,4 +27,4 @@ ending_of_spec =
     (λ c. by-digit c.before.before (above-digits _ c.if-b-gt57.true))
     (λ c. ⊎_elim (λ e. ap ending_of (sym e)) (λ e. ap ending_of (sym e)) c.in-102.is)
     (λ c. ⊎_elim (λ e. ap ending_of (sym e)) (λ e. ap ending_of (sym e)) c.in-100.is)
-    (λ c. by-digit c.before.before (is_digit_lem _ c.before.if-b-lt48.false c.if-b-gt57.false)))
+    (λ c. by-digit c.before.before (is_digit_lem _ c.if-b-lt48.false c.if-b-gt57.false)))

@@ -12,4 +12,4 @@ exponent_from_spec =
     (λ c. simp (le-leb _ _ c.if-to-ex.true))
     (λ c. search rules)
     (λ c κs. search rules)
-    (λ c. simp (lt-leb _ _ c.before.if-to-ex.false) c.exponent_at.ensures))
+    (λ c. simp (lt-leb _ _ c.if-to-ex.false) c.exponent_at.ensures))

@@ -38,14 +38,14 @@ unfolding ahead
 over x y s i to h = ap (λ (l : List ℕ). length (before (either x y) l)) (slice-none i to s h) ∙ first-none (either x y)
 
 -- the answer where nothing stands before it
-found : (c : tie.At-loop-i invariant-loop decreases-loop) → let a = c.before.args in let i = c.loop-i.i in
+found : (c : tie.At-loop-i invariant-loop decreases-loop) → let a = c.args in let i = c.loop-i.i in
     ahead a.x a.y a.text.now i a.to ≡ 0 → FirstAt a.x a.y a.text.now a.at a.to i
 unfolding ahead
 found c z = let v = c.loop-i.invariant in record { is = omega (arith, z, v.2); low = v.0; high = v.1 }
 
-hit : (c : tie.In-loop-i invariant-loop decreases-loop) → let a = c.before.before.args in let i = c.before.loop-i.i in
+hit : (c : tie.In-loop-i invariant-loop decreases-loop) → let a = c.args in let i = c.loop-i.i in
     either a.x a.y (get_or a.text.now i 0) ≡ true → FirstAt a.x a.y a.text.now a.at a.to i
-hit c e = let s = c.before.before in found c.before (here s.args.x s.args.y s.args.text.now _ s.args.to c.loop-i-test.true s.requires.1 e)
+hit c e = found c.before (here c.args.x c.args.y c.args.text.now _ c.args.to c.loop-i-test.true c.requires.1 e)
 
 pub first_of_spec : {M : Type 1} → statement M
 first_of_spec =
@@ -55,15 +55,13 @@ first_of_spec =
     decreases-loop
     (λ c. (omega arith, omega arith, refl))
     (λ c. omega arith)
-    (λ c. let turn = c.before.before in let a = turn.before.before.args in hit turn (is_x a.x a.y _ c.if-b-x.true))
-    (λ c. let turn = c.before.before.before in let a = turn.before.before.args in hit turn (is_y a.x a.y _ c.if-b-y.true))
+    (λ c. let a = c.args in hit c.before.before (is_x a.x a.y _ c.if-b-x.true))
+    (λ c. let a = c.args in hit c.before.before.before (is_y a.x a.y _ c.if-b-y.true))
     (λ c. omega arith)
     (λ c. omega arith)
     (λ c.
-    let turn = c.before.before.before in
-    let l = turn.before.loop-i in
-    let s = turn.before.before in
-    let a = s.args in
-    let n = later a.x a.y a.text.now l.i a.to turn.loop-i-test.true s.requires.1 (neither a.x a.y _ c.before.if-b-x.false c.if-b-y.false) in
+    let l = c.loop-i in
+    let a = c.args in
+    let n = later a.x a.y a.text.now l.i a.to c.loop-i-test.true c.requires.1 (neither a.x a.y _ c.if-b-x.false c.if-b-y.false) in
     (omega arith, omega arith, omega (arith, n, l.invariant.2)))
-    (λ c. let a = c.before.before.args in found c.before (over a.x a.y a.text.now _ a.to c.loop-i-test.false)))
+    (λ c. let a = c.args in found c.before (over a.x a.y a.text.now _ a.to c.loop-i-test.false)))

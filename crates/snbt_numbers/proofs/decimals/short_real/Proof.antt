@@ -15,4 +15,4 @@ short_real_spec =
     (λ c κs. search rules)
     (λ c.
     let a = c.args in
-    c.token_of.ensures ∙ ap (real_number a.single) (c.Real-of.ensures a.place ∙ c.scaled_or_beyond-x.ensures a.place)))
+    c.token_of.ensures ∙ ap (real_number a.single) (c.real_of.ensures a.place ∙ c.scaled_or_beyond-x.ensures a.place)))

@@ -10,9 +10,9 @@ token_of_spec =
     tie.close
     (tie.spec
     (λ c. search rules)
-    (λ c. rw (c.if-single.true, c.before.in-Is.is) refl)
+    (λ c. rw (c.if-single.true, c.in-Is.is) refl)
     (λ c. search rules)
     (λ c. search rules)
-    (λ c. rw (c.if-single.false, c.before.in-Is.is) refl)
+    (λ c. rw (c.if-single.false, c.in-Is.is) refl)
     (λ c. rw c.in-Bad.is refl)
     (λ c. rw c.in-Beyond.is refl))

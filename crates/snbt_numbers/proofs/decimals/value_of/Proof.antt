@@ -22,11 +22,9 @@ value_of_spec =
     (λ c. unfold value_in in λ place. simp (eq-eqb _ _ c.if-point-from-eq0.true))
     (λ c κs. search rules)
     (λ c κs. search rules)
-    (λ c κs. let e = c.before.before in let s = e.before.before in omega (arith, s.well_formed.0.1, s.requires))
+    (λ c κs. omega (arith, c.well_formed.0.1, c.requires))
     (λ c. unfold value_in in λ place.
-    let x = c.before in
-    let e = x.before.before in
-    let a = e.before.before.args in
-    simp (ne_eqb _ _ e.if-point-from-eq0.false)
+    let a = c.args in
+    simp (ne_eqb _ _ c.if-point-from-eq0.false)
     (c.combined.ensures place
-    ∙ ap₂ (λ (m : Digits) (x : Exponent). combine a.negative (a.ex - (a.point + 1)) m x place) x.before.mantissa-m.ensures x.exponent_from-x.ensures)))
+    ∙ ap₂ (λ (m : Digits) (x : Exponent). combine a.negative (a.ex - (a.point + 1)) m x place) c.mantissa-m.ensures c.exponent_from-x.ensures)))

@@ -12,23 +12,19 @@ valued_spec =
     (tie.spec
     (λ c κs. search rules)
     (λ c place.
-    let t = c.before in
-    let a = t.before.before.args in
-    rw t.before.if-down.true (c.scaled_or_beyond.ensures place ∙ far-down a.negative a.w a.e a.behind place t.if-e-gt22.true))
+    let a = c.args in
+    rw c.if-down.true (c.scaled_or_beyond.ensures place ∙ far-down a.negative a.w a.e a.behind place c.if-e-gt22.true))
     (λ c. search rules)
     (λ c κs. search rules)
     (λ c place.
-    let t = c.before in
-    let a = t.before.before.args in
-    rw (t.before.if-down.true, ← down-sum a.e a.behind) (c.scaled_or_beyond-then-down.ensures place))
+    let a = c.args in
+    rw (c.if-down.true, ← down-sum a.e a.behind) (c.scaled_or_beyond-then-down.ensures place))
     (λ c κs. search rules)
     (λ c place.
-    let t = c.before in
-    let a = t.before.before.args in
-    rw (t.before.if-down.false, ← up_rest a.e a.behind t.if-behind-e.true) (c.scaled_or_beyond-then-behind-e.ensures place))
+    let a = c.args in
+    rw (c.if-down.false, ← up_rest a.e a.behind c.if-behind-e.true) (c.scaled_or_beyond-then-behind-e.ensures place))
     (λ c. search rules)
     (λ c κs. search rules)
     (λ c place.
-    let t = c.before in
-    let a = t.before.before.args in
-    rw (t.before.if-down.false, ← down-rest a.e a.behind t.if-behind-e.false) (c.scaled_or_beyond-2.ensures place)))
+    let a = c.args in
+    rw (c.if-down.false, ← down-rest a.e a.behind c.if-behind-e.false) (c.scaled_or_beyond-2.ensures place)))

@@ -21,25 +21,17 @@ Inv text first at to n₀ i₀ n i = (i ≤ to) × (n ≤ cap) × (digits_of n (
 abbrev μ : tie.decreases-loop-i
 μ text first at to n₀ i₀ n i = to - i
 
--- the beginning, and the turn
-abbrev start_of : tie.At-loop-i Inv μ → tie.Start Inv μ
-start_of c = c.before.before
-
-abbrev turn-of : tie.Else-b-gt57 Inv μ → tie.In-loop-i Inv μ
-turn-of c = c.before.before.before
-
 -- the bytes from i on, by the first of them, are what was asked for
-byte-first : (c : tie.In-loop-i Inv μ) → let a = (start_of c.before).args in let l = c.before.loop-i in
+byte-first : (c : tie.In-loop-i Inv μ) → let a = c.args in let l = c.loop-i in
     digits_of l.n (get_or a.text.now l.i 0 ∷ slice (l.i + 1) a.to a.text.now) ≡ digits_of a.first (slice a.at a.to a.text.now)
 byte-first c =
-    let s = start_of c.before in
-    let l = c.before.loop-i in
-    ap (digits_of l.n) (sym (slice_first l.i s.args.to s.args.text.now c.loop-i-test.true s.requires.2)) ∙ l.invariant.2
+    let l = c.loop-i in
+    ap (digits_of l.n) (sym (slice_first l.i c.args.to c.args.text.now c.loop-i-test.true c.requires.2)) ∙ l.invariant.2
 
 -- a byte that is no digit
-broken : (c : tie.In-loop-i Inv μ) → let a = (start_of c.before).args in is_digit (get_or a.text.now c.before.loop-i.i 0) ≡ false
+broken : (c : tie.In-loop-i Inv μ) → let a = c.args in is_digit (get_or a.text.now c.loop-i.i 0) ≡ false
     → Bad ≡ digits_of a.first (slice a.at a.to a.text.now)
-broken c e = digits-broken c.before.loop-i.n _ _ e ∙ byte-first c
+broken c e = digits-broken c.loop-i.n _ _ e ∙ byte-first c
 
 pub digits_from_spec : {M : Type 1} → statement M
 digits_from_spec =
@@ -55,11 +47,9 @@ digits_from_spec =
     (λ c. omega arith)
     (λ c. omega arith)
     (λ c.
-    let e = c.before in
-    let turn = turn-of e in
-    let b = get_or (start_of turn.before).args.text.now turn.before.loop-i.i 0 in
-    (omega arith, omega arith, digits_more turn.before.loop-i.n c.next-n.result b _ (is_digit_lem b e.before.if-b-lt48.false e.if-b-gt57.false) c.next-n.ensures ∙ byte-first turn))
+    let b = get_or c.args.text.now c.loop-i.i 0 in
+    (omega arith, omega arith, digits_more c.loop-i.n c.next-n.result b _ (is_digit_lem b c.if-b-lt48.false c.if-b-gt57.false) c.next-n.ensures ∙ byte-first c.before.before.before.before))
     (λ c.
-    let l = c.before.loop-i in
-    let a = (start_of c.before).args in
+    let l = c.loop-i in
+    let a = c.args in
     digits-end l.n l.invariant.1 ∙ ap (digits_of l.n) (sym (slice-none l.i a.to a.text.now c.loop-i-test.false)) ∙ l.invariant.2))

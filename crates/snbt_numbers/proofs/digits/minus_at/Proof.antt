@@ -11,6 +11,6 @@ pub minus_at_spec : {M : Type 1} → statement M
 minus_at_spec =
     tie.close
     (tie.spec
-    (λ c. let a = c.before.args in ap negative (sym (slice-none a.at a.to a.text.now c.if-to-at.true)))
+    (λ c. let a = c.args in ap negative (sym (slice-none a.at a.to a.text.now c.if-to-at.true)))
     (λ c. search rules)
-    (λ c. let s = c.before.before in ap negative (sym (slice_first s.args.at s.args.to s.args.text.now c.before.if-to-at.false s.requires.1))))
+    (λ c. ap negative (sym (slice_first c.args.at c.args.to c.args.text.now c.if-to-at.false c.requires.1))))

@@ -26,38 +26,28 @@ grown n d at to i h g r l e = subst (λ (k : ℕ). n * 10 + d < 10 ^ k) (place a
     place : (at to i : ℕ) → at ≤ i → i < to → to ≤ at + 18 → suc (18 - (to - i)) ≡ 18 - (to - (i + 1))
     place at to i h g r = omega arith
 
--- the turn, and what the row is where the loop ends
-abbrev turn-of : tie.Else-b-gt57 Inv μ → tie.In-loop-i Inv μ
-turn-of c = c.before.before.before
-
-abbrev start_of : tie.In-loop-i Inv μ → tie.Start Inv μ
-start_of c = c.before.before
-
-met : (c : tie.At-loop-i Inv μ) → let a = c.before.args in let l = c.loop-i in
+met : (c : tie.At-loop-i Inv μ) → let a = c.args in let l = c.loop-i in
     l.i ≡ a.at + length (before not_digit (slice a.at a.to a.text.now)) → RunAt a.text.now a.first a.at a.to (record { value = l.n; end = l.i })
 met c e = let v = c.loop-i.invariant in record { ends = e; low = v.0; high = v.1; row = v.2; is = v.3; small = v.4 }
 
 -- a byte that is no digit ends the row
-stopped : (c : tie.In-loop-i Inv μ) → let a = (start_of c).args in let l = c.before.loop-i in is_digit (get_or a.text.now l.i 0) ≡ false
+stopped : (c : tie.In-loop-i Inv μ) → let a = c.args in let l = c.loop-i in is_digit (get_or a.text.now l.i 0) ≡ false
     → RunAt a.text.now a.first a.at a.to (record { value = l.n; end = l.i })
 stopped c e =
-    let s = start_of c in
-    let v = c.before.loop-i.invariant in
-    met c.before (row-stops s.args.text.now s.args.at s.args.to _ v.0 c.loop-i-test.true s.requires.1 v.2 e)
+    let v = c.loop-i.invariant in
+    met c.before (row-stops c.args.text.now c.args.at c.args.to _ v.0 c.loop-i-test.true c.requires.1 v.2 e)
 
 -- one digit more keeps below 18 digits
-bound : (c : tie.Else-b-gt57 Inv μ) → let a = (start_of (turn-of c)).args in let l = (turn-of c).before.loop-i in
+bound : (c : tie.Else-b-gt57 Inv μ) → let a = c.args in let l = c.loop-i in
     l.n * 10 + (get_or a.text.now l.i 0 - 48) < 10 ^ (18 - (a.to - (l.i + 1)))
 bound c =
-    let turn = turn-of c in
-    let s = start_of turn in
-    let l = turn.before.loop-i in
-    grown l.n (get_or s.args.text.now l.i 0 - 48) s.args.at s.args.to l.i l.invariant.0 turn.loop-i-test.true s.requires.2 l.invariant.4 (omega (arith, c.if-b-gt57.false))
+    let l = c.loop-i in
+    grown l.n (get_or c.args.text.now l.i 0 - 48) c.args.at c.args.to l.i l.invariant.0 c.loop-i-test.true c.requires.2 l.invariant.4 (omega (arith, c.if-b-gt57.false))
 
-most : (c : tie.Else-b-gt57 Inv μ) → let l = (turn-of c).before.loop-i in l.n * 10 + (get_or (start_of (turn-of c)).args.text.now l.i 0 - 48) < 10 ^ 18
+most : (c : tie.Else-b-gt57 Inv μ) → let l = c.loop-i in l.n * 10 + (get_or c.args.text.now l.i 0 - 48) < 10 ^ 18
 most c =
-    let a = (start_of (turn-of c)).args in
-    let l = (turn-of c).before.loop-i in
+    let a = c.args in
+    let l = c.loop-i in
     ten-most (l.n * 10 + (get_or a.text.now l.i 0 - 48)) (18 - (a.to - (l.i + 1))) (bound c) (omega arith)
 
 pub run_from_spec : {M : Type 1} → statement M
@@ -76,12 +66,11 @@ run_from_spec =
     (λ c. omega arith)
     (λ c. omega arith)
     (λ c.
-    let a = (start_of (turn-of c)).args in
-    let l = (turn-of c).before.loop-i in
-    let d = is_digit_lem (get_or a.text.now l.i 0) c.before.if-b-lt48.false c.if-b-gt57.false in
+    let a = c.args in
+    let l = c.loop-i in
+    let d = is_digit_lem (get_or a.text.now l.i 0) c.if-b-lt48.false c.if-b-gt57.false in
     let w = row_more a.first a.at l.i l.n a.text.now l.invariant.0 (omega arith) d l.invariant.2 l.invariant.3 in
     (omega arith, omega arith, w.0, w.1, bound c))
     (λ c.
-    let s = c.before.before in
-    let v = c.before.loop-i.invariant in
-    met c.before (row-whole s.args.text.now s.args.at s.args.to _ v.0 (omega (arith, v.1, c.loop-i-test.false)) s.requires.1 v.2)))
+    let v = c.loop-i.invariant in
+    met c.before (row-whole c.args.text.now c.args.at c.args.to _ v.0 (omega (arith, v.1, c.loop-i-test.false)) c.requires.1 v.2)))

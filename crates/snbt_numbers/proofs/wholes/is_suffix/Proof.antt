@@ -21,4 +21,4 @@ is_suffix_spec =
     (λ c. by-letter refl refl c.in-108.is)
     (λ c. by-letter refl refl c.in-102.is)
     (λ c. by-letter refl refl c.in-100.is)
-    (λ c. let r = c.in_default.in_default-own.rest in sym (no-suffix c.before.args.b r.0.0.0.0.1 r.0.0.0.1 r.0.0.1 r.0.1 r.1)))
+    (λ c. let r = c.in_default.in_default-own.rest in sym (no-suffix c.args.b r.0.0.0.0.1 r.0.0.0.1 r.0.0.1 r.0.1 r.1)))

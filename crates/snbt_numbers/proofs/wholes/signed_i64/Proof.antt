@@ -34,30 +34,29 @@ is-minus : (m : ℕ) → (m ≡ 0 → ⊥) → negsuc (m - 1) ≡ signed true m
 is-minus zero h = absurd (h refl)
 is-minus (suc k) h = let e : suc k - 1 ≡ k = omega arith in ap negsuc e
 
-small : (c : tie.Else-m-eq0) → c.before.before.args.m - 1 < 2 ^ 63
-small c = let a = c.before.before in omega (arith, most a.args.negative a.args.m a.requires c.before.if-negative.true, c.if-m-eq0.false)
+small : (c : tie.Else-m-eq0) → c.args.m - 1 < 2 ^ 63
+small c = omega (arith, most c.args.negative c.args.m c.requires c.if-negative.true, c.if-m-eq0.false)
 
 returns-2 : tie.Need-returns-then-negative
 returns-2 c =
-    let m = c.before.before.args.m in
+    let m = c.args.m in
     ap (λ (z : ℤ). to_z w64 (of_z w64 z)) (negated m (small c))
     ∙ to_z-of_z w64 (negsuc (m - 1)) (record { sfits = small c })
     ∙ is-minus m c.if-m-eq0.false
-    ∙ ap (λ (b : Bool). signed b m) (sym c.before.if-negative.true)
+    ∙ ap (λ (b : Bool). signed b m) (sym c.if-negative.true)
 
 returns-3 : tie.Need-returns
 returns-3 c =
-    let a = c.before in
-    to_z_pos w64 a.args.m (under a.args.negative a.args.m a.requires c.if-negative.false) ∙ ap (λ (b : Bool). signed b a.args.m) (sym c.if-negative.false)
+    to_z_pos w64 c.args.m (under c.args.negative c.args.m c.requires c.if-negative.false) ∙ ap (λ (b : Bool). signed b c.args.m) (sym c.if-negative.false)
 
 pub signed_i64_spec : {M : Type 1} → statement M
 signed_i64_spec =
     tie.close
     (tie.spec
-    (λ c. simp (c.before.if-negative.true, c.if-m-eq0.true))
+    (λ c. simp (c.if-negative.true, c.if-m-eq0.true))
     (λ c. search rules)
     (λ c. record { sfits = small c })
-    (λ c. subst (λ (z : ℤ). SFits w64 z) (sym (negated c.before.before.args.m (small c))) (record { sfits = small c }))
+    (λ c. subst (λ (z : ℤ). SFits w64 z) (sym (negated c.args.m (small c))) (record { sfits = small c }))
     returns-2
-    (λ c. let a = c.before in record { sfits = under a.args.negative a.args.m a.requires c.if-negative.false })
+    (λ c. record { sfits = under c.args.negative c.args.m c.requires c.if-negative.false })
     returns-3)

@@ -14,5 +14,5 @@ stem_end_spec =
     (tie.spec
     (λ c κs. search rules)
     (λ c. search rules)
-    (λ c. let e = c.before.before.args.end in ap (λ (b : Bool). pick b (e - 1) e) (sym c.if-is_suffix.true ∙ c.before.is_suffix.ensures))
-    (λ c. let e = c.before.before.args.end in ap (λ (b : Bool). pick b (e - 1) e) (sym c.if-is_suffix.false ∙ c.before.is_suffix.ensures)))
+    (λ c. let e = c.args.end in ap (λ (b : Bool). pick b (e - 1) e) (sym c.if-is_suffix.true ∙ c.is_suffix.ensures))
+    (λ c. let e = c.args.end in ap (λ (b : Bool). pick b (e - 1) e) (sym c.if-is_suffix.false ∙ c.is_suffix.ensures)))

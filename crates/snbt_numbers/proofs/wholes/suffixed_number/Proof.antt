@@ -39,31 +39,25 @@ suffixed_number_spec =
     (λ c κs. search rules)
     (λ c κs. search rules)
     (λ c.
-    let s = c.before.before in
-    let z = whole_of s in
+    let z = whole_of c.before.before in
     ap (λ (n : ℤ). got (byte n)) (back c.signed_i64.result z (record { sfits = c.signed_i64.type_inv }) c.signed_i64.ensures)
-    ∙ by-letter (byte z) s.args.b 66 98 z refl refl c.before.in-98.is)
+    ∙ by-letter (byte z) c.args.b 66 98 z refl refl c.in-98.is)
     (λ c.
-    let s = c.before.before in
-    let z = whole_of s in
+    let z = whole_of c.before.before in
     ap (λ (n : ℤ). got (short n)) (back c.signed_i64-in-115.result z (record { sfits = c.signed_i64-in-115.type_inv }) c.signed_i64-in-115.ensures)
-    ∙ by-letter (short z) s.args.b 83 115 z refl refl c.before.in-115.is)
+    ∙ by-letter (short z) c.args.b 83 115 z refl refl c.in-115.is)
     (λ c.
-    let s = c.before.before in
-    let z = whole_of s in
+    let z = whole_of c.before.before in
     ap (λ (n : ℤ). got (long n)) (back c.signed_i64-in-108.result z (record { sfits = c.signed_i64-in-108.type_inv }) c.signed_i64-in-108.ensures)
-    ∙ by-letter (long z) s.args.b 76 108 z refl refl c.before.in-108.is)
+    ∙ by-letter (long z) c.args.b 76 108 z refl refl c.in-108.is)
     (λ c.
-    let s = c.before.before in
-    let z = whole_of s in
-    ap (λ (x : Float). got (float x)) c.nearest_double.ensures ∙ by-letter (float (of_int binary64 z)) s.args.b 70 102 z refl refl c.before.in-102.is)
+    let z = whole_of c.before.before in
+    ap (λ (x : Float). got (float x)) c.nearest_double.ensures ∙ by-letter (float (of_int binary64 z)) c.args.b 70 102 z refl refl c.in-102.is)
     (λ c.
-    let s = c.before.before in
-    let z = whole_of s in
-    ap (λ (x : Float). got (double x)) c.nearest_double-in-100.ensures ∙ by-letter (double (of_int binary64 z)) s.args.b 68 100 z refl refl c.before.in-100.is)
+    let z = whole_of c.before.before in
+    ap (λ (x : Float). got (double x)) c.nearest_double-in-100.ensures ∙ by-letter (double (of_int binary64 z)) c.args.b 68 100 z refl refl c.in-100.is)
     (λ c.
-    let r = c.before.in_default.in_default-own.rest in
-    let s = c.before.before in
-    let z = whole_of s in
+    let r = c.in_default.in_default-own.rest in
+    let z = whole_of c.before.before in
     ap (λ (n : ℤ). got (int n)) (back c.signed_i64-in_default.result z (record { sfits = c.signed_i64-in_default.type_inv }) c.signed_i64-in_default.ensures)
-    ∙ ap got (sym (plain s.args.b z (no-suffix s.args.b r.0.0.0.0.1 r.0.0.0.1 r.0.0.1 r.0.1 r.1)))))
+    ∙ ap got (sym (plain c.args.b z (no-suffix c.args.b r.0.0.0.0.1 r.0.0.0.1 r.0.0.1 r.0.1 r.1)))))
