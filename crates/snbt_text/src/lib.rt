@@ -1,4 +1,6 @@
 // Where a text is judged: its limit, UTF-8, and places on its characters (refusals 9 and 15).
+#![tactic(auto)]
+
 ghost use Rattle.std.specs.Prelude.{◌≡◌, ◌&&◌, leb};
 ghost use Rattle.snbt_form.specs.Lexing.{begins, judged_text, on_character};
 ghost use Rattle.snbt_text.specs.Answers.{text_out};

@@ -5,8 +5,8 @@ use borrow.Author.Tests.{lt-ltb, le-ltb}
 use Rattle.snbt_text.proofs.begins.Statement.{statement}
 use Rattle.snbt_text.proofs.begins.Tie as tie
 
-pub begins-spec : {M : Type 1} → statement M
-begins-spec =
+pub begins_spec : {M : Type 1} → statement M
+begins_spec =
     tie.close
     (tie.spec
     (λ c. simp (lt-ltb c.before.args.b 128 (omega arith)))  -- returns

@@ -6,13 +6,13 @@ use Rattle.snbt_text.proofs.Texts.{text-long, text-judged}
 use Rattle.snbt_text.proofs.judged_text.Statement.{statement}
 use Rattle.snbt_text.proofs.judged_text.Tie as tie
 
-pub judged-text-spec : {M : Type 1} → statement M
-judged-text-spec =
+pub judged_text_spec : {M : Type 1} → statement M
+judged_text_spec =
     tie.close
     (tie.spec
-    (λ c. text-long _ c.if1.true)  -- returns
+    (λ c. text-long _ c.if-text-gt-TEXT.true)  -- returns
     (λ c κs. search rules)  -- check-utf8-requires
     (λ c. search rules)  -- enum_told
     (λ c. search rules)  -- enum-told-2
-    (λ c. text-judged _ _ _ (omega arith) c.before.before.check-utf8.ensures c.enum_told.given.1)  -- returns-2
-    (λ c. text-judged _ _ _ (omega arith) c.before.before.check-utf8.ensures c.enum-told2.given.1))  -- returns-3
+    (λ c. text-judged _ _ _ (omega arith) c.before.check_utf8.ensures c.in-Good.is)  -- returns-2
+    (λ c. text-judged _ _ _ (omega arith) c.before.check_utf8.ensures c.in-Bad.is))  -- returns-3
