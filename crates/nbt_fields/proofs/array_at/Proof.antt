@@ -13,38 +13,36 @@ use Rattle.nbt_fields.proofs.array_at.Statement.{statement}
 use Rattle.nbt_fields.proofs.array_at.Tie as tie
 
 -- the count that was read
-is : (c : tie.After-known-told2) → let at-number = c.before.before.before in let a = at-number.before.before.args in number_at (form_no a.form) a.doc.now 4 a.at
-    ≡ got c.before.n.given.0.0
-is c = sym c.before.before.before.number.ensures ∙ ap num_out c.before.n.given.1
+is : (c : tie.In-Is) → let a = c.args in number_at (form_no a.form) a.doc.now 4 a.at
+    ≡ got c.in-Is.n
+is c = sym c.before.number.ensures ∙ ap num_out c.in-Is.is
 
-mul-bytes-at : tie.Need-overflow-mul-bytes-at
-mul-bytes-at c =
-    let at_count = c.before.before in
-    let at-number = at_count.before.before in
-    omega (arith, mul-le-mul_left at_count.n.given.0.0 at-number.before.before.requires.0)
+mul-bytes_at : tie.Need-overflow_mul-n
+mul-bytes_at c =
+    omega (arith, mul-le-mul_left c.in-Is.n c.requires.0)
 
-bytes-at-requires : tie.Need-bytes-at-requires
-bytes-at-requires c κs = number-within _ _ 4 _ (is c.before)
+bytes_at-requires : tie.Need-bytes_at-requires
+bytes_at-requires c κs = number-within _ _ 4 _ (is c.before)
 
-returns : tie.Need-returns
-returns c = sym (array-no _ _ _ _ (sym c.before.before.before.number.ensures ∙ ap num_out c.before.p.given.1))
+returns : tie.Need-returns-in-Short
+returns c = sym (array-no _ _ _ _ (sym c.before.number.ensures ∙ ap num_out c.in-Short.is))
 
-returns-2 : tie.Need-returns-2
-returns-2 c = c.bytes-at.ensures ∙ sym (array-got _ _ _ _ _ (is c.before.before) c.before.if1.true)
+returns-2 : tie.Need-returns-then-n-lt-BELOW_ZERO
+returns-2 c = c.bytes_at.ensures ∙ sym (array-got _ _ _ _ _ (is c.before.before) c.before.if-n-lt-BELOW_ZERO.true)
 
-returns-3 : tie.Need-returns-3
-returns-3 c = sym (array-below _ _ _ _ _ (is c.before) c.if1.false)
+returns-3 : tie.Need-returns-else-n-lt-BELOW_ZERO
+returns-3 c = sym (array-below _ _ _ _ _ (is c.before) c.if-n-lt-BELOW_ZERO.false)
 
-pub array-at-spec : {M : Type 1} → statement M
-array-at-spec =
+pub array_at_spec : {M : Type 1} → statement M
+array_at_spec =
     tie.close
     (tie.spec
     (λ c κs. search rules)
     (λ c. search rules)
     (λ c. search rules)
-    mul-bytes-at
+    mul-bytes_at
     (λ c. search rules)
-    bytes-at-requires
+    bytes_at-requires
     returns
     returns-2
     returns-3)

@@ -6,14 +6,14 @@ use Rattle.form.proofs.Fields.{entry-end, entry-last}
 use Rattle.nbt_fields.proofs.entry_at.Statement.{statement}
 use Rattle.nbt_fields.proofs.entry_at.Tie as tie
 
-returns : tie.Need-returns
-returns c = sym (entry-end _ _ _ c.if1.true)
+returns : tie.Need-returns-then-doc-at
+returns c = sym (entry-end _ _ _ c.if-doc-at.true)
 
-returns-2 : tie.Need-returns-2
-returns-2 c = sym (entry-last _ _ _ c.before.before.if1.false c.if2.true)
+returns-2 : tie.Need-returns-then-kind-eq-END
+returns-2 c = sym (entry-last _ _ _ c.before.before.if-doc-at.false c.if-kind-eq-END.true)
 
-pub entry-at-spec : {M : Type 1} → statement M
-entry-at-spec =
+pub entry_at_spec : {M : Type 1} → statement M
+entry_at_spec =
     tie.close
     (tie.spec
     returns

@@ -7,22 +7,19 @@ use Rattle.nbt_fields.specs.Answers.{num_out}
 use Rattle.nbt_fields.proofs.list_head.Statement.{statement}
 use Rattle.nbt_fields.proofs.list_head.Tie as tie
 
-returns-2 : tie.Need-returns-2
+returns-2 : tie.Need-returns-in-Short
 returns-2 c =
-    let at-number = c.before.before.before in
-    sym (list-head-no _ _ _ at-number.before.before.if1.false (sym at-number.number.ensures ∙ ap num_out c.before.p.given.1))
+    sym (list-head-no _ _ _ c.if-doc-at.false (sym c.number.ensures ∙ ap num_out c.in-Short.is))
 
-returns-3 : tie.Need-returns-3
+returns-3 : tie.Need-returns-in-Is
 returns-3 c =
-    let at_count = c.before.before in
-    let at-number = at_count.before.before in
-    c.judge-head.ensures _ _ at-number.before.before.if1.false refl (sym at-number.number.ensures ∙ ap num_out at_count.count.given.1)
+    c.judge_head.ensures _ _ c.if-doc-at.false refl (sym c.number.ensures ∙ ap num_out c.in-Is.is)
 
-pub list-head-spec : {M : Type 1} → statement M
-list-head-spec =
+pub list_head_spec : {M : Type 1} → statement M
+list_head_spec =
     tie.close
     (tie.spec
-    (λ c. sym (list-head-end _ _ _ c.if1.true))
+    (λ c. sym (list-head-end _ _ _ c.if-doc-at.true))
     (λ c. search rules)
     (λ c. search rules)
     (λ c κs. search rules)

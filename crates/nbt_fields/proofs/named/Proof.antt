@@ -23,29 +23,24 @@ named-as form doc at k j s l x e n f =
     ∙ ap (λ y. got (named j (record { start = s; size = l; count = 0; next = y }))) n
     ∙ sym f
 
-returns : tie.Need-returns
+returns : tie.Need-returns-then-kind-gt-LONG_ARRAY
 returns c =
-    let at-start = c.before.before in
-    let at_name = at-start.before.before in
-    let p = at_name.before.before.requires in
-    sym (entry-kind _ _ _ p.0 (λ z. p.2 (p.1 ∙ z)) (sym at_name.string-at.ensures ∙ ap part_out at-start.start.given.1) (omega (arith, p.1, c.if1.true)))
+    let p = c.requires in
+    sym (entry-kind _ _ _ p.0 (λ z. p.2 (p.1 ∙ z)) (sym c.string_at.ensures ∙ ap part_out c.in-Is.is) (omega (arith, p.1, c.if-kind-gt-LONG_ARRAY.true)))
 
-returns-2 : tie.Need-returns-2
+returns-2 : tie.Need-returns-in-No
 returns-2 c =
-    let at_name = c.before.before.before in
-    let p = at_name.before.before.requires in
-    sym (entry-no _ _ _ p.0 (λ z. p.2 (p.1 ∙ z)) (sym at_name.string-at.ensures ∙ ap part_out c.before.number.given.1))
+    let p = c.requires in
+    sym (entry-no _ _ _ p.0 (λ z. p.2 (p.1 ∙ z)) (sym c.string_at.ensures ∙ ap part_out c.in-No.is))
 
-returns-3 : tie.Need-returns-3
+returns-3 : tie.Need-returns-else-kind-gt-LONG_ARRAY
 returns-3 c =
-    let at-start = c.before.before in
-    let at_name = at-start.before.before in
-    let p = at_name.before.before.requires in
-    let read = sym at_name.string-at.ensures ∙ ap part_out at-start.start.given.1 in
-    named-as _ _ _ _ _ _ _ _ p.1 (string-within _ _ _ read).sum (entry-got _ _ _ p.0 (λ z. p.2 (p.1 ∙ z)) read (omega (arith, p.1, c.if1.false)))
+    let p = c.requires in
+    let read = sym c.string_at.ensures ∙ ap part_out c.in-Is.is in
+    named-as _ _ _ _ _ _ _ _ p.1 (string-within _ _ _ read).sum (entry-got _ _ _ p.0 (λ z. p.2 (p.1 ∙ z)) read (omega (arith, p.1, c.if-kind-gt-LONG_ARRAY.false)))
 
-pub named-spec : {M : Type 1} → statement M
-named-spec =
+pub named_spec : {M : Type 1} → statement M
+named_spec =
     tie.close
     (tie.spec
     (λ c. search rules)  -- add-string-at

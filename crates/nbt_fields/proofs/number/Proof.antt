@@ -11,15 +11,15 @@ use Rattle.form.proofs.Fields.{number-got, number-no}
 use Rattle.nbt_fields.proofs.number.Statement.{statement}
 use Rattle.nbt_fields.proofs.number.Tie as tie
 
-returns : tie.Need-returns
+returns : tie.Need-returns-then-doc-at
 returns c = sym (number-no _ _ _ _ (omega arith))
 
-returns-2 : tie.Need-returns-2
+returns-2 : tie.Need-returns
 returns-2 c =
     let at-pocket = c.before in
     let a = at-pocket.before.before.before.args in
-    let order : order_in at-pocket.is-pocket.result ≡ (form_no a.form).order = ap order_in at-pocket.is-pocket.ensures in
+    let order : order_in at-pocket.is_pocket.result ≡ (form_no a.form).order = ap order_in at-pocket.is_pocket.ensures in
     ap got (c.number_in.ensures.is ∙ ap (λ o. number_in o (part a.doc.now a.at a.n)) order) ∙ sym (number-got _ _ _ _ (omega arith))
 
-pub number-spec : {M : Type 1} → statement M
-number-spec = tie.close (tie.spec (λ c. search rules) returns (λ c κs. search rules) (λ c κs. search rules) returns-2)
+pub number_spec : {M : Type 1} → statement M
+number_spec = tie.close (tie.spec (λ c. search rules) returns (λ c κs. search rules) (λ c κs. search rules) returns-2)

@@ -8,7 +8,7 @@ use Rattle.nbt_fields.proofs.width_of.Statement.{statement}
 use Rattle.nbt_fields.proofs.width_of.Tie as tie
 
 returns : tie.Need-returns
-returns c = (c.width-of.ensures ∙ ap width_of c.before.wide.ensures, rw c.width-of.ensures (width-le c.before.wide.result))
+returns c = (c.width_of.ensures ∙ ap width_of c.before.wide.ensures, rw c.width_of.ensures (width-le c.before.wide.result))
 
-pub width-of-spec : {M : Type 1} → statement M
-width-of-spec = tie.close (tie.spec (λ c κs. search rules) (λ c κs. search rules) returns)
+pub width_of_spec : {M : Type 1} → statement M
+width_of_spec = tie.close (tie.spec (λ c κs. search rules) (λ c κs. search rules) returns)
