@@ -1,5 +1,7 @@
 // Strings and numbers as they are written in another form (02, [2]): a string's characters by the other rule, a number's bytes in the other
 // order. What both forms have alike, runs of plain bytes too, is copied as it stands.
+#![tactic(auto)]
+
 ghost use Rattle.std.specs.Prelude.{◌≡◌, ◌+◌, ◌*◌, ◌≤◌, ◌<◌, length, false};
 ghost use Rattle.form.specs.Form.{way_no, same_rule};
 ghost use Rattle.form.specs.Spans.{part, over};

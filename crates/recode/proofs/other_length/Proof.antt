@@ -42,8 +42,8 @@ abbrev value_of : tie.After-length_in-total invariant-loop decreases-loop → ti
 value_of c = c.before.before
 
 -- the character that was read
-read : (c : tie.In-Is invariant-loop decreases-loop) → let l = turn-of (run_of (call-of c)) in let a = (start_of l).args in let v = c.c-1.given.0 in
-    one_of (way_no a.way).from.strings (drop l.loop-i.i a.s.now) ≡ is v.0 v.1.0
+read : (c : tie.In-Is invariant-loop decreases-loop) → let l = turn-of (run_of (call-of c)) in let a = (start_of l).args in let v = c.in-Is in
+    one_of (way_no a.way).from.strings (drop l.loop-i.i a.s.now) ≡ is v.c v.n
 read c =
     let at_call = call-of c in
     let l = turn-of (run_of at_call) in

@@ -96,8 +96,8 @@ copy-requires : tie.Need-copy-requires invariant-loop decreases-loop
 copy-requires c κs = let run = (found_of c).plain_end-run.ensures in (omega (arith, run.0, run.1), room (found_of c))
 
 -- the character that was read
-read : (c : tie.In-Is invariant-loop decreases-loop) → let l = turn-of (run_of (call-of c)) in let a = (start_of l).args in let v = c.c-1.given.0 in
-    one_of (way_no a.way).from.strings (drop l.loop-i.i a.s.now) ≡ is v.0 v.1.0
+read : (c : tie.In-Is invariant-loop decreases-loop) → let l = turn-of (run_of (call-of c)) in let a = (start_of l).args in let v = c.in-Is in
+    one_of (way_no a.way).from.strings (drop l.loop-i.i a.s.now) ≡ is v.c v.n
 read c =
     let at_call = call-of c in
     let l = turn-of (run_of at_call) in
@@ -114,8 +114,8 @@ reached c =
     W.reach (coding_of (way_no a.way).from.strings) a.s.now l.loop-i.i _ _ (run_of at_call).before.loop-i-test.true (read c)
 
 -- with it the walk has come further
-further : (c : tie.In-Is invariant-loop decreases-loop) → let l = turn-of (run_of (call-of c)) in let a = (start_of l).args in let v = c.c-1.given.0 in
-    Come (way_no a.way) a.s.now (l.loop-i.i + v.1.0) (l.loop-i.invariant.0 ++ enc_of (way_no a.way).to.strings v.0)
+further : (c : tie.In-Is invariant-loop decreases-loop) → let l = turn-of (run_of (call-of c)) in let a = (start_of l).args in let v = c.in-Is in
+    Come (way_no a.way) a.s.now (l.loop-i.i + v.n) (l.loop-i.invariant.0 ++ enc_of (way_no a.way).to.strings v.c)
 further c =
     let at_call = call-of c in
     let l = turn-of (run_of at_call) in
@@ -162,7 +162,7 @@ loop-again-2 c =
     let bs = enc_of (way_no a.way).to.strings v.in-Is.c in (
       l.loop-i.invariant.0 ++ bs,
       (reached v).1,
-      puts-more l.loop-i.invariant.0 a.out-1.now l.loop-i.out-1 a.at l.loop-i.here (fits l) l.loop-i.invariant.2 bs _ _
+      puts-more l.loop-i.invariant.0 a.out.now l.loop-i.out a.at l.loop-i.here (fits l) l.loop-i.invariant.2 bs _ _
           (wrote a.way _ v.in-Is.c _ _ _ _ at-put.before.target.ensures at-put.put_in-here.ensures),
       further v,
     )
@@ -204,7 +204,7 @@ put_other_spec =
     (λ c. omega (arith, reached (value_of (put_of c).before)))
     loop-again-2
     (λ c. search rules)
-    (λ c. long (turn-of (run_of c.before.before)))
+    (λ c. long (turn-of (run_of c.before)))
     returns
     (λ c. long c.before)
     returns-2)
