@@ -19,27 +19,28 @@ use Rattle.snbt_numbers.proofs.Tokens.{some_bytes}
 use Rattle.snbt_numbers.proofs.wholes.whole_at.Statement.{statement}
 use Rattle.snbt_numbers.proofs.wholes.whole_at.Tie as tie
 
-bytes : (a : tie.Start) → List ℕ
-bytes a = slice a.args.from a.args.to a.args.text.now
+bytes : (from to : ℕ) (text : List ℕ) → List ℕ
+bytes from to text = slice from to text
 
 -- in the arm of a value: its digits and its number
-says : (c : tie.In-Value) → let l = bytes c.before.before.before.before in (digits l ≡ true) × (c.in-Value.n ≡ min (worth 0 l) cap)
+says : (c : tie.In-Value) → let l = bytes c.args.from c.args.to c.args.text.now in (digits l ≡ true) × (c.in-Value.n ≡ min (worth 0 l) cap)
 unfolding bytes
 says c = value-says 0 c.in-Value.n _ (sym c.in-Value.is ∙ c.digits_from-d.ensures)
 
 -- the test of its range, by the sign
-ranged : (c : tie.In-Value) {s t : Bool} → c.args.negative ≡ s → let w = worth 0 (bytes c.before.before.before.before) in
+ranged : (c : tie.In-Value) {s t : Bool} → c.args.negative ≡ s → let w = worth 0 (bytes c.args.from c.args.to c.args.text.now) in
     leb w (pick s (2 ^ 63) (2 ^ 63 - 1)) ≡ t → leb w (pick c.args.negative (2 ^ 63) (2 ^ 63 - 1)) ≡ t
-ranged c e l = ap (λ (s : Bool). leb (worth 0 (bytes c.before.before.before.before)) (pick s (2 ^ 63) (2 ^ 63 - 1))) e ∙ l
+ranged c e l = ap (λ (s : Bool). leb (worth 0 (bytes c.args.from c.args.to c.args.text.now)) (pick s (2 ^ 63) (2 ^ 63 - 1))) e ∙ l
 
 -- a value within it
-good : (c : tie.In-Value) → c.in-Value.n ≤ 2 ^ 63 → leb (worth 0 (bytes c.before.before.before.before)) (pick c.args.negative (2 ^ 63) (2 ^ 63 - 1)) ≡ true
-    → Value c.in-Value.n ≡ whole_digits c.args.negative (bytes c.before.before.before.before)
+good : (c : tie.In-Value) → c.in-Value.n ≤ 2 ^ 63 → leb (worth 0 (bytes c.args.from c.args.to c.args.text.now)) (pick c.args.negative (2 ^ 63) (2 ^ 63 - 1)) ≡ true
+    → Value c.in-Value.n ≡ whole_digits c.args.negative (bytes c.args.from c.args.to c.args.text.now)
 unfolding bytes
-good c h l =
+good c h r =
+    let l = bytes c.args.from c.args.to c.args.text.now in
     let w = says c in
     let some = some_bytes c.args.from c.args.to c.args.text.now c.if-to-from.false c.requires.1 in
-    whole_is c.args.negative (bytes c.before.before.before.before) c.in-Value.n some w.0 l (uncapped (worth 0 (bytes c.before.before.before.before)) c.in-Value.n w.1 h)
+    whole_is c.args.negative l c.in-Value.n some w.0 r (uncapped (worth 0 l) c.in-Value.n w.1 h)
 
 pub whole_at_spec : {M : Type 1} → statement M
 whole_at_spec =
@@ -50,14 +51,17 @@ whole_at_spec =
     (λ c. search rules)
     (λ c. search rules)
     (λ c. unfold bytes in
-    whole-far c.args.negative (bytes c.before.before.before.before.before) (past c.args.negative (worth 0 (bytes c.before.before.before.before.before)) c.in-Value.n (says c.before).1 c.if-n-gt9223372036854775808.true))
+    let l = bytes c.args.from c.args.to c.args.text.now in
+    whole-far c.args.negative l (past c.args.negative (worth 0 l) c.in-Value.n (says c.before).1 c.if-n-gt9223372036854775808.true))
     (λ c. unfold bytes in
     let l = c.if-n-gt9223372036854775808.false in
-    good c.before.before l (ranged c.before.before c.if-negative.true (le-leb (worth 0 (bytes c.before.before.before.before.before.before)) (2 ^ 63) (omega (arith, (says c.before.before).1, l)))))
+    good c.before.before l (ranged c.before.before c.if-negative.true (le-leb (worth 0 (bytes c.args.from c.args.to c.args.text.now)) (2 ^ 63) (omega (arith, (says c.before.before).1, l)))))
     (λ c. unfold bytes in
-    whole-far c.args.negative (bytes c.before.before.before.before.before.before.before) (ranged c.before.before.before c.if-negative.false (lt-leb (worth 0 (bytes c.before.before.before.before.before.before.before)) (2 ^ 63 - 1) (omega (arith, (says c.before.before.before).1, c.if-n-gt9223372036854775807.true)))))
+    let l = lt-leb (worth 0 (bytes c.args.from c.args.to c.args.text.now)) (2 ^ 63 - 1) (omega (arith, (says c.before.before.before).1, c.if-n-gt9223372036854775807.true)) in
+    whole-far c.args.negative (bytes c.args.from c.args.to c.args.text.now) (ranged c.before.before.before c.if-negative.false l))
     (λ c.
     let a = c.args in
     whole-none a.negative _ (bad-says 0 (slice a.from a.to a.text.now) (sym c.in-Bad.is ∙ c.digits_from-d.ensures)))
     (λ c. unfold bytes in
-    good c.before.before.before c.if-n-gt9223372036854775808.false (ranged c.before.before.before c.if-negative.false (le-leb (worth 0 (bytes c.before.before.before.before.before.before.before)) (2 ^ 63 - 1) (omega (arith, (says c.before.before.before).1, c.if-n-gt9223372036854775807.false))))))
+    let l = le-leb (worth 0 (bytes c.args.from c.args.to c.args.text.now)) (2 ^ 63 - 1) (omega (arith, (says c.before.before.before).1, c.if-n-gt9223372036854775807.false)) in
+    good c.before.before.before c.if-n-gt9223372036854775808.false (ranged c.before.before.before c.if-negative.false l)))
