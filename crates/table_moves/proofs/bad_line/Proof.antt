@@ -6,11 +6,11 @@ use Rattle.table_moves.proofs.Taking.{bad-many, bad-few}
 use Rattle.table_moves.proofs.bad_line.Statement.{statement}
 use Rattle.table_moves.proofs.bad_line.Tie as tie
 
-returns : tie.Need-returns
-returns c = bad-many _ _ (omega (arith, c.if1.true, c.before.count-lines.ensures))
+returns : tie.Need-returns-then-count_lines-gt-RECORDS
+returns c = bad-many _ _ (omega (arith, c.if-count_lines-gt-RECORDS.true, c.before.count_lines.ensures))
 
-returns-2 : tie.Need-returns-2
-returns-2 c = bad-few _ _ (omega (arith, c.if1.false, c.before.count-lines.ensures))
+returns-2 : tie.Need-returns
+returns-2 c = bad-few _ _ (omega (arith, c.if-count_lines-gt-RECORDS.false, c.before.count_lines.ensures))
 
-pub bad-line-spec : {M : Type 1} → statement M
-bad-line-spec = tie.close (tie.spec (λ c κs. search rules) returns returns-2)
+pub bad_line_spec : {M : Type 1} → statement M
+bad_line_spec = tie.close (tie.spec (λ c κs. search rules) returns returns-2)

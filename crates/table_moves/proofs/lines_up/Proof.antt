@@ -12,42 +12,40 @@ use Rattle.table_moves.proofs.lines_up.Statement.{statement}
 use Rattle.table_moves.proofs.lines_up.Tie as tie
 
 -- Places by name: the lines are judged, and the function starts.
-abbrev judge-of : tie.After-known-told2 → tie.After-judge
+abbrev judge-of : tie.In-Done → tie.After-judge
 judge-of c = let at-match = c.before.before in at-match.before
 
 abbrev start_of : tie.After-judge → tie.Start
 start_of c = c.before.before.before
 
 -- The lines may move, and there is room.
-judged : (c : tie.After-known-told2)
-    → Judged false (start_of (judge-of c)).args.doc-len (start_of (judge-of c)).args.lines.now c.before.n.given.0.0
-    × (73 * c.before.n.given.0.0 ≤ length (start_of (judge-of c)).args.out.now)
-judged c = told-judged false _ _ _ c.before.n.given.1 (judge-of c).judge.ensures
+judged : (c : tie.In-Done)
+    → Judged false (start_of (judge-of c)).args.doc_len (start_of (judge-of c)).args.lines.now c.before.in-Done.n
+    × (73 * c.before.in-Done.n ≤ length (start_of (judge-of c)).args.out-1.now)
+judged c = told-judged false _ _ _ c.before.in-Done.is (judge-of c).judge.ensures
 
-put-up-requires : tie.Need-put-up-requires
-put-up-requires c κs = let j = judged c.before in (planted false _ _ _ j.0, j.1)
+put_up-requires : tie.Need-put_up-requires
+put_up-requires c κs = let j = judged c.before in (planted false _ _ _ j.0, j.1)
 
-returns : tie.Need-returns
+returns : tie.Need-returns-in-Refused
 returns c =
-    let at-number = c.before in
-    let at-judge = at-number.before.before in
-    told-judged false _ _ _ at-number.number.given.1 at-judge.judge.ensures _ refl
+    told-judged false _ _ _ c.in-Refused.is c.judge.ensures _ refl
 
 -- Behind the call that puts the lines.
-abbrev told_of : tie.After-slice-known2 → tie.After-known-told2
+abbrev told_of : tie.After-slice_known-in-Done-1 → tie.In-Done
 told_of c = let at-put = c.before.before in at-put.before.before
 
-returns-2 : tie.Need-returns-2
+returns-2 : tie.Need-returns-in-Done
 returns-2 c = let j = judged (told_of c) in moved false _ _ _ j.0 _ _ j.1 c.before.before.put_up.ensures
 
-pub lines-up-spec : {M : Type 1} → statement M
-lines-up-spec =
+pub lines_up_spec : {M : Type 1} → statement M
+lines_up_spec =
     tie.close
     (tie.spec
     (λ c κs. search rules)
     (λ c. search rules)
     (λ c. search rules)
-    put-up-requires
+    put_up-requires
     (λ c. omega (arith, (judged (told_of c)).1))
     returns
     (λ c. search rules)

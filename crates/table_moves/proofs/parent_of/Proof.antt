@@ -10,28 +10,28 @@ use Rattle.table_moves.proofs.Parents.{root-innermost, found, climbs-on, climbed
 use Rattle.table_moves.proofs.parent_of.Statement.{statement}
 use Rattle.table_moves.proofs.parent_of.Tie as tie
 
-abbrev Inv : tie.invariant-loop
+abbrev Inv : tie.invariant-loop-q
 Inv lines i out q₀ q = (q < i) × ((m : ℕ) → q < m → m < i → line_word eight lines m 7 ≤ i)
 
-abbrev μ : tie.decreases-loop
+abbrev μ : tie.decreases-loop-q
 μ lines i out q₀ q = q
 
 -- Where the function starts, from where i is known not to be the root, and from the loop.
-abbrev first_of : tie.Else1 Inv μ → tie.Start Inv μ
+abbrev first_of : tie.Else-i-eq0 Inv μ → tie.Start Inv μ
 first_of c = c.before.before.before
 
-abbrev start_of : tie.At-loop Inv μ → tie.Start Inv μ
+abbrev start_of : tie.At-loop-q Inv μ → tie.Start Inv μ
 start_of c = first_of c.before
 
 -- The loop, from where the parent of a record that has ended is read.
-abbrev loop-of : tie.After-word2 Inv μ → tie.At-loop Inv μ
+abbrev loop-of : tie.After-word-q Inv μ → tie.At-loop-q Inv μ
 loop-of c = c.before.before.before
 
-loop-holds : tie.Need-loop-init Inv μ
-loop-holds c = let some = c.if1.false in (omega arith, λ m lo hi. absurd (omega arith))
+loop-holds : tie.Need-loop-q-init Inv μ
+loop-holds c = let some = c.if-i-eq0.false in (omega arith, λ m lo hi. absurd (omega arith))
 
 -- The record that the climb comes from has ended, and its parent is known.
-module _ (c : tie.After-word2 Inv μ) where
+module _ (c : tie.After-word-q Inv μ) where
   abbrev start : tie.Start Inv μ
   start = start_of (loop-of c)
 
@@ -39,41 +39,41 @@ module _ (c : tie.After-word2 Inv μ) where
   get = line_word eight start.args.lines.now
 
   abbrev q : ℕ
-  q = (loop-of c).loop.q
+  q = (loop-of c).loop-q.q
 
   ended : get q 7 ≤ start.args.i
-  ended = subst (λ x. x ≤ start.args.i) c.before.before.word.ensures c.before.if2.true
+  ended = subst (λ x. x ≤ start.args.i) c.before.before.word.ensures c.before.loop-q-test.true
 
-  parent : Innermost get q c.word2.result
-  parent = subst (Innermost get q) (sym c.word2.ensures) (start.pre.parents q (loop-of c).loop.invariant.0)
+  parent : Innermost get q c.word-q.result
+  parent = subst (Innermost get q) (sym c.word-q.ensures) (start.requires.parents q (loop-of c).loop-q.invariant.0)
 
-loop-less : tie.Need-loop-smaller Inv μ
+loop-less : tie.Need-loop-q-smaller Inv μ
 loop-less c =
-    let l = (loop-of c).loop in
-    (parent c).before (climbs-on _ _ l.q l.inv.0 l.inv.1 (ended c) (start_of (loop-of c)).pre.root _ (parent c))
+    let l = (loop-of c).loop-q in
+    (parent c).before (climbs-on _ _ l.q l.invariant.0 l.invariant.1 (ended c) (start_of (loop-of c)).requires.root _ (parent c))
 
-loop-again : tie.Need-loop-preserved Inv μ
+loop-again : tie.Need-loop-q-preserved Inv μ
 loop-again c =
-    let l = (loop-of c).loop in
-    climbed _ _ l.q l.inv.0 l.inv.1 (ended c) (start_of (loop-of c)).pre.root _ (parent c)
+    let l = (loop-of c).loop-q in
+    climbed _ _ l.q l.invariant.0 l.invariant.1 (ended c) (start_of (loop-of c)).requires.root _ (parent c)
 
-returns : tie.Need-returns-2 Inv μ
+returns : tie.Need-returns Inv μ
 returns c =
     let at-word = c.before in
-    let l = at-word.before.loop in
-    found _ _ l.q l.invariant.0 l.invariant.1 (subst (λ x. (start_of at-word.before).args.i < x) at-word.word.ensures c.if2.false)
+    let l = at-word.before.loop-q in
+    found _ _ l.q l.invariant.0 l.invariant.1 (subst (λ x. (start_of at-word.before).args.i < x) at-word.word.ensures c.loop-q-test.false)
 
-pub parent-of-spec : {M : Type 1} → statement M
-parent-of-spec =
+pub parent_of_spec : {M : Type 1} → statement M
+parent_of_spec =
     tie.close
     (tie.spec
     Inv
     μ
-    (λ c. root-innermost _ _ c.if1.true)
-    (λ c. omega (arith, c.if1.false))
+    (λ c. root-innermost _ _ c.if-i-eq0.true)
+    (λ c. omega (arith, c.if-i-eq0.false))
     loop-holds
-    (λ c κs. (start_of c).requires.ends c.loop.q c.loop.invariant.0)
-    (λ c κs. let at-loop = c.before.before in (start_of at-loop).requires.there at-loop.loop.q at-loop.loop.invariant.0)
+    (λ c κs. (start_of c).requires.ends c.loop-q.q c.loop-q.invariant.0)
+    (λ c κs. let at-loop = c.before.before in (start_of at-loop).requires.there at-loop.loop-q.q at-loop.loop-q.invariant.0)
     loop-less
     loop-again
     returns)

@@ -14,61 +14,61 @@ use Rattle.table_moves.proofs.Planting.{old_words_of, line-there-down, down-next
 use Rattle.table_moves.proofs.put_down.Statement.{statement}
 use Rattle.table_moves.proofs.put_down.Tie as tie
 
-abbrev Inv : tie.invariant-loop
+abbrev Inv : tie.invariant-loop-i
 Inv lines n out₀ i₀ out i =
     (i ≤ n) × (length out ≡ length out₀) × ((p : Planted nine lines n) → out ≡ over out₀ 0 (lines_of 8 i (old_words_of lines n p)))
 
-abbrev μ : tie.decreases-loop
+abbrev μ : tie.decreases-loop-i
 μ lines n out₀ i₀ out i = n - i
 
 -- Where the function starts, from its loop.
-abbrev start_of : tie.At-loop Inv μ → tie.Start Inv μ
+abbrev start_of : tie.At-loop-i Inv μ → tie.Start Inv μ
 start_of c = c.before.before.before
 
-loop-holds : tie.Need-loop-init Inv μ
+loop-holds : tie.Need-loop-i-init Inv μ
 unfolding lines_of
 loop-holds c = (omega arith, refl, λ p. sym (over_none _ _))
 
 -- The loop, from where a line is put, and from behind it.
-abbrev loop-of : tie.After-put-down-line-arg Inv μ → tie.At-loop Inv μ
+abbrev loop-of : tie.After-put_down_line-arg-1 Inv μ → tie.At-loop-i Inv μ
 loop-of c = c.before.before
 
-put-down-line-requires : tie.Need-put-down-line-requires Inv μ
-put-down-line-requires c κs =
+put_down_line-requires : tie.Need-put_down_line-requires Inv μ
+put_down_line-requires c κs =
     let at-loop = loop-of c in
     let start = start_of at-loop in
-    let h = c.before.loop-test.true in
-    (line-there-down _ _ start.pre.0 at-loop.loop.i h, omega (arith, start.pre.1, h, at-loop.loop.inv.1))
+    let h = c.before.loop-i-test.true in
+    (line-there-down _ _ start.requires.0 at-loop.loop-i.i h, omega (arith, start.requires.1, h, at-loop.loop-i.invariant.1))
 
-loop-again : tie.Need-loop-preserved Inv μ
+loop-again : tie.Need-loop-i-preserved Inv μ
 loop-again c =
     let at-put = c.before.before in
     let at_arg = at-put.before in
-    let h = at_arg.before.loop-test.true in
-    let l = (loop-of at_arg).loop in
+    let h = at_arg.before.loop-i-test.true in
+    let l = (loop-of at_arg).loop-i in
     let start = start_of (loop-of at_arg) in (
       omega (arith, h),
-      at-put.put-down-line.auto.1.1.0 ∙ l.inv.1,
-      λ p. down-next _ _ p l.i h _ l.out _ start.pre.1 (l.inv.2 p) at-put.put-down-line.ensures,
+      at-put.put_down_line.auto.out.1.0 ∙ l.invariant.1,
+      λ p. down-next _ _ p l.i h _ l.out _ start.requires.1 (l.invariant.2 p) at-put.put_down_line.ensures,
     )
 
 returns : tie.Need-returns Inv μ
 returns c =
-    let l = c.before.loop in
+    let l = c.before.loop-i in
     let start = start_of c.before in
-    let p = start.pre.0 in
-    down-all _ _ p _ _ (subst (λ k. l.out ≡ over start.args.out.now 0 (lines_of 8 k (old_words_of _ _ p))) (le_antisymm l.invariant.0 c.loop-test.false) (l.invariant.2 p))
+    let p = start.requires.0 in
+    down-all _ _ p _ _ (subst (λ k. l.out ≡ over start.args.out.now 0 (lines_of 8 k (old_words_of _ _ p))) (le_antisymm l.invariant.0 c.loop-i-test.false) (l.invariant.2 p))
 
-pub put-down-spec : {M : Type 1} → statement M
-put-down-spec =
+pub put_down_spec : {M : Type 1} → statement M
+put_down_spec =
     tie.close
     (tie.spec
     Inv
     μ
     loop-holds
-    put-down-line-requires
+    put_down_line-requires
     (λ c. omega arith)
     (λ c. omega arith)
     loop-again
-    (λ c. c.before.loop.invariant.1)
+    (λ c. c.before.loop-i.invariant.1)
     returns)

@@ -17,8 +17,8 @@ returns c =
     let i = start.args.i in
     down-line o s (65 * i) (73 * i) start.requires.0 _ at_front.copy.ensures (omega (arith, start.requires.1))
 
-pub put-down-line-spec : {M : Type 1} → statement M
-put-down-line-spec =
+pub put_down_line_spec : {M : Type 1} → statement M
+put_down_line_spec =
     tie.close
     (tie.spec
     (λ c. search rules)

@@ -14,75 +14,75 @@ use Rattle.table_moves.proofs.Planting.{new_words_of, line-there-up, parent-few,
 use Rattle.table_moves.proofs.put_up.Statement.{statement}
 use Rattle.table_moves.proofs.put_up.Tie as tie
 
-abbrev Inv : tie.invariant-loop
+abbrev Inv : tie.invariant-loop-i
 Inv lines n out₀ i₀ out i =
     (i ≤ n) × (length out ≡ length out₀) × ((p : Planted eight lines n) → out ≡ over out₀ 0 (lines_of 9 i (new_words_of lines n p)))
 
-abbrev μ : tie.decreases-loop
+abbrev μ : tie.decreases-loop-i
 μ lines n out₀ i₀ out i = n - i
 
 -- Where the function starts, from its loop.
-abbrev start_of : tie.At-loop Inv μ → tie.Start Inv μ
+abbrev start_of : tie.At-loop-i Inv μ → tie.Start Inv μ
 start_of c = c.before.before.before
 
-loop-holds : tie.Need-loop-init Inv μ
+loop-holds : tie.Need-loop-i-init Inv μ
 unfolding lines_of
 loop-holds c = (omega arith, refl, λ p. sym (over_none _ _))
 
 -- The loop, from where the parent is asked for, and that place, from where the line is put.
-abbrev loop-of : tie.After-parent-of-arg Inv μ → tie.At-loop Inv μ
+abbrev loop-of : tie.After-parent_of-arg Inv μ → tie.At-loop-i Inv μ
 loop-of c = c.before.before
 
-abbrev ask-of : tie.After-put-up-line-arg Inv μ → tie.After-parent-of-arg Inv μ
+abbrev ask-of : tie.After-put_up_line-arg-1 Inv μ → tie.After-parent_of-arg Inv μ
 ask-of c = c.before.before
 
-parent-of-requires : tie.Need-parent-of-requires Inv μ
-parent-of-requires c κs =
-    let l = (loop-of c).loop in
+parent_of-requires : tie.Need-parent_of-parent-requires Inv μ
+parent_of-requires c κs =
+    let l = (loop-of c).loop-i in
     let start = start_of (loop-of c) in
-    let p = start.pre.0 in
-    climbable _ _ p _ l.out start.pre.1 l.i c.before.loop-test.true (l.inv.2 p) l.inv.1
+    let p = start.requires.0 in
+    climbable _ _ p _ l.out-1 start.requires.1 l.i c.before.loop-i-test.true (l.inv.2 p) l.inv.1
 
-put-up-line-requires : tie.Need-put-up-line-requires Inv μ
-put-up-line-requires c κs =
+put_up_line-requires : tie.Need-put_up_line-requires Inv μ
+put_up_line-requires c κs =
     let at-ask = ask-of c in
-    let l = (loop-of at-ask).loop in
-    let h = at-ask.before.loop-test.taken in
+    let l = (loop-of at-ask).loop-i in
+    let h = at-ask.before.loop-i-test.taken in
     let start = start_of (loop-of at-ask) in
-    let p = start.pre.0 in
-    (line-there-up _ _ p l.i h, omega (arith, start.pre.1, h, l.inv.1), parent-few _ _ p l.i _ h c.before.parent_of.ensures)
+    let p = start.requires.0 in
+    (line-there-up _ _ p l.i h, omega (arith, start.requires.1, h, l.inv.1), parent-few _ _ p l.i _ h c.before.parent_of-parent.ensures)
 
-loop-again : tie.Need-loop-preserved Inv μ
+loop-again : tie.Need-loop-i-preserved Inv μ
 loop-again c =
     let at-put = c.before.before in
     let at_arg = at-put.before in
     let at-ask = ask-of at_arg in
-    let h = at-ask.before.loop-test.taken in
-    let l = (loop-of at-ask).loop in
+    let h = at-ask.before.loop-i-test.taken in
+    let l = (loop-of at-ask).loop-i in
     let start = start_of (loop-of at-ask) in (
       omega (arith, h),
-      at-put.put-up-line.auto.1.1.1.0 ∙ l.inv.1,
-      λ p. up_next _ _ p _ l.out start.pre.1 l.i h (l.inv.2 p) _ at_arg.before.parent_of.ensures _ at-put.put-up-line.ensures,
+      at-put.put_up_line.auto.1.1.1.0 ∙ l.inv.1,
+      λ p. up_next _ _ p _ l.out-1 start.requires.1 l.i h (l.inv.2 p) _ at_arg.before.parent_of-parent.ensures _ at-put.put_up_line.ensures,
     )
 
 returns : tie.Need-returns Inv μ
 returns c =
-    let l = c.before.loop in
+    let l = c.before.loop-i in
     let start = start_of c.before in
-    let p = start.pre.0 in
-    up-all _ _ p _ _ (subst (λ k. l.out ≡ over start.args.out.now 0 (lines_of 9 k (new_words_of _ _ p))) (le_antisymm l.invariant.0 c.loop-test.false) (l.invariant.2 p))
+    let p = start.requires.0 in
+    up-all _ _ p _ _ (subst (λ k. l.out ≡ over start.args.out.now 0 (lines_of 9 k (new_words_of _ _ p))) (le_antisymm l.invariant.0 c.loop-i-test.false) (l.invariant.2 p))
 
-pub put-up-spec : {M : Type 1} → statement M
-put-up-spec =
+pub put_up_spec : {M : Type 1} → statement M
+put_up_spec =
     tie.close
     (tie.spec
     Inv
     μ
     loop-holds
-    parent-of-requires
-    put-up-line-requires
+    parent_of-requires
+    put_up_line-requires
     (λ c. omega arith)
     (λ c. omega arith)
     loop-again
-    (λ c. c.before.loop.invariant.1)
+    (λ c. c.before.loop-i.invariant.1)
     returns)

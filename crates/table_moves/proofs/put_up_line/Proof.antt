@@ -9,16 +9,16 @@ use Rattle.table_moves.proofs.put_up_line.Statement.{statement}
 use Rattle.table_moves.proofs.put_up_line.Tie as tie
 
 -- Places by name: the parent's digits are put, the others, and the function starts.
-abbrev word_of : tie.After-slice-known3 → tie.After-put-word
+abbrev word_of : tie.After-slice_known-3-1 → tie.After-put_word
 word_of c = c.before.before
 
-abbrev front_of : tie.After-put-word → tie.After-copy
+abbrev front_of : tie.After-put_word → tie.After-copy
 front_of c = let at_arg = c.before in at_arg.before.before.before
 
 abbrev start_of : tie.After-copy → tie.Start
 start_of c = let at_arg = c.before in at_arg.before.before.before
 
-same_length : tie.Need-same-length
+same_length : tie.Need-shape_of-out
 same_length c =
     let at-word = word_of c in
     let at_front = front_of at-word in
@@ -27,7 +27,7 @@ same_length c =
     let o = start.args.out.now in
     let i = start.args.i in
     simp length-set
-    (word-length o s (73 * i) (65 * i) start.pre.0 _ at_front.copy.ensures _ _ at-word.put_word.ensures (omega (arith, start.pre.1)))
+    (word-length o s (73 * i) (65 * i) start.requires.0 _ at_front.copy.ensures _ _ at-word.put_word.ensures (omega (arith, start.requires.1)))
 
 returns : tie.Need-returns
 returns c =
@@ -37,10 +37,10 @@ returns c =
     let s = start.args.lines.now in
     let o = start.args.out.now in
     let i = start.args.i in
-    up-line o s (73 * i) (65 * i) start.pre.0 _ at_front.copy.ensures _ _ at-word.put_word.ensures (omega (arith, start.pre.1))
+    up-line o s (73 * i) (65 * i) start.requires.0 _ at_front.copy.ensures _ _ at-word.put_word.ensures (omega (arith, start.requires.1))
 
-pub put-up-line-spec : {M : Type 1} → statement M
-put-up-line-spec =
+pub put_up_line_spec : {M : Type 1} → statement M
+put_up_line_spec =
     tie.close
     (tie.spec
     (λ c. search rules)
