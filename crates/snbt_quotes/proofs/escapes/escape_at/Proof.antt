@@ -9,21 +9,21 @@ use Rattle.snbt_quotes.proofs.escapes.escape_at.Statement.{statement}
 use Rattle.snbt_quotes.proofs.escapes.escape_at.Tie as tie
 
 -- where the function begins, seen from the letter
-abbrev start_of : tie.After-shared-slice-known2 → tie.Start
+abbrev start_of : tie.After-shared_slice_known-2-1 → tie.Start
 start_of c = c.before.before.before
 
-returns-2 : tie.Need-returns-2
+returns-2 : tie.Need-returns-then-b-eq117
 returns-2 c =
     let a = (start_of c.before.before).args in
-    c.unicode-at.ensures ∙ escape-u a.text.now a.at a.end (omega arith) (omega arith) c.before.if2.true
+    c.unicode_at.ensures ∙ escape-u a.text.now a.at a.end (omega arith) (omega arith) c.before.if-b-eq117.true
 
-returns-3 : tie.Need-returns-3
+returns-3 : tie.Need-returns
 returns-3 c =
     let a = (start_of c.before.before).args in
-    c.letter.ensures ∙ escape-other a.text.now a.at a.end (omega arith) (omega arith) c.before.if2.false
+    c.letter.ensures ∙ escape-other a.text.now a.at a.end (omega arith) (omega arith) c.before.if-b-eq117.false
 
-pub escape-at-spec : {M : Type 1} → statement M
-escape-at-spec =
+pub escape_at_spec : {M : Type 1} → statement M
+escape_at_spec =
     tie.close
     (tie.spec
     (λ c. search rules)  -- add-if1

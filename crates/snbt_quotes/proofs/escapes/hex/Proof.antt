@@ -12,16 +12,16 @@ use Rattle.snbt_quotes.proofs.escapes.hex.Statement.{statement}
 use Rattle.snbt_quotes.proofs.escapes.hex.Tie as tie
 
 -- the byte, seen from behind the third test
-abbrev byte_of : tie.Else3 → ℕ
+abbrev byte_of : tie.Else-b-lt65 → ℕ
 byte_of c = c.before.before.before.args.b
 
-returns-4 : tie.Need-returns-4
+returns-4 : tie.Need-returns-then-b-lt71
 unfolding hex_of
 returns-4 c =
     let b = byte_of c.before in
     simp (le-ltb b 48 (omega arith), le-ltb b 58 (omega arith), le-ltb b 65 (omega arith), lt-ltb b 71 (omega arith))
 
-returns-5 : tie.Need-returns-5
+returns-5 : tie.Need-returns-then-b-lt97
 unfolding hex_of
 returns-5 c =
     let b = byte_of c.before.before in
@@ -33,14 +33,14 @@ unfolding hex_of
 from-a b h =
     simp (le-ltb b 48 (omega arith), le-ltb b 58 (omega arith), le-ltb b 65 (omega arith), le-ltb b 71 (omega arith), le-ltb b 97 (omega arith))
 
-returns-6 : tie.Need-returns-6
+returns-6 : tie.Need-returns-then-b-lt103
 returns-6 c = let b = byte_of c.before.before.before in sym (from-a b (omega arith) ∙ simp (lt-ltb b 103 (omega arith)))
 
-returns-7 : tie.Need-returns-7
+returns-7 : tie.Need-returns
 returns-7 c = let b = byte_of c.before.before.before in sym (from-a b (omega arith) ∙ simp (le-ltb b 103 (omega arith)))
 
-pub hex-spec : {M : Type 1} → statement M
-hex-spec =
+pub hex_spec : {M : Type 1} → statement M
+hex_spec =
     tie.close
     (tie.spec
     (λ c. unfold hex_of in simp (lt-ltb c.before.args.b 48 (omega arith)))  -- returns
