@@ -19,35 +19,35 @@ judged : (r : Rule) (q : List ℕ) (a n m : ℕ) → n ≡ m → {b : Bool} → 
 judged r q a n m e w = let k : m ≡ a + n - a = omega arith in rw k w
 
 -- The name's length, and the start, where the first byte is 01.
-abbrev length-of : tie.After-is-well-formed → tie.After-u16-at
+abbrev length-of : tie.After-is_well_formed → tie.After-u16_at-size
 length-of c = c.before.before.before
 
-abbrev start_of : tie.After-u16-at → tie.Start
+abbrev start_of : tie.After-u16_at-size → tie.Start
 start_of c = c.before.before.before
 
-returns : tie.Need-returns
+returns : tie.Need-returns-then-q-at-lt3
 returns c = name-short _ _ _ (omega arith)
 
-returns-2 : tie.Need-returns-2
-returns-2 c = name-cut _ _ _ (omega arith) (omega (arith, c.before.u16-at.ensures))
+returns-2 : tie.Need-returns-then-q-start
+returns-2 c = name-cut _ _ _ (omega arith) (omega (arith, c.before.u16_at-size.ensures))
 
-returns-3 : tie.Need-returns-3
+returns-3 : tie.Need-returns-then-not-is_well_formed
 returns-3 c =
     let at_length = length-of c.before in
-    let e = at_length.u16-at.ensures in
+    let e = at_length.u16_at-size.ensures in
     let rule = (form_no (start_of at_length).args.form).strings in
-    name-bad _ _ _ (omega arith) (omega (arith, e)) (judged rule _ _ _ _ e (sym c.before.is-well-formed.ensures ∙ not-true _ c.if3.true))
+    name-bad _ _ _ (omega arith) (omega (arith, e)) (judged rule _ _ _ _ e (sym c.before.is_well_formed.ensures ∙ c.if-not-is_well_formed.true))
 
-returns-4 : tie.Need-returns-4
+returns-4 : tie.Need-returns
 returns-4 c =
     let at_length = length-of c.before in
-    let e = at_length.u16-at.ensures in
+    let e = at_length.u16_at-size.ensures in
     let rule = (form_no (start_of at_length).args.form).strings in
-    let good = judged rule _ _ _ _ e (sym c.before.is-well-formed.ensures ∙ not-false _ c.if3.false) in
-    rw e (name-got _ _ _ (omega arith) (omega (arith, e)) (start_of at_length).pre.2 good (omega (arith, e)))
+    let good = judged rule _ _ _ _ e (sym c.before.is_well_formed.ensures ∙ c.if-not-is_well_formed.false) in
+    rw e (name-got _ _ _ (omega arith) (omega (arith, e)) (start_of at_length).requires.2 good (omega (arith, e)))
 
-pub name-step-spec : {M : Type 1} → statement M
-name-step-spec =
+pub name_step_spec : {M : Type 1} → statement M
+name_step_spec =
     tie.close
     (tie.spec
     (λ c. search rules)

@@ -6,35 +6,35 @@ use Rattle.query_steps.proofs.one_step.Statement.{statement}
 use Rattle.query_steps.proofs.one_step.Tie as tie
 
 -- The first byte, and the place, which is in the query.
-abbrev byte_of : tie.Else2 → tie.After-shared-slice-known2
+abbrev byte_of : tie.Else-kind-eq-INDEX → tie.After-shared_slice_known-2-1
 byte_of c = c.before.before
 
-abbrev start_of : tie.After-shared-slice-known2 → tie.Start
+abbrev start_of : tie.After-shared_slice_known-2-1 → tie.Start
 start_of c = c.before.before
 
-returns : tie.Need-returns
+returns : tie.Need-returns-then-kind-eq-NAME
 returns c =
     let test = c.before in
-    kind_is _ _ _ (start_of test.before).requires.0 1 c.name-step.result test.if1.true c.name-step.ensures
+    kind_is _ _ _ (start_of test.before).requires.0 1 c.name_step.result test.if-kind-eq-NAME.true c.name_step.ensures
 
-returns-2 : tie.Need-returns-2
+returns-2 : tie.Need-returns-then-kind-eq-INDEX
 returns-2 c =
     let test = c.before in
-    kind_is _ _ _ (start_of test.before.before).requires.0 2 c.index-step.result test.if2.true (c.index-step.ensures _)
+    kind_is _ _ _ (start_of test.before.before).requires.0 2 c.index_step.result test.if-kind-eq-INDEX.true (c.index_step.ensures _)
 
-returns-3 : tie.Need-returns-3
-returns-3 c = any-is _ _ _ (start_of (byte_of c.before)).requires.0 c.if3.true
+returns-3 : tie.Need-returns-then-kind-eq-ANY
+returns-3 c = any-is _ _ _ (start_of (byte_of c.before)).requires.0 c.if-kind-eq-ANY.true
 
-returns-4 : tie.Need-returns-4
-returns-4 c = deep_is _ _ _ (start_of (byte_of c.before.before)).requires.0 c.if4.true
+returns-4 : tie.Need-returns-then-kind-eq-DEEP
+returns-4 c = deep_is _ _ _ (start_of (byte_of c.before.before)).requires.0 c.if-kind-eq-DEEP.true
 
-returns-5 : tie.Need-returns-5
+returns-5 : tie.Need-returns
 returns-5 c =
     let second = c.before.before in
-    none_is _ _ _ (start_of (byte_of second)).requires.0 second.before.if1.false second.if2.false c.before.if3.false c.if4.false
+    none_is _ _ _ (start_of (byte_of second)).requires.0 second.before.if-kind-eq-NAME.false second.if-kind-eq-INDEX.false c.before.if-kind-eq-ANY.false c.if-kind-eq-DEEP.false
 
-pub one-step-spec : {M : Type 1} → statement M
-one-step-spec =
+pub one_step_spec : {M : Type 1} → statement M
+one_step_spec =
     tie.close
     (tie.spec
     (λ c. search rules)
