@@ -1,5 +1,7 @@
 // The fields of a document (rules 3 to 5), each read at a place. Each function has the name of the definition in form/specs/Reading.antt
 // that it meets.
+#![tactic(auto)]
+
 ghost use Rattle.std.specs.Prelude.{◌≡◌, ℕ, ◌+◌, ◌≤◌, ◌<◌, ◌^◌, length, get_or};
 ghost use Rattle.form.specs.Form.{form_no};
 ghost use Rattle.form.specs.Table.{width_of};

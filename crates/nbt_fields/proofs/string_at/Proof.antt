@@ -58,19 +58,19 @@ whole c = omega (arith, c.if-doc-end.false)
 
 -- what is told of the part that is judged is told of the content
 told : (c : tie.After-check) → let a = (start_of (length-of c)).args in
-    verdict_in (form_no a.form).strings (part a.doc.now (a.at + 2) (length-of c).before.in-Is.n) ≡ verdict_of c.check.result
-told c = let a = (start_of (length-of c)).args in judged-part (verdict_in (form_no a.form).strings) a.doc.now (a.at + 2) (length-of c).before.in-Is.n (sym c.check.ensures.is)
+    verdict_in (form_no a.form).strings (part a.doc.now (a.at + 2) c.in-Is.n) ≡ verdict_of c.check.result
+told c = let a = (start_of (length-of c)).args in judged-part (verdict_in (form_no a.form).strings) a.doc.now (a.at + 2) c.in-Is.n (sym c.check.ensures.is)
 
 -- where a sequence can't be read
 broken : (c : tie.In-Bad) → let at-check = c.before in let a = (start_of (length-of at-check)).args in
-    verdict_in (form_no a.form).strings (part a.doc.now (a.at + 2) (length-of at-check).before.in-Is.n) ≡ bad c.in-Bad.k
-broken c = told c.before.before.before ∙ ap verdict_of c.before.in-Bad.is
+    verdict_in (form_no a.form).strings (part a.doc.now (a.at + 2) c.in-Is.n) ≡ bad c.in-Bad.k
+broken c = told c.before ∙ ap verdict_of c.in-Bad.is
 
 add-place : tie.Need-overflow_add-result
 add-place c =
     let at-check = c.before in
     let a = (start_of (length-of at-check)).args in
-    let n = (length-of at-check).before.in-Is.n in
+    let n = c.in-Is.n in
     omega (arith, bad-within (form_no a.form).strings _ _ (broken c), part_length a.doc.now (a.at + 2) n (whole at-check.before.before), whole at-check.before.before)
 
 returns-3 : tie.Need-returns-in-Good
@@ -100,6 +100,6 @@ string_at_spec =
     (λ c. search rules)
     (λ c. search rules)
     add-place
-    (λ c. sym (string-no _ _ _ (sym c.before.before.before.number.ensures ∙ ap num_out c.before.in-Short.is)))
+    (λ c. sym (string-no _ _ _ (sym c.before.number.ensures ∙ ap num_out c.in-Short.is)))
     returns-3
     returns-4)
