@@ -6,8 +6,8 @@ use lib.Seq.{length-take-le}
 use Rattle.replay_strings.proofs.print_answers.Statement.{statement}
 use Rattle.replay_strings.proofs.print_answers.Tie as tie
 
-pub print-answers-spec : {M : Type 1} → statement M
-print-answers-spec =
+pub print_answers_spec : {M : Type 1} → statement M
+print_answers_spec =
     tie.close
     (tie.spec
     (λ c. sym (length-take-le _ _ (search rules)))

@@ -5,14 +5,14 @@ use Prim.Native.Nat.{◌-◌, ◌≤◌}
 use Rattle.replay_strings.proofs.print_bytes.Statement.{statement}
 use Rattle.replay_strings.proofs.print_bytes.Tie as tie
 
-abbrev invariant-loop : tie.invariant-loop
+abbrev invariant-loop : tie.invariant-loop-i
 invariant-loop bytes n i₀ i = i ≤ n
 
-abbrev decreases-loop : tie.decreases-loop
+abbrev decreases-loop : tie.decreases-loop-i
 decreases-loop bytes n i₀ i = n - i
 
-pub print-bytes-spec : {M : Type 1} → statement M
-print-bytes-spec =
+pub print_bytes_spec : {M : Type 1} → statement M
+print_bytes_spec =
     tie.close
     (tie.spec
     invariant-loop
