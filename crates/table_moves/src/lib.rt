@@ -1,5 +1,7 @@
 // Request [8]: the lines of a table moved from the edition before parents (01: eight words to a record) to that with them ([7]: nine), and back.
 // No memory is taken: what is judged and what is put is read from the lines.
+#![tactic(auto)]
+
 ghost use Rattle.std.specs.Prelude.{◌≡◌, [], ◌∷◌, ◌++◌, ◌+◌, ◌*◌, ◌≤◌, ◌<◌, ◌^◌, length};
 ghost use Rattle.form.specs.Spans.{part, over};
 ghost use Rattle.form.specs.Stored.{hex_digits};

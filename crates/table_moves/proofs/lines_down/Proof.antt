@@ -11,18 +11,9 @@ use Rattle.table_moves.proofs.Judging.{told-judged, planted, moved}
 use Rattle.table_moves.proofs.lines_down.Statement.{statement}
 use Rattle.table_moves.proofs.lines_down.Tie as tie
 
--- Places by name: the lines are judged, and the function starts.
-abbrev judge-of : tie.In-Done → tie.After-judge
-judge-of c = let at-match = c.before.before in at-match.before
-
-abbrev start_of : tie.After-judge → tie.Start
-start_of c = c.before.before.before
-
 -- The lines may move, and there is room.
-judged : (c : tie.In-Done)
-    → Judged true (start_of (judge-of c)).args.doc_len (start_of (judge-of c)).args.lines.now c.before.in-Done.n
-    × (65 * c.before.in-Done.n ≤ length (start_of (judge-of c)).args.out-1.now)
-judged c = told-judged true _ _ _ c.before.in-Done.is (judge-of c).judge.ensures
+judged : (c : tie.In-Done) → Judged true c.args.doc_len c.args.lines.now c.in-Done.n × (65 * c.in-Done.n ≤ length c.args.out.now)
+judged c = told-judged true _ _ _ c.in-Done.is c.judge.ensures
 
 put_down-requires : tie.Need-put_down-requires
 put_down-requires c κs = let j = judged c.before in (planted true _ _ _ j.0, j.1)

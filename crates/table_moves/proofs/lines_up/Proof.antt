@@ -11,18 +11,9 @@ use Rattle.table_moves.proofs.Judging.{told-judged, planted, moved}
 use Rattle.table_moves.proofs.lines_up.Statement.{statement}
 use Rattle.table_moves.proofs.lines_up.Tie as tie
 
--- Places by name: the lines are judged, and the function starts.
-abbrev judge-of : tie.In-Done → tie.After-judge
-judge-of c = let at-match = c.before.before in at-match.before
-
-abbrev start_of : tie.After-judge → tie.Start
-start_of c = c.before.before.before
-
 -- The lines may move, and there is room.
-judged : (c : tie.In-Done)
-    → Judged false (start_of (judge-of c)).args.doc_len (start_of (judge-of c)).args.lines.now c.before.in-Done.n
-    × (73 * c.before.in-Done.n ≤ length (start_of (judge-of c)).args.out-1.now)
-judged c = told-judged false _ _ _ c.before.in-Done.is (judge-of c).judge.ensures
+judged : (c : tie.In-Done) → Judged false c.args.doc_len c.args.lines.now c.in-Done.n × (73 * c.in-Done.n ≤ length c.args.out.now)
+judged c = told-judged false _ _ _ c.in-Done.is c.judge.ensures
 
 put_up-requires : tie.Need-put_up-requires
 put_up-requires c κs = let j = judged c.before in (planted false _ _ _ j.0, j.1)

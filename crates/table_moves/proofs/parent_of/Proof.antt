@@ -1,6 +1,6 @@
 -- `table_moves::parent_of` meets its contract: each record that the climb has passed has ended.
 -- Assumes nothing.
-use Prim.Native.Nat.{ℕ, ◌-◌, ◌≤◌, ◌<◌}
+use Prim.Native.Nat.{ℕ, ◌≤◌, ◌<◌}
 use mathlib.Core.Path.{sym, subst}
 use native.Mathlib.Omega.{arith}
 use Rattle.form.specs.Moved.{eight}

@@ -48,7 +48,7 @@ loop-again c =
     let l = (loop-of at_arg).loop-i in
     let start = start_of (loop-of at_arg) in (
       omega (arith, h),
-      at-put.put_down_line.auto.out.1.0 ∙ l.invariant.1,
+      at-put.put_down_line.auto.out ∙ l.invariant.1,
       λ p. down-next _ _ p l.i h _ l.out _ start.requires.1 (l.invariant.2 p) at-put.put_down_line.ensures,
     )
 

@@ -29,40 +29,26 @@ loop-holds : tie.Need-loop-i-init Inv μ
 unfolding lines_of
 loop-holds c = (omega arith, refl, λ p. sym (over_none _ _))
 
--- The loop, from where the parent is asked for, and that place, from where the line is put.
-abbrev loop-of : tie.After-parent_of-arg Inv μ → tie.At-loop-i Inv μ
-loop-of c = c.before.before
-
-abbrev ask-of : tie.After-put_up_line-arg-1 Inv μ → tie.After-parent_of-arg Inv μ
-ask-of c = c.before.before
-
 parent_of-requires : tie.Need-parent_of-parent-requires Inv μ
 parent_of-requires c κs =
-    let l = (loop-of c).loop-i in
-    let start = start_of (loop-of c) in
-    let p = start.requires.0 in
-    climbable _ _ p _ l.out-1 start.requires.1 l.i c.before.loop-i-test.true (l.inv.2 p) l.inv.1
+    let l = c.loop-i in
+    let p = c.requires.0 in
+    climbable _ _ p _ l.out c.requires.1 l.i c.loop-i-test.true (l.invariant.2 p) l.invariant.1
 
 put_up_line-requires : tie.Need-put_up_line-requires Inv μ
 put_up_line-requires c κs =
-    let at-ask = ask-of c in
-    let l = (loop-of at-ask).loop-i in
-    let h = at-ask.before.loop-i-test.taken in
-    let start = start_of (loop-of at-ask) in
-    let p = start.requires.0 in
-    (line-there-up _ _ p l.i h, omega (arith, start.requires.1, h, l.inv.1), parent-few _ _ p l.i _ h c.before.parent_of-parent.ensures)
+    let l = c.loop-i in
+    let h = c.loop-i-test.true in
+    let p = c.requires.0 in
+    (line-there-up _ _ p l.i h, omega (arith, c.requires.1, h, l.invariant.1), parent-few _ _ p l.i _ h c.parent_of-parent.ensures)
 
 loop-again : tie.Need-loop-i-preserved Inv μ
 loop-again c =
-    let at-put = c.before.before in
-    let at_arg = at-put.before in
-    let at-ask = ask-of at_arg in
-    let h = at-ask.before.loop-i-test.taken in
-    let l = (loop-of at-ask).loop-i in
-    let start = start_of (loop-of at-ask) in (
+    let h = c.loop-i-test.true in
+    let l = c.loop-i in (
       omega (arith, h),
-      at-put.put_up_line.auto.1.1.1.0 ∙ l.inv.1,
-      λ p. up_next _ _ p _ l.out-1 start.requires.1 l.i h (l.inv.2 p) _ at_arg.before.parent_of-parent.ensures _ at-put.put_up_line.ensures,
+      c.put_up_line.auto.out ∙ l.invariant.1,
+      λ p. up_next _ _ p _ l.out c.requires.1 l.i h (l.invariant.2 p) _ c.parent_of-parent.ensures _ c.put_up_line.ensures,
     )
 
 returns : tie.Need-returns Inv μ
