@@ -1,4 +1,6 @@
 // The check of strings under the promises of its C names: it fills eight words that the caller lends (include/tikfazrul.h).
+#![tactic(auto)]
+
 ghost use Rattle.form.specs.Form.{form_no, utf8};
 ghost use Rattle.form.specs.Answer.{bad_string, bad_text};
 ghost use Rattle.calls.specs.Calls.{StringCalled};

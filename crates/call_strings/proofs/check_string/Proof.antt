@@ -5,12 +5,12 @@ use Rattle.call_strings.proofs.Words.{checked-good, checked-bad}
 use Rattle.call_strings.proofs.check_string.Statement.{statement}
 use Rattle.call_strings.proofs.check_string.Tie as tie
 
-returns : tie.Need-returns
-returns c = checked-good _ _ _ c.before.before.before.check.ensures c.before.enum_told.given.1
+returns : tie.Need-returns-in-Good
+returns c = checked-good _ _ _ c.before.before.check.ensures c.before.in-Good.is
 
-returns-2 : tie.Need-returns-2
-returns-2 c = let at-bad = c.before.before in checked-bad _ _ _ at-bad.before.before.check.ensures at-bad.at.given.1
+returns-2 : tie.Need-returns-in-Bad
+returns-2 c = checked-bad _ _ _ c.check.ensures c.in-Bad.is
 
-pub check-string-spec : {M : Type 1} → statement M
-check-string-spec =
+pub check_string_spec : {M : Type 1} → statement M
+check_string_spec =
     tie.close (tie.spec (λ c κs. search rules) (λ c. search rules) (λ c. search rules) (λ c. search rules) returns returns-2)

@@ -6,12 +6,12 @@ use Rattle.call_strings.proofs.Words.{checked-good, checked-bad}
 use Rattle.call_strings.proofs.check_utf8.Statement.{statement}
 use Rattle.call_strings.proofs.check_utf8.Tie as tie
 
-returns : tie.Need-returns
-returns c = checked-good utf8 _ _ c.before.before.before.check-utf8.ensures c.before.enum_told.given.1
+returns : tie.Need-returns-in-Good
+returns c = checked-good utf8 _ _ c.before.before.check_utf8.ensures c.before.in-Good.is
 
-returns-2 : tie.Need-returns-2
-returns-2 c = let at-bad = c.before.before in checked-bad utf8 _ _ at-bad.before.before.check-utf8.ensures at-bad.at.given.1
+returns-2 : tie.Need-returns-in-Bad
+returns-2 c = checked-bad utf8 _ _ c.check_utf8.ensures c.in-Bad.is
 
-pub check-utf8-spec : {M : Type 1} → statement M
-check-utf8-spec =
+pub check_utf8_spec : {M : Type 1} → statement M
+check_utf8_spec =
     tie.close (tie.spec (λ c κs. search rules) (λ c. search rules) (λ c. search rules) (λ c. search rules) returns returns-2)
