@@ -141,17 +141,20 @@ EscapeFits l cut = Unit {0}
 hexes-fit : (l : List ℕ) (p : ℕ) → HexFits l (hexes 4 0 l p)
 unfolding hexes
 hexes-fit [] p = tt
-hexes-fit (a ∷ []) p = pick-lt (HexFits _) (hex_of a) 16 (λ _. tt) (λ _. tt)
+hexes-fit (a ∷ []) p = pick-lt (HexFits (a ∷ [])) (hex_of a) 16 (λ _. tt) (λ _. tt)
 hexes-fit (a ∷ b ∷ []) p =
-    pick-lt (HexFits _) (hex_of a) 16 (λ _. pick-lt (HexFits _) (hex_of b) 16 (λ _. tt) (λ _. tt)) (λ _. tt)
+    let F = HexFits (a ∷ b ∷ []) in
+    pick-lt F (hex_of a) 16 (λ _. pick-lt F (hex_of b) 16 (λ _. tt) (λ _. tt)) (λ _. tt)
 hexes-fit (a ∷ b ∷ c ∷ []) p =
-    pick-lt (HexFits _) (hex_of a) 16 (λ _.
-    pick-lt (HexFits _) (hex_of b) 16 (λ _. pick-lt (HexFits _) (hex_of c) 16 (λ _. tt) (λ _. tt)) (λ _. tt)) (λ _. tt)
+    let F = HexFits (a ∷ b ∷ c ∷ []) in
+    pick-lt F (hex_of a) 16 (λ _.
+    pick-lt F (hex_of b) 16 (λ _. pick-lt F (hex_of c) 16 (λ _. tt) (λ _. tt)) (λ _. tt)) (λ _. tt)
 hexes-fit (a ∷ b ∷ c ∷ d ∷ l) p =
-    pick-lt (HexFits _) (hex_of a) 16 (λ h₁.
-    pick-lt (HexFits _) (hex_of b) 16 (λ h₂.
-    pick-lt (HexFits _) (hex_of c) 16 (λ h₃.
-    pick-lt (HexFits _) (hex_of d) 16 (λ h₄. (omega arith, omega arith)) (λ _. tt)) (λ _. tt)) (λ _. tt)) (λ _. tt)
+    let F = HexFits (a ∷ b ∷ c ∷ d ∷ l) in
+    pick-lt F (hex_of a) 16 (λ h₁.
+    pick-lt F (hex_of b) 16 (λ h₂.
+    pick-lt F (hex_of c) 16 (λ h₃.
+    pick-lt F (hex_of d) 16 (λ h₄. (omega arith, omega arith)) (λ _. tt)) (λ _. tt)) (λ _. tt)) (λ _. tt)
 
 by : (P : Escape → Type 0) (t : Bool) {x y : Escape} → (t ≡ true → P x) → (t ≡ false → P y) → P (pick t x y)
 by P true f g = f refl

@@ -1,5 +1,7 @@
 // Quoted tokens (rule 12): where one ends, and its width.
 // A run of plain bytes is passed at once; what is not plain goes character by character.
+#![tactic(auto)]
+
 pub mod escapes;
 
 ghost use Rattle.std.specs.Prelude.{◌≡◌, ◌<◌, length};

@@ -53,7 +53,7 @@ stood c v d =
 reached : (c : tie.In-Stands Inv μ)
     → let r = run_of (escape-of c).before.before in let n = c.in-Stands.bytes in
     (2 ≤ n) × (r.before.plain_end-end.result + n ≤ length (start_of (turn-of r)).args.text.now)
-reached c = let s = stood (escape-of c) _ c.before.in-Stands.is in (s.0, s.1)
+reached c = let s = stood (escape-of c) _ c.in-Stands.is in (s.0, s.1)
 
 returns : tie.Need-returns-then-b-q Inv μ
 returns c =
@@ -63,14 +63,14 @@ returns c =
 loop-again-2 : tie.Need-loop-i-preserved-in-Stands Inv μ
 loop-again-2 c =
     let at-bytes = c.before in
-    let s = stood (escape-of at-bytes) _ at-bytes.before.in-Stands.is in
+    let s = stood (escape-of at-bytes) _ at-bytes.in-Stands.is in
     (s.1, omega (arith, s.0, s.1), refl, going-wide _ _ _ _ _ c.wider-width-in-Stands.ensures s.2)
 
 returns-2 : tie.Need-returns-in-Bad Inv μ
-returns-2 c = let at-match = c.before.before in stood at-match.before _ c.before.in-Bad.is
+returns-2 c = stood c.before _ c.in-Bad.is
 
 returns-3 : tie.Need-returns-in-Cut Inv μ
-returns-3 c = let at-match = c.before.before in c.left_open.ensures ∙ stood at-match.before _ c.before.in-Cut.is
+returns-3 c = let at-match = c.before.before in c.left_open.ensures ∙ stood at-match _ c.before.in-Cut.is
 
 -- a byte begins one character at most
 one : (c : tie.After-begins Inv μ) → c.begins.result ≤ 1
