@@ -130,7 +130,7 @@ module _ (form : Form) (q : List ℕ) (query : Query) (i : ℕ) (turn : Turn for
         names = λ k lt'. go g k lt' (ℕ_discrete k query.count);
         spells =
             let rest = steps_at form q (16 - (query.count + 1)) j in
-            left (left-more h t j x) ∙ before-before _ _ rest ∙ ap (λ l. before l rest) (sym (span-push h t));
+            left (left-more h t j x) ∙ before-before (span (step_no q query) 0 query.count) (step_of q t ∷ []) rest ∙ ap (λ l. before l rest) (sym (span-push h t));
       }
     where
       -- a step that is not the new one is held as before

@@ -1,4 +1,6 @@
 // Rule 9's steps: a query's bytes taken apart (refusal 14).
+#![tactic(auto)]
+
 ghost use Rattle.std.specs.Prelude.{◌≡◌, ◌≤◌, ◌<◌, length, get_or};
 ghost use Rattle.form.specs.Form.{Form, form_no};
 ghost use Rattle.form.specs.Query.{blamed, step_by, step_at};

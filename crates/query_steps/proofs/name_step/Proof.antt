@@ -6,7 +6,6 @@ use mathlib.Core.Bool.{Bool}
 use mathlib.Core.List.{List}
 use mathlib.Core.Path.{◌≡◌, sym, ◌∙◌}
 use native.Mathlib.Omega.{arith}
-use borrow.Author.Tests.{not-true, not-false}
 use Rattle.form.specs.Form.{Rule, form_no}
 use Rattle.form.specs.Spans.{part}
 use Rattle.form.specs.Decoding.{well_formed_in}

@@ -34,9 +34,6 @@ returns c =
 one_step-requires : tie.Need-one_step-requires invariant-loop decreases-loop
 one_step-requires c κs = (c.before.loop-at-test.true, omega (arith, c.before.before.loop-at.invariant))
 
-enum_known-step : tie.Need-enum_known-step invariant-loop decreases-loop
-enum_known-step c = c.match.keys1
-
 mul-step : tie.Need-offset_bounds-query-count invariant-loop decreases-loop
 mul-step c = omega (arith, (turn-of (step_of c)).before.loop-at.invariant.few)
 
@@ -51,10 +48,7 @@ loop-again c =
     let step = step_of c in
     let turn = turn-of step in
     let inv = turn.before.loop-at.invariant in
-    turn_more _ _ _ _ inv turn.loop-at-test.true step.before.if-count-ge-STEPS.left step.one_step.result _ _ step.one_step.ensures c.before.in-Next.is
-
-enum_told : tie.Need-enum_told-1 invariant-loop decreases-loop
-enum_told c = c.match.keys2
+    turn_more _ _ _ _ inv turn.loop-at-test.true step.before.if-count-ge-STEPS.false step.one_step.result _ _ step.one_step.ensures c.in-Next.is
 
 returns-2 : tie.Need-returns-in-Bad invariant-loop decreases-loop
 returns-2 c =
@@ -78,13 +72,13 @@ take_apart_spec =
     (λ c κs. search rules)
     returns
     one_step-requires
-    enum_known-step
+    (λ c. search rules)
     mul-step
     (λ c. search rules)
     (λ c. search rules)
     loop-less
     loop-again
-    enum_told
+    (λ c. search rules)
     (λ c κs. search rules)
     returns-2
     returns-3)
