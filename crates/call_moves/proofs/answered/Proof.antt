@@ -7,11 +7,11 @@ use Rattle.calls.specs.Words.{count_words}
 use Rattle.call_moves.proofs.answered.Statement.{statement}
 use Rattle.call_moves.proofs.answered.Tie as tie
 
-returns : tie.Need-returns
-returns c = let at_done = c.before.before in ap (λ r. count_words (answer_out r)) (sym at_done.given.given.1)
+returns : tie.Need-returns-in-Done
+returns c = ap (λ r. count_words (answer_out r)) (sym c.given-1.given-1.1)
 
-returns-2 : tie.Need-returns-2
-returns-2 c = let at-refused = c.before.before in ap (λ r. count_words (answer_out r)) (sym at-refused.given2.given.1)
+returns-2 : tie.Need-returns-in-Refused
+returns-2 c = ap (λ r. count_words (answer_out r)) (sym c.given-in-Refused-1.given-1.1)
 
-pub answered-spec : {M : Type 1} → statement M
-answered-spec = tie.close (tie.spec (λ c. search rules) (λ c. search rules) (λ c. search rules) returns returns-2)
+pub answered_spec : {M : Type 1} → statement M
+answered_spec = tie.close (tie.spec (λ c. search rules) (λ c. search rules) (λ c. search rules) returns returns-2)
