@@ -1,4 +1,6 @@
 // The moves of stored lines under the promises of their C names: each fills eight words that the caller lends (include/tikfazrul.h).
+#![tactic(auto)]
+
 ghost use Rattle.std.specs.Prelude.{◌≡◌};
 ghost use Rattle.form.specs.Moved.{eight, nine};
 ghost use Rattle.table_store.specs.Steps.{answer_out};
