@@ -25,7 +25,7 @@ use crate::names::same_name;
 use crate::sorting::{rising, sorted};
 
 // A record whose name an earlier one has, by its number or the place of its entry; or none.
-#[derive(Drop)]
+#[derive(Clone, Copy)]
 pub enum Repeat {
     At(usize),
     Nothing,

@@ -25,7 +25,7 @@ pub struct Step {
 }
 
 // The query taken apart: up to sixteen steps, kept together.
-#[derive(Drop)]
+#[derive(Clone, Copy)]
 pub struct Query {
     pub steps: [Step; 16],
     pub count: usize,

@@ -18,7 +18,7 @@ use snbt_placing::Done;
 use snbt_tokens::{Index, Last, Stops, Token, TokenData};
 
 // A compound that is open: the index of its `{`, and how many of the keys are those of the compounds around it.
-#[derive(Drop)]
+#[derive(Clone, Copy)]
 pub struct Block {
     pub brace: Index,
     pub base: usize,

@@ -11,7 +11,7 @@ use crate::characters::{is_blank, is_stop, run_end};
 use snbt_tokens::{Stops, Width, wider};
 
 // How the token stands after some bytes: the open levels, the open quotes, a backslash right before, its end and its width so far.
-#[derive(Drop)]
+#[derive(Clone, Copy)]
 pub struct State {
     pub curly: usize,
     pub square: usize,

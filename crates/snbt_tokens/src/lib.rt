@@ -3,14 +3,14 @@
 ghost use Rattle.std.specs.Prelude.{◌≡◌, ◌+◌, ◌<◌, ◌^◌};
 
 // Where a token begins, in bytes.
-#[derive(Drop)]
+#[derive(Clone, Copy)]
 pub struct Index(pub usize);
 
 // How many characters a token has.
-#[derive(Drop)]
+#[derive(Clone, Copy)]
 pub struct Width(pub usize);
 
-#[derive(Drop)]
+#[derive(Clone, Copy)]
 pub enum Token {
     OpenCurly,
     ClosedCurly,
@@ -32,7 +32,7 @@ pub enum Token {
     Double(f64),
 }
 
-#[derive(Drop)]
+#[derive(Clone, Copy)]
 pub struct TokenData {
     pub token: Token,
     pub index: Index,
@@ -40,7 +40,7 @@ pub struct TokenData {
 }
 
 // A token and the next place; the end of the text; a refusal.
-#[derive(Drop)]
+#[derive(Clone, Copy)]
 pub enum Lexed {
     Found { data: TokenData, next: usize },
     Ended { place: usize },
@@ -48,7 +48,7 @@ pub enum Lexed {
 }
 
 // The sets of characters that stop an unquoted token: by default, and as rule 15 names them.
-#[derive(Drop)]
+#[derive(Clone, Copy)]
 pub enum Stops {
     Default,
     Key,
@@ -58,7 +58,7 @@ pub enum Stops {
 }
 
 // What stands last in an array or a compound that is being read: a comma, by its index; or else, nothing or an element (rules 14 and 15).
-#[derive(Drop)]
+#[derive(Clone, Copy)]
 pub enum Last {
     Other,
     Comma(Index),
