@@ -1,5 +1,7 @@
 // Tokens by value, in the crate's words: what stands at a place of a text, and the named sets of stop characters (rules 10 and 11).
 // A token carries either a whole number or a double, or a span of the text; its index and its width can't serve as each other.
+#![tactic(auto)]
+
 ghost use Rattle.std.specs.Prelude.{◌≡◌, ◌+◌, ◌<◌, ◌^◌};
 
 // Where a token begins, in bytes.
