@@ -13,8 +13,8 @@ use Rattle.nbt_judging.proofs.+judged_one_judged.{statement}
 use Rattle.nbt_judging.proofs.+judged_one_judged.Tie.{close}
 use Common.{μ-judged, μ-one-judged, judged-at, one-judged-at}
 
-pub +judged-one-judged-spec : {M : Type 1} → statement M
-+judged-one-judged-spec =
+pub +judged_one_judged_spec : {M : Type 1} → statement M
++judged_one_judged_spec =
     close μ-judged μ-one-judged
     (λ t. judged-lts.spec (Judged.claims t) (judged-at t) judged.Post Judged.Inv-loop Judged.μ-loop
     (Judged.first-twice-requires t)

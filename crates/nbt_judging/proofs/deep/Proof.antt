@@ -27,10 +27,10 @@ held-deep kind left e = rw e (go (holds kind))
     go true = refl
     go false = refl
 
-pub deep-spec : {M : Type 1} → statement M
-deep-spec =
+pub deep_spec : {M : Type 1} → statement M
+deep_spec =
     tie.close
     (tie.spec
     (λ c κs. search rules)
-    (λ c. let a = c.before.args in not-deep a.kind a.left (lt-ltb 0 _ c.if1.true))
-    (λ c. let a = c.before.before.args in c.is-container.ensures ∙ held-deep a.kind a.left (le-ltb 0 _ c.before.if1.false)))
+    (λ c. let a = c.before.args in not-deep a.kind a.left (lt-ltb 0 _ c.if-left-gt0.true))
+    (λ c. let a = c.before.before.args in c.is_container.ensures ∙ held-deep a.kind a.left (le-ltb 0 _ c.before.if-left-gt0.false)))

@@ -6,24 +6,24 @@ use Rattle.nbt_judging.proofs.Pieces.{twice-entries, twice-elements}
 use Rattle.nbt_judging.proofs.first_twice.Statement.{statement}
 use Rattle.nbt_judging.proofs.first_twice.Tie as tie
 
-first-repeat-requires : tie.Need-first-repeat-requires
-first-repeat-requires c κs =
+first_repeat-requires : tie.Need-first_repeat-requires
+first_repeat-requires c κs =
     let entries = c.before in
     let start = entries.before.before.before in
-    start.requires entries.if1.false
+    start.requires entries.if-list.false
 
-returns-2 : tie.Need-returns-2
+returns-2 : tie.Need-returns
 returns-2 c =
     let at-repeat = c.before.before in
     let entries = at-repeat.before.before in
-    let found = at-repeat.first-repeat.ensures in
-    (found.0 ∙ sym (twice-entries _ _ _ _ _ entries.if1.false), found.1)
+    let found = at-repeat.first_repeat.ensures in
+    (found.0 ∙ sym (twice-entries _ _ _ _ _ entries.if-list.false), found.1)
 
-pub first-twice-spec : {M : Type 1} → statement M
-first-twice-spec =
+pub first_twice_spec : {M : Type 1} → statement M
+first_twice_spec =
     tie.close
     (tie.spec
-    (λ c. (sym (twice-elements _ _ _ _ _ c.if1.true), refl))
-    first-repeat-requires
+    (λ c. (sym (twice-elements _ _ _ _ _ c.if-list.true), refl))
+    first_repeat-requires
     (λ c. search rules)
     returns-2)

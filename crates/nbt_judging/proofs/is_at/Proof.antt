@@ -6,13 +6,13 @@ use Rattle.nbt_judging.specs.Pieces.{is_at}
 use Rattle.nbt_judging.proofs.is_at.Statement.{statement}
 use Rattle.nbt_judging.proofs.is_at.Tie as tie
 
-returns : tie.Need-returns
+returns : tie.Need-returns-in-At
 returns c =
     let start = c.before.before.before in
-    sym (ap (λ f. is_at f start.args.i) c.before.found.given.1)
+    sym (ap (λ f. is_at f start.args.i) c.before.in-At.is)
 
-pub is-at-spec : {M : Type 1} → statement M
-is-at-spec =
+pub is_at_spec : {M : Type 1} → statement M
+is_at_spec =
     tie.close
     (tie.spec
     (λ c. search rules)

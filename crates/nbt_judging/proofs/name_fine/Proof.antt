@@ -9,27 +9,27 @@ use Rattle.nbt_judging.proofs.name_fine.Statement.{statement}
 use Rattle.nbt_judging.proofs.name_fine.Tie as tie
 
 -- The start, from where the name's length is read.
-abbrev start_of : tie.After-word2 → tie.Start
+abbrev start_of : tie.After-word-size → tie.Start
 start_of c =
     let at-slices = c.before.before in
     at-slices.before.before
 
 -- What is judged of the span is judged of the name.
-judged : (c : tie.After-word2) →
+judged : (c : tie.After-word-size) →
     let a = (start_of c).args in
-    string_fine (way_no a.way) a.doc.now c.before.word.result c.word2.result a.n
+    string_fine (way_no a.way) a.doc.now c.before.word-start.result c.word-size.result a.n
     ≡ string_fine (way_no a.way) a.doc.now (word a.table.now a.n 1) (word a.table.now a.n 2) a.n
 judged c =
     let a = (start_of c).args in
-    λ i. string_fine (way_no a.way) a.doc.now (c.before.word.ensures i) (c.word2.ensures i) a.n
+    λ i. string_fine (way_no a.way) a.doc.now (c.before.word-start.ensures i) (c.word-size.ensures i) a.n
 
-pub name-fine-spec : {M : Type 1} → statement M
-name-fine-spec =
+pub name_fine_spec : {M : Type 1} → statement M
+name_fine_spec =
     tie.close
     (tie.spec
     (λ c κs. search rules)
     (λ c κs. search rules)
     (λ c κs. search rules)
-    (λ c. c.long-fine.ensures ∙ judged c.before.before)
+    (λ c. c.long_fine.ensures ∙ judged c.before.before)
     (λ c κs. search rules)
-    (λ c. c.short-fine.ensures ∙ judged c.before.before))
+    (λ c. c.short_fine.ensures ∙ judged c.before.before))

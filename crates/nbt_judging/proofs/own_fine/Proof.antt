@@ -11,30 +11,30 @@ use Rattle.nbt_judging.proofs.own_fine.Statement.{statement}
 use Rattle.nbt_judging.proofs.own_fine.Tie as tie
 
 -- The name is judged.
-named : (c : tie.After-name-fine) →
+named : (c : tie.After-name_fine) →
     let a = c.before.before.before.args in
     let h = head_of a.table.now a.n in
-    string_fine (way_no a.way) a.doc.now h.name h.name_length a.n ≡ fine_out c.name-fine.result
-named c = sym c.name-fine.ensures
+    string_fine (way_no a.way) a.doc.now h.name h.name_length a.n ≡ fine_out c.name_fine.result
+named c = sym c.name_fine.ensures
 
-returns : tie.Need-returns
+returns : tie.Need-returns-then-twice
 returns c =
     let passed = c.before in
-    sym (own-twice _ _ _ _ _ _ _ _ (named passed.before.before ∙ ap fine_out passed.enum_told.given.1) c.if1.true)
+    sym (own-twice _ _ _ _ _ _ _ _ (named passed.before.before ∙ ap fine_out passed.in-Yes.is) c.if-twice.true)
 
-returns-2 : tie.Need-returns-2
+returns-2 : tie.Need-returns-in-No
 returns-2 c =
     let refused = c.before in
-    sym (own_name _ _ _ _ _ _ _ _ (named refused.before.before ∙ ap fine_out refused.number.given.1))
+    sym (own_name _ _ _ _ _ _ _ _ (named refused.before.before ∙ ap fine_out refused.in-No.is))
 
-returns-3 : tie.Need-returns-3
+returns-3 : tie.Need-returns-else-twice
 returns-3 c =
     let once = c.before in
     let passed = once.before in
-    c.rest-fine.ensures ∙ sym (own_on _ _ _ _ _ _ _ _ (named passed.before.before ∙ ap fine_out passed.enum_told.given.1) once.if1.false)
+    c.rest_fine.ensures ∙ sym (own_on _ _ _ _ _ _ _ _ (named passed.before.before ∙ ap fine_out passed.in-Yes.is) once.if-twice.false)
 
-pub own-fine-spec : {M : Type 1} → statement M
-own-fine-spec =
+pub own_fine_spec : {M : Type 1} → statement M
+own_fine_spec =
     tie.close
     (tie.spec
     (λ c κs. search rules)

@@ -14,33 +14,33 @@ abbrev start_of : tie.After-word → tie.Start
 start_of c = c.before.before.before
 
 -- What is judged of a string's span is judged of the record.
-judged : (c : tie.After-word3) →
+judged : (c : tie.After-word-size) →
     let string = c.before.before in
     let a = (start_of string.before).args in
     let h = head_of a.table.now a.n in
-    string_fine (way_no a.way) a.doc.now c.before.word2.result c.word3.result a.n ≡ payload_fine (way_no a.way) a.doc.now h a.n
+    string_fine (way_no a.way) a.doc.now c.before.word-start.result c.word-size.result a.n ≡ payload_fine (way_no a.way) a.doc.now h a.n
 judged c =
     let at-start = c.before in
     let string = at-start.before in
     let at-kind = string.before in
     let a = (start_of at-kind).args in
-    (λ i. string_fine (way_no a.way) a.doc.now (at-start.word2.ensures i) (c.word3.ensures i) a.n)
-    ∙ sym (payload-string (way_no a.way) a.doc.now (head_of a.table.now a.n) a.n (sym at-kind.word.ensures ∙ string.match.keys1))
+    (λ i. string_fine (way_no a.way) a.doc.now (at-start.word-start.ensures i) (c.word-size.ensures i) a.n)
+    ∙ sym (payload-string (way_no a.way) a.doc.now (head_of a.table.now a.n) a.n (sym at-kind.word.ensures ∙ string.in-8.is))
 
-returns-3 : tie.Need-returns-3
+returns-3 : tie.Need-returns-in_default
 returns-3 c =
     let a = (start_of c.before).args in
-    sym (payload-other (way_no a.way) a.doc.now (head_of a.table.now a.n) a.n (λ q. c.match.rest.1 (c.before.word.ensures ∙ q)))
+    sym (payload-other (way_no a.way) a.doc.now (head_of a.table.now a.n) a.n (λ q. c.in_default.in_default-own.rest.1 (c.before.word.ensures ∙ q)))
 
-pub payload-fine-spec : {M : Type 1} → statement M
-payload-fine-spec =
+pub payload_fine_spec : {M : Type 1} → statement M
+payload_fine_spec =
     tie.close
     (tie.spec
     (λ c κs. search rules)
     (λ c κs. search rules)
     (λ c κs. search rules)
     (λ c κs. search rules)
-    (λ c. c.long-fine.ensures ∙ judged c.before.before)
+    (λ c. c.long_fine.ensures ∙ judged c.before.before)
     (λ c κs. search rules)
-    (λ c. c.short-fine.ensures ∙ judged c.before.before)
+    (λ c. c.short_fine.ensures ∙ judged c.before.before)
     returns-3)
