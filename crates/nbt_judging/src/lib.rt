@@ -1,6 +1,8 @@
 // Rule 8, the first half: a table's records judged, and their bytes counted, as they are written in the form of the document or another
 // (02, [2]). Each function cites the definition that it meets, in form/specs/Writing.antt or specs/Pieces.antt; io.rs of the crate judges in
 // the same order.
+#![tactic(auto)]
+
 ghost use Rattle.std.specs.Prelude.{◌≡◌, false, ◌+◌, ◌≤◌, length};
 ghost use Rattle.form.specs.Form.{way_no};
 ghost use Rattle.form.specs.Spans.{part};

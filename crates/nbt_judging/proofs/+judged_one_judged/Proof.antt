@@ -11,7 +11,7 @@ use Rattle.nbt_judging.proofs.+judged_one_judged.Lts-judged as judged-lts
 use Rattle.nbt_judging.proofs.+judged_one_judged.Lts-one_judged as one-judged-lts
 use Rattle.nbt_judging.proofs.+judged_one_judged.{statement}
 use Rattle.nbt_judging.proofs.+judged_one_judged.Tie.{close}
-use Common.{μ-judged, μ-one-judged, judged-at, one-judged-at}
+use Common.{μ-judged, μ-one-judged, judged-at, one_judged-at}
 
 pub +judged_one_judged_spec : {M : Type 1} → statement M
 +judged_one_judged_spec =
@@ -31,7 +31,7 @@ pub +judged_one_judged_spec : {M : Type 1} → statement M
     (Judged.loop-again t)
     (Judged.same-length-2 t)
     (Judged.returns-2 t))
-    (λ t. one-judged-lts.spec (One.claims t) (one-judged-at t) one-judged.Post
+    (λ t. one-judged-lts.spec (One.claims t) (one_judged-at t) one-judged.Post
     (One.own-fine-requires t)
     (λ c. search rules)
     (λ c. search rules)

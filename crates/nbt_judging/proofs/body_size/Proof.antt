@@ -13,47 +13,35 @@ use Rattle.nbt_judging.proofs.Bytes.{size-bound, size-fixed, size-string, size-l
 use Rattle.nbt_judging.proofs.body_size.Statement.{statement}
 use Rattle.nbt_judging.proofs.body_size.Tie as tie
 
--- The start, from where the size is read.
-abbrev start_of : tie.After-word-size → tie.Start
-start_of c = c.before.before.before
-
--- Where the kind is read, from where a string is measured.
-abbrev kind-of : tie.After-text_size → tie.After-word
-kind-of c = c.before.before.before
-
 -- The string that is measured is the record's.
 measured : (c : tie.After-text_size) →
-    let a = (start_of (kind-of c).before).args in
+    let a = c.args in
     let h = head_of a.table.now a.n in
     c.text_size.result ≡ length (recoded (way_no a.way) (part a.doc.now h.start h.size))
 measured c =
-    let at_size = (kind-of c).before in
-    let a = (start_of at_size).args in
-    c.text_size.ensures ∙ (λ i. length (recoded (way_no a.way) (part a.doc.now (c.before.word-start.ensures i) (at_size.word-size.ensures i))))
+    let a = c.args in
+    c.text_size.ensures ∙ (λ i. length (recoded (way_no a.way) (part a.doc.now (c.word-start.ensures i) (c.word-size.ensures i))))
 
 returns : tie.Need-returns-in-8
 returns c =
-    let string = c.before.before in
-    ap (λ n. n + 2) (measured c) ∙ sym (size-string _ _ _ (omega (arith, string.in-8.is)))
+    ap (λ n. n + 2) (measured c) ∙ sym (size-string _ _ _ (omega (arith, c.in-8.is)))
 
 -- The sum stays small, since it is the payload's size.
 add-result : tie.Need-overflow_add-result
 add-result c =
-    let a = (start_of (kind-of c).before).args in
+    let a = c.args in
     omega (arith, returns c, size-bound (way_no a.way) a.doc.now (head_of a.table.now a.n))
 
 returns-4 : tie.Need-returns-in-0-to-6
 returns-4 c =
-    let at_size = c.before.before.before in
-    at_size.word-size.ensures ∙ sym (size-fixed _ _ _ (omega arith))
+    c.word-size.ensures ∙ sym (size-fixed _ _ _ (omega arith))
 
 -- An array: what is left of the kinds from 7.
 returns-5 : tie.Need-returns-in_default
 returns-5 c =
-    let other = c.before.match.rest in
-    let at-kind = c.before.before in
-    let k = at-kind.word.ensures in
-    ap (λ n. n + 4) at-kind.before.word-size.ensures
+    let other = c.in_default.in_default-own.rest in
+    let k = c.word.ensures in
+    ap (λ n. n + 4) c.word-size.ensures
     ∙ sym (size_array _ _ _ (omega arith) (λ q. other.0.0.1 (k ∙ q)) (λ q. other.0.1 (k ∙ q)) (λ q. other.1 (k ∙ q)))
 
 pub body_size_spec : {M : Type 1} → statement M

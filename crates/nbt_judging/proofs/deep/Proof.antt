@@ -32,5 +32,5 @@ deep_spec =
     tie.close
     (tie.spec
     (λ c κs. search rules)
-    (λ c. let a = c.before.args in not-deep a.kind a.left (lt-ltb 0 _ c.if-left-gt0.true))
-    (λ c. let a = c.before.before.args in c.is_container.ensures ∙ held-deep a.kind a.left (le-ltb 0 _ c.before.if-left-gt0.false)))
+    (λ c. let a = c.args in not-deep a.kind a.left (lt-ltb 0 _ c.if-left-gt0.true))
+    (λ c. let a = c.args in c.is_container.ensures ∙ held-deep a.kind a.left (le-ltb 0 _ c.if-left-gt0.false)))

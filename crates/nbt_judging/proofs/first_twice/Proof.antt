@@ -8,16 +8,12 @@ use Rattle.nbt_judging.proofs.first_twice.Tie as tie
 
 first_repeat-requires : tie.Need-first_repeat-requires
 first_repeat-requires c κs =
-    let entries = c.before in
-    let start = entries.before.before.before in
-    start.requires entries.if-list.false
+    c.requires c.if-list.false
 
 returns-2 : tie.Need-returns
 returns-2 c =
-    let at-repeat = c.before.before in
-    let entries = at-repeat.before.before in
-    let found = at-repeat.first_repeat.ensures in
-    (found.0 ∙ sym (twice-entries _ _ _ _ _ entries.if-list.false), found.1)
+    let found = c.first_repeat.ensures in
+    (found.0 ∙ sym (twice-entries _ _ _ _ _ c.if-list.false), found.1)
 
 pub first_twice_spec : {M : Type 1} → statement M
 first_twice_spec =

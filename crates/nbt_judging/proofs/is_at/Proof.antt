@@ -8,8 +8,7 @@ use Rattle.nbt_judging.proofs.is_at.Tie as tie
 
 returns : tie.Need-returns-in-At
 returns c =
-    let start = c.before.before.before in
-    sym (ap (λ f. is_at f start.args.i) c.before.in-At.is)
+    sym (ap (λ f. is_at f c.args.i) c.in-At.is)
 
 pub is_at_spec : {M : Type 1} → statement M
 is_at_spec =

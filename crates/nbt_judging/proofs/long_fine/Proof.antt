@@ -1,7 +1,6 @@
 -- Right since each way through the code is a law of the definition.
 -- Assumes nothing.
 use borrow.Author.Rules.{rules}
-use borrow.Author.Tests.{not-true, not-false}
 use native.Mathlib.Omega.{arith}
 use mathlib.Core.Bool.{true}
 use mathlib.Core.Path.{◌≡◌, sym, ap, ◌∙◌}
@@ -16,54 +15,38 @@ use Rattle.form.proofs.Writing.{string-long, string-bad, string-grown, string-go
 use Rattle.nbt_judging.proofs.long_fine.Statement.{statement}
 use Rattle.nbt_judging.proofs.long_fine.Tie as tie
 
--- The start, from where the part that is judged is taken.
-abbrev start_of : tie.After-is_well_formed-arg-1 → tie.Start
-start_of c = c.before.before.before
-
 -- What is told of the part that is judged is told of the span.
 told : (c : tie.After-is_well_formed) →
-    let a = (start_of c.before.before).args in
+    let a = c.args in
     well_formed_in (way_no a.way).from.strings (part a.doc.now a.start a.size) ≡ c.is_well_formed.result
 told c =
-    let at_source = c.before in
-    let a = (start_of at_source.before).args in
+    let a = c.args in
     judged-part (well_formed_in (way_no a.way).from.strings) a.doc.now a.start a.size
-    (rw (← at_source.source.ensures) (sym c.is_well_formed.ensures))
+    (rw (← c.source.ensures) (sym c.is_well_formed.ensures))
 
 returns-2 : tie.Need-returns-then-not-is_well_formed
-returns-2 c = sym (string-bad _ _ _ _ _ (omega arith) (told c.before ∙ not-true _ c.if-not-is_well_formed.true))
-
--- Where the string is well formed, from where the rules are compared.
-abbrev good_of : tie.After-same_rule → tie.Else-not-is_well_formed
-good_of c = c.before
+returns-2 c = sym (string-bad _ _ _ _ _ (omega arith) (told c.before ∙ c.if-not-is_well_formed.true))
 
 -- What that says of the span.
 good : (c : tie.Else-not-is_well_formed) →
-    let a = (start_of c.before.before.before).args in
+    let a = c.args in
     well_formed_in (way_no a.way).from.strings (part a.doc.now a.start a.size) ≡ true
-good c = told c.before ∙ not-false _ c.if-not-is_well_formed.false
+good c = told c.before ∙ c.if-not-is_well_formed.false
 
 returns-3 : tie.Need-returns-then-same_rule
 returns-3 c =
-    let at-rule = c.before in
-    let wellFormed = good_of at-rule in
-    let start = start_of wellFormed.before.before.before in
-    let a = start.args in
+    let a = c.args in
     let span = part a.doc.now a.start a.size in
-    let same = ap length (recoded-same (way_no a.way) span (sym at-rule.same_rule.ensures ∙ c.if-same_rule.true)) in
-    sym (string-good _ _ _ _ _ (omega arith) (good wellFormed) (omega (arith, same, part_length a.doc.now a.start a.size start.pre)))
+    let same = ap length (recoded-same (way_no a.way) span (sym c.same_rule.ensures ∙ c.if-same_rule.true)) in
+    sym (string-good _ _ _ _ _ (omega arith) (good c.before.before) (omega (arith, same, part_length a.doc.now a.start a.size c.requires)))
 
 returns-4 : tie.Need-returns-then-length-gt-STRING
 returns-4 c =
-    let at_length = c.before in
-    let wellFormed = good_of at_length.before.before in
-    sym (string-grown _ _ _ _ _ (omega arith) (good wellFormed) (omega (arith, at_length.length.ensures)))
+    sym (string-grown _ _ _ _ _ (omega arith) (good c.before.before.before.before) (omega (arith, c.length.ensures)))
 
 returns-5 : tie.Need-returns
 returns-5 c =
-    let at_length = c.before in
-    let wellFormed = good_of at_length.before.before in
-    sym (string-good _ _ _ _ _ (omega arith) (good wellFormed) (omega (arith, at_length.length.ensures)))
+    sym (string-good _ _ _ _ _ (omega arith) (good c.before.before.before.before) (omega (arith, c.length.ensures)))
 
 pub long_fine_spec : {M : Type 1} → statement M
 long_fine_spec =

@@ -8,20 +8,14 @@ use Rattle.form.specs.Writing.{string_fine}
 use Rattle.nbt_judging.proofs.name_fine.Statement.{statement}
 use Rattle.nbt_judging.proofs.name_fine.Tie as tie
 
--- The start, from where the name's length is read.
-abbrev start_of : tie.After-word-size → tie.Start
-start_of c =
-    let at-slices = c.before.before in
-    at-slices.before.before
-
 -- What is judged of the span is judged of the name.
 judged : (c : tie.After-word-size) →
-    let a = (start_of c).args in
-    string_fine (way_no a.way) a.doc.now c.before.word-start.result c.word-size.result a.n
+    let a = c.args in
+    string_fine (way_no a.way) a.doc.now c.word-start.result c.word-size.result a.n
     ≡ string_fine (way_no a.way) a.doc.now (word a.table.now a.n 1) (word a.table.now a.n 2) a.n
 judged c =
-    let a = (start_of c).args in
-    λ i. string_fine (way_no a.way) a.doc.now (c.before.word-start.ensures i) (c.word-size.ensures i) a.n
+    let a = c.args in
+    λ i. string_fine (way_no a.way) a.doc.now (c.word-start.ensures i) (c.word-size.ensures i) a.n
 
 pub name_fine_spec : {M : Type 1} → statement M
 name_fine_spec =

@@ -12,26 +12,22 @@ use Rattle.nbt_judging.proofs.own_fine.Tie as tie
 
 -- The name is judged.
 named : (c : tie.After-name_fine) →
-    let a = c.before.before.before.args in
+    let a = c.args in
     let h = head_of a.table.now a.n in
     string_fine (way_no a.way) a.doc.now h.name h.name_length a.n ≡ fine_out c.name_fine.result
 named c = sym c.name_fine.ensures
 
 returns : tie.Need-returns-then-twice
 returns c =
-    let passed = c.before in
-    sym (own-twice _ _ _ _ _ _ _ _ (named passed.before.before ∙ ap fine_out passed.in-Yes.is) c.if-twice.true)
+    sym (own-twice _ _ _ _ _ _ _ _ (named c.before.before ∙ ap fine_out c.in-Yes.is) c.if-twice.true)
 
 returns-2 : tie.Need-returns-in-No
 returns-2 c =
-    let refused = c.before in
-    sym (own_name _ _ _ _ _ _ _ _ (named refused.before.before ∙ ap fine_out refused.in-No.is))
+    sym (own_name _ _ _ _ _ _ _ _ (named c.before ∙ ap fine_out c.in-No.is))
 
 returns-3 : tie.Need-returns-else-twice
 returns-3 c =
-    let once = c.before in
-    let passed = once.before in
-    c.rest_fine.ensures ∙ sym (own_on _ _ _ _ _ _ _ _ (named passed.before.before ∙ ap fine_out passed.in-Yes.is) once.if-twice.false)
+    c.rest_fine.ensures ∙ sym (own_on _ _ _ _ _ _ _ _ (named c.before.before.before ∙ ap fine_out c.in-Yes.is) c.if-twice.false)
 
 pub own_fine_spec : {M : Type 1} → statement M
 own_fine_spec =

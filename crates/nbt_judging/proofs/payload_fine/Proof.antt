@@ -9,28 +9,20 @@ use Rattle.form.specs.Table.{head_of}
 use Rattle.nbt_judging.proofs.payload_fine.Statement.{statement}
 use Rattle.nbt_judging.proofs.payload_fine.Tie as tie
 
--- From where the kind is read.
-abbrev start_of : tie.After-word → tie.Start
-start_of c = c.before.before.before
-
 -- What is judged of a string's span is judged of the record.
 judged : (c : tie.After-word-size) →
-    let string = c.before.before in
-    let a = (start_of string.before).args in
+    let a = c.args in
     let h = head_of a.table.now a.n in
-    string_fine (way_no a.way) a.doc.now c.before.word-start.result c.word-size.result a.n ≡ payload_fine (way_no a.way) a.doc.now h a.n
+    string_fine (way_no a.way) a.doc.now c.word-start.result c.word-size.result a.n ≡ payload_fine (way_no a.way) a.doc.now h a.n
 judged c =
-    let at-start = c.before in
-    let string = at-start.before in
-    let at-kind = string.before in
-    let a = (start_of at-kind).args in
-    (λ i. string_fine (way_no a.way) a.doc.now (at-start.word-start.ensures i) (c.word-size.ensures i) a.n)
-    ∙ sym (payload-string (way_no a.way) a.doc.now (head_of a.table.now a.n) a.n (sym at-kind.word.ensures ∙ string.in-8.is))
+    let a = c.args in
+    (λ i. string_fine (way_no a.way) a.doc.now (c.word-start.ensures i) (c.word-size.ensures i) a.n)
+    ∙ sym (payload-string (way_no a.way) a.doc.now (head_of a.table.now a.n) a.n (sym c.word.ensures ∙ c.in-8.is))
 
 returns-3 : tie.Need-returns-in_default
 returns-3 c =
-    let a = (start_of c.before).args in
-    sym (payload-other (way_no a.way) a.doc.now (head_of a.table.now a.n) a.n (λ q. c.in_default.in_default-own.rest.1 (c.before.word.ensures ∙ q)))
+    let a = c.args in
+    sym (payload-other (way_no a.way) a.doc.now (head_of a.table.now a.n) a.n (λ q. c.in_default.in_default-own.rest.1 (c.word.ensures ∙ q)))
 
 pub payload_fine_spec : {M : Type 1} → statement M
 payload_fine_spec =

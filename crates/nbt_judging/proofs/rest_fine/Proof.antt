@@ -8,33 +8,21 @@ use Rattle.nbt_judging.proofs.Pieces.{rest-deep, rest-mixed, rest-on}
 use Rattle.nbt_judging.proofs.rest_fine.Statement.{statement}
 use Rattle.nbt_judging.proofs.rest_fine.Tie as tie
 
--- From where the kind is read.
-abbrev start_of : tie.After-word-kind → tie.Start
-start_of c = c.before.before.before
-
--- And that from where the kind is compared.
-abbrev word_of : tie.After-mixed → tie.After-word-kind
-word_of c = c.before.before.before
-
 -- The tests are of the record's kind.
-told-deep : (c : tie.After-deep) → let a = (start_of c.before).args in deep (head_of a.table.now a.n).kind a.left ≡ c.deep.result
-told-deep c = let a = (start_of c.before).args in sym (c.deep.ensures ∙ ap (λ x. deep x a.left) c.before.word-kind.ensures)
+told-deep : (c : tie.After-deep) → let a = c.args in deep (head_of a.table.now a.n).kind a.left ≡ c.deep.result
+told-deep c = let a = c.args in sym (c.deep.ensures ∙ ap (λ x. deep x a.left) c.word-kind.ensures)
 
-told-mixed : (c : tie.After-mixed) → let a = (start_of (word_of c)).args in mixed a.list (head_of a.table.now a.n).kind a.k ≡ c.mixed.result
-told-mixed c = let a = (start_of (word_of c)).args in sym (c.mixed.ensures ∙ ap (λ x. mixed a.list x a.k) (word_of c).word-kind.ensures)
+told-mixed : (c : tie.After-mixed) → let a = c.args in mixed a.list (head_of a.table.now a.n).kind a.k ≡ c.mixed.result
+told-mixed c = let a = c.args in sym (c.mixed.ensures ∙ ap (λ x. mixed a.list x a.k) c.word-kind.ensures)
 
 returns-2 : tie.Need-returns-then-mixed
 returns-2 c =
-    let at-mixed = c.before in
-    let shallow = at-mixed.before in
-    sym (rest-mixed _ _ _ _ _ _ _ (told-deep shallow.before ∙ shallow.if-deep.false) (told-mixed at-mixed ∙ c.if-mixed.true))
+    sym (rest-mixed _ _ _ _ _ _ _ (told-deep c.before.before.before ∙ c.if-deep.false) (told-mixed c.before ∙ c.if-mixed.true))
 
 returns-3 : tie.Need-returns
 returns-3 c =
-    let at-mixed = c.before.before in
-    let shallow = at-mixed.before in
     c.payload_fine.ensures
-    ∙ sym (rest-on _ _ _ _ _ _ _ (told-deep shallow.before ∙ shallow.if-deep.false) (told-mixed at-mixed ∙ c.before.if-mixed.false))
+    ∙ sym (rest-on _ _ _ _ _ _ _ (told-deep c.before.before.before.before ∙ c.if-deep.false) (told-mixed c.before.before ∙ c.if-mixed.false))
 
 pub rest_fine_spec : {M : Type 1} → statement M
 rest_fine_spec =

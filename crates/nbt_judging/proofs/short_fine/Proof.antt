@@ -13,32 +13,25 @@ use Rattle.form.proofs.Writing.{string-bad, string-good}
 use Rattle.nbt_judging.proofs.short_fine.Statement.{statement}
 use Rattle.nbt_judging.proofs.short_fine.Tie as tie
 
--- The start, from where the part that is judged is taken.
-abbrev start_of : tie.After-is_well_formed-arg-1 → tie.Start
-start_of c = c.before.before
-
 -- What is told of the part that is judged is told of the span.
 told : (c : tie.After-is_well_formed) →
-    let a = (start_of c.before.before).args in
+    let a = c.args in
     well_formed_in (way_no a.way).from.strings (part a.doc.now a.start a.size) ≡ c.is_well_formed.result
 told c =
-    let at_source = c.before in
-    let a = (start_of at_source.before).args in
+    let a = c.args in
     judged-part (well_formed_in (way_no a.way).from.strings) a.doc.now a.start a.size
-    (rw (← at_source.source.ensures) (sym c.is_well_formed.ensures))
+    (rw (← c.source.ensures) (sym c.is_well_formed.ensures))
 
 returns : tie.Need-returns-then-is_well_formed
 returns c =
-    let start = start_of c.before.before.before in
-    let a = start.args in
+    let a = c.args in
     let most = recoded-bound (way_no a.way) (part a.doc.now a.start a.size) in
-    let long = part_length a.doc.now a.start a.size start.pre.0 in
-    sym (string-good _ _ _ _ _ (omega (arith, start.pre.1)) (told c.before ∙ c.if-is_well_formed.true) (omega (arith, most, long, start.pre.1)))
+    let long = part_length a.doc.now a.start a.size c.requires.0 in
+    sym (string-good _ _ _ _ _ (omega (arith, c.requires.1)) (told c.before ∙ c.if-is_well_formed.true) (omega (arith, most, long, c.requires.1)))
 
 returns-2 : tie.Need-returns
 returns-2 c =
-    let start = start_of c.before.before.before in
-    sym (string-bad _ _ _ _ _ (omega (arith, start.pre.1)) (told c.before ∙ c.if-is_well_formed.false))
+    sym (string-bad _ _ _ _ _ (omega (arith, c.requires.1)) (told c.before ∙ c.if-is_well_formed.false))
 
 pub short_fine_spec : {M : Type 1} → statement M
 short_fine_spec =

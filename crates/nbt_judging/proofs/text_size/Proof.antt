@@ -12,12 +12,10 @@ use Rattle.nbt_judging.proofs.text_size.Tie as tie
 
 returns : tie.Need-returns-then-same_rule
 returns c =
-    let at-rule = c.before in
-    let start = at-rule.before.before in
-    let a = start.args in
+    let a = c.args in
     let span = part a.doc.now a.start a.size in
-    let same = recoded-same (way_no a.way) span (sym at-rule.same_rule.ensures ∙ c.if-same_rule.true) in
-    sym (ap length same ∙ part_length a.doc.now a.start a.size start.requires.0)
+    let same = recoded-same (way_no a.way) span (sym c.same_rule.ensures ∙ c.if-same_rule.true) in
+    sym (ap length same ∙ part_length a.doc.now a.start a.size c.requires.0)
 
 pub text_size_spec : {M : Type 1} → statement M
 text_size_spec =

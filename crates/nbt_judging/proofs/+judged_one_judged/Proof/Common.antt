@@ -21,8 +21,8 @@ judged-below t = and 2 judged-kinds.ps (falls 2 judged-kinds.ps ◌<◌ μ-judge
 abbrev pub μ-one-judged : Measures 2 one-judged-kinds.ps ℕ
 μ-one-judged κs a = 2 * a.1.1.1.1.0
 
-abbrev pub one-judged-at : ℕ → In 2 one-judged-kinds.ps
-one-judged-at t = and 2 one-judged-kinds.ps (is 2 one-judged-kinds.ps μ-one-judged t) one-judged.Pre
+abbrev pub one_judged-at : ℕ → In 2 one-judged-kinds.ps
+one_judged-at t = and 2 one-judged-kinds.ps (is 2 one-judged-kinds.ps μ-one-judged t) one-judged.Pre
 
-abbrev pub one-judged-below : ℕ → In 2 one-judged-kinds.ps
-one-judged-below t = and 2 one-judged-kinds.ps (falls 2 one-judged-kinds.ps ◌<◌ μ-one-judged t) one-judged.Pre
+abbrev pub one_judged-below : ℕ → In 2 one-judged-kinds.ps
+one_judged-below t = and 2 one-judged-kinds.ps (falls 2 one-judged-kinds.ps ◌<◌ μ-one-judged t) one-judged.Pre
