@@ -5,21 +5,16 @@ use Rattle.nbt_reader.proofs.Steps.{refused, accepted}
 use Rattle.nbt_reader.proofs.read.Statement.{statement}
 use Rattle.nbt_reader.proofs.read.Tie as tie
 
-returns : tie.Need-returns
+returns : tie.Need-returns-in-No
 returns c =
-    let at_clear = c.before.before in
-    let told = at_clear.before.before in
-    let at_table = told.before.before.before in
-    let at-document = at_table.before.before in
-    let at_arg = at-document.before in
-    let d = at-document.document in
-    refused _ _ at_arg.before.before.before.args.table.now d.new.1.0 (rw told.before.number.given.1 at d.ensures).0 d.auto.1.0
-    at_clear.clear.ensures
+    let d = c.document in
+    refused _ _ c.args.table.now d.new.table.0 (rw c.in-No.is at d.ensures).0 d.auto.table.0
+    c.clear.ensures
 
-returns-2 : tie.Need-returns-2
+returns-2 : tie.Need-returns-in-Next
 returns-2 c =
     let at_table = c.before.before.before in
-    accepted _ _ _ (rw c.before.at.given.1 at at_table.before.before.document.ensures)
+    accepted _ _ _ (rw c.in-Next.is at at_table.document.ensures)
 
 pub read_spec : {M : Type 1} → statement M
 read_spec =

@@ -7,12 +7,12 @@ use Rattle.form.proofs.Payloads.{payload-full}
 use Rattle.nbt_reader.proofs.root.Statement.{statement}
 use Rattle.nbt_reader.proofs.root.Tie as tie
 
-pub root-spec : {M : Type 1} → statement M
-root-spec =
+pub root_spec : {M : Type 1} → statement M
+root_spec =
     tie.close
     (tie.spec
     (λ c κs. search rules)  -- room-requires
-    (λ c. (payload-full _ _ _ _ _ _ _ _ _ (omega (arith, c.before.room.ensures, c.if1.true)), refl))  -- returns
+    (λ c. (payload-full _ _ _ _ _ _ _ _ _ (omega (arith, c.before.room-cap.ensures, c.if-cap-eq0.true)), refl))  -- returns
     (λ c κs. search rules)  -- read-larger-body-requires
     (λ c. search rules)  -- same-length
-    (λ c. let n = c.before.before in rw n.before.before.before.room.ensures at n.read-larger-body.ensures))  -- returns-2
+    (λ c. let n = c.before.before in rw n.before.before.before.room-cap.ensures at n.read_larger_body.ensures))  -- returns-2

@@ -35,8 +35,8 @@ use Rattle.nbt_reader.proofs.bodies.+read_compound_read_container_read_elements_
 use Common.{μ-read-compound, μ-read-container, μ-read-elements, μ-read-larger-body, μ-read-list, μ-read-tag-body, read-compound-at, read-container-at, read-elements-at, read-larger-body-at}
 use Common.{read-list-at, read-tag-body-at, read-compound-below, read-container-below, read-elements-below, read-larger-body-below, read-list-below, read-tag-body-below}
 
-pub +read-compound-read-container-read-elements-read-larger-body-read-list-read-tag-body-spec : {M : Type 1} → statement M
-+read-compound-read-container-read-elements-read-larger-body-read-list-read-tag-body-spec =
+pub +read_compound_read_container_read_elements_read_larger_body_read_list_read_tag_body_spec : {M : Type 1} → statement M
++read_compound_read_container_read_elements_read_larger_body_read_list_read_tag_body_spec =
     close μ-read-compound μ-read-container μ-read-elements μ-read-larger-body μ-read-list μ-read-tag-body
     (λ t. read-compound-lts.spec
     (entry_at.Asked, entry_at.Learnt, settle.Asked, settle.Learnt, finish.Asked, finish.Learnt, read-tag-body-below t, read-tag-body.Post, settle-entry.Asked, settle-entry.Learnt)

@@ -9,16 +9,16 @@ use Rattle.nbt_reader.proofs.Steps.{fixed-got, fixed_no}
 use Rattle.nbt_reader.proofs.bodies.read_fixed.Statement.{statement}
 use Rattle.nbt_reader.proofs.bodies.read_fixed.Tie as tie
 
-abbrev start_of : tie.After-width-of → tie.Start
+abbrev start_of : tie.After-width_of-width → tie.Start
 start_of c = c.before.before.before
 
-returns : tie.Need-returns
+returns : tie.Need-returns-then-doc-at
 returns c form =
     let at_width = c.before in
     let p = (start_of at_width).requires in
-    (leaf-one-no form _ _ _ _ _ (fixed_no form _ _ _ _ p.2 at_width.width-of.ensures.0 (omega (arith, c.if1.true, p.0.ready.at_le))), refl)
+    (leaf-one-no form _ _ _ _ _ (fixed_no form _ _ _ _ p.2 at_width.width_of-width.ensures.0 (omega (arith, c.if-doc-at.true, p.0.ready.at_le))), refl)
 
-returns-2 : tie.Need-returns-2
+returns-2 : tie.Need-returns
 returns-2 c form =
     let at-put = c.before.before in
     let at_leaf = at-put.before in
@@ -29,17 +29,17 @@ returns-2 c form =
     let d = p.0.ready in
     record {
       x = _;
-      is = leaf-one-got form _ _ _ _ _ (fixed-got form _ _ _ _ p.2 at_width.width-of.ensures.0 (omega (arith, at-else.if1.false, d.at_le)));
+      is = leaf-one-got form _ _ _ _ _ (fixed-got form _ _ _ _ p.2 at_width.width_of-width.ensures.0 (omega (arith, at-else.if-doc-at.false, d.at_le)));
       at_is = refl;
       n_is = omega (arith, size_none);
       table = at-put.put.ensures ∙ rw (at_leaf.leaf.ensures, at_wide.wide.ensures) (wrote-leaf _ _ _ _ (omega (arith, d, p.1)));
       on = omega arith;
-      at_le = omega (arith, at-else.if1.false, d.at_le);
+      at_le = omega (arith, at-else.if-doc-at.false, d.at_le);
       n_le = omega (arith, p.1);
     }
 
-pub read-fixed-spec : {M : Type 1} → statement M
-read-fixed-spec =
+pub read_fixed_spec : {M : Type 1} → statement M
+read_fixed_spec =
     tie.close
     (tie.spec
     (λ c κs. search rules)  -- width-of-requires

@@ -14,27 +14,27 @@ use Rattle.nbt_reader.proofs.bodies.read_leaf.Statement.{statement}
 use Rattle.nbt_reader.proofs.bodies.read_leaf.Tie as tie
 
 -- the payload, and the span that was read of it
-abbrev payload-of : tie.After-known-told2 → tie.After-leaf-at
-payload-of c = c.before.before.before
+abbrev payload-of : tie.In-Is → tie.After-leaf_at
+payload-of c = c.before
 
-abbrev start_of : tie.After-known-told2 → tie.Start
+abbrev start_of : tie.In-Is → tie.Start
 start_of c = let at-payload = payload-of c in at-payload.before.before.before
 
-abbrev span : tie.After-known-told2 → Span
-span c = let g = c.before.start.given.0 in record { start = g.0; size = g.1.0; count = g.1.1.0; next = g.1.1.1.0 }
+abbrev span : tie.In-Is → Span
+span c = let g = c.in-Is in record { start = g.start; size = g.len; count = g.count; next = g.next }
 
-is : (c : tie.After-known-told2) → let args = (start_of c).args in leaf_at (form_no args.form) args.doc.now args.kind args.at ≡ got (span c)
-is c = sym (payload-of c).leaf-at.ensures ∙ ap part_out c.before.start.given.1
+is : (c : tie.In-Is) → let args = (start_of c).args in leaf_at (form_no args.form) args.doc.now args.kind args.at ≡ got (span c)
+is c = sym (payload-of c).leaf_at.ensures ∙ ap part_out c.in-Is.is
 
 leaf-requires : tie.Need-leaf-requires
 leaf-requires c κs =
     let told = c.before.before in
     omega (arith, leaf-within _ _ _ _ (is told), (start_of told).requires.0.ready)
 
-returns : tie.Need-returns
-returns c = (leaf-one-no _ _ _ _ _ _ (sym c.before.before.before.leaf-at.ensures ∙ ap part_out c.before.number.given.1), refl)
+returns : tie.Need-returns-in-No
+returns c = (leaf-one-no _ _ _ _ _ _ (sym c.before.leaf_at.ensures ∙ ap part_out c.in-No.is), refl)
 
-returns-2 : tie.Need-returns-2
+returns-2 : tie.Need-returns-in-Is
 returns-2 c =
     let at-put = c.before.before in
     let at_leaf = at-put.before in
@@ -53,8 +53,8 @@ returns-2 c =
       n_le = omega arith;
     }
 
-pub read-leaf-spec : {M : Type 1} → statement M
-read-leaf-spec =
+pub read_leaf_spec : {M : Type 1} → statement M
+read_leaf_spec =
     tie.close
     (tie.spec
     (λ c κs. search rules)

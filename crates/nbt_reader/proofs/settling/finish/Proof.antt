@@ -5,17 +5,17 @@ use borrow.Author.Rules.{rules}
 use Rattle.nbt_reader.proofs.settling.finish.Statement.{statement}
 use Rattle.nbt_reader.proofs.settling.finish.Tie as tie
 
-returns : tie.Need-returns
+returns : tie.Need-returns-in-At
 returns c =
     let at_table = c.before.before.before in
-    let f = at_table.before.before.repeat-place in
-    (sym (rw c.before.p.given.1 at f.ensures.0), f.ensures.1)
+    let f = at_table.repeat_place in
+    (sym (rw c.in-At.is at f.ensures.0), f.ensures.1)
 
-returns-2 : tie.Need-returns-2
+returns-2 : tie.Need-returns-in-Nothing
 returns-2 c =
     let at_table = c.before.before in
-    let f = at_table.before.before.repeat-place in
-    ((sym (rw c.enum_told.given.1 at f.ensures.0), refl, refl, refl), f.ensures.1)
+    let f = at_table.before.repeat_place in
+    ((sym (rw c.in-Nothing.is at f.ensures.0), refl, refl, refl), f.ensures.1)
 
 pub finish_spec : {M : Type 1} → statement M
 finish_spec =

@@ -5,20 +5,20 @@ use borrow.Author.Rules.{rules}
 use Rattle.nbt_reader.proofs.settling.settle.Statement.{statement}
 use Rattle.nbt_reader.proofs.settling.settle.Tie as tie
 
-returns : tie.Need-returns
+returns : tie.Need-returns-in-At
 returns c =
     let at_table = c.before.before.before in
-    let f = at_table.before.before.repeat-place in
-    (settled_at _ _ _ _ (rw c.before.p.given.1 at f.ensures.0), f.ensures.1)
+    let f = at_table.repeat_place in
+    (settled_at _ _ _ _ (rw c.in-At.is at f.ensures.0), f.ensures.1)
 
-returns-2 : tie.Need-returns-2
+returns-2 : tie.Need-returns-in-Nothing
 returns-2 c =
     let at_table = c.before.before in
-    let f = at_table.before.before.repeat-place in
-    (settled-none _ _ _ (rw c.enum_told.given.1 at f.ensures.0), f.ensures.1)
+    let f = at_table.before.repeat_place in
+    (settled-none _ _ _ (rw c.in-Nothing.is at f.ensures.0), f.ensures.1)
 
-pub settle-spec : {M : Type 1} → statement M
-settle-spec =
+pub settle_spec : {M : Type 1} → statement M
+settle_spec =
     tie.close
     (tie.spec
     (λ c κs. search rules)

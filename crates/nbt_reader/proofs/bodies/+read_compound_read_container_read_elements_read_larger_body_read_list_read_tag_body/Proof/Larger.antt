@@ -18,60 +18,60 @@ use Rattle.nbt_fields.proofs.wide.Reads as wide
 use Rattle.table.proofs.container.Reads as container
 use Rattle.table.proofs.put.Reads as put
 use Rattle.nbt_reader.proofs.bodies.+read_compound_read_container_read_elements_read_larger_body_read_list_read_tag_body.Lts-read_larger_body as lts
-use Rattle.nbt_reader.proofs.bodies.+read_compound_read_container_read_elements_read_larger_body_read_list_read_tag_body.Proof.Common.{read-container-below, read-larger-body-at}
+use Rattle.nbt_reader.proofs.bodies.+read_compound_read_container_read_elements_read_larger_body_read_list_read_tag_body.Proof.Common.{read_container-below, read_larger_body-at}
 
 abbrev On : ℕ → (lts.Claims → In 2 kinds.ps → Out 2 kinds.ps kinds.r → Type 0) → Type 0
 On t F =
     F
-    (read-leaf.Asked, read-leaf.Learnt, read-container-below t, read-container.Post, wide.Asked, wide.Learnt, container.Asked, container.Learnt, put.Asked, put.Learnt)
-    (read-larger-body-at t)
+    (read-leaf.Asked, read-leaf.Learnt, read_container-below t, read-container.Post, wide.Asked, wide.Learnt, container.Asked, container.Learnt, put.Asked, put.Learnt)
+    (read_larger_body-at t)
     read-larger-body.Post
 
 module _ (t : ℕ) where
   -- ---- places
 
-  abbrev leaf-start : On t lts.Joined1 → On t lts.Start
+  abbrev leaf-start : On t lts.In_default → On t lts.Start
   leaf-start c = c.before.before.before
 
   -- of a container: its test, what is in it, and its record
-  abbrev test_of : On t lts.After-read-container → On t lts.Then2
+  abbrev test_of : On t lts.After-read_container → On t lts.In-9
   test_of c = c.before.before
 
-  abbrev start_of : On t lts.Then2 → On t lts.Start
+  abbrev start_of : On t lts.In-9 → On t lts.Start
   start_of c = let at-kind = c.before in at-kind.before.before.before
 
-  abbrev inside-no : On t lts.After-known-told → On t lts.After-read-container
+  abbrev inside-no : On t lts.In-No → On t lts.After-read_container
   inside-no c = let at-match = c.before.before in at-match.before.before.before
 
-  abbrev inside-got : On t lts.After-known-told2 → On t lts.After-read-container
+  abbrev inside-got : On t lts.In-Done → On t lts.After-read_container
   inside-got c = let at-match = c.before.before in at-match.before.before.before
 
-  abbrev got_of : On t lts.After-wide2 → On t lts.After-known-told2
+  abbrev got_of : On t lts.After-wide-in-Done → On t lts.In-Done
   got_of c = c.before.before.before
 
   -- ---- a leaf
 
-  holds_not : (c : On t lts.Joined1) → holds (leaf-start c).args.kind ≡ false
+  holds_not : (c : On t lts.In_default) → holds (leaf-start c).args.kind ≡ false
   holds_not c = ⊎_elim (λ l. holds-below _ l.taken) (λ l. holds-above (leaf-start c).args.kind (omega (arith, l.1.left))) c.if1.branch
 
-  pub read-leaf-requires : On t lts.Need-read-leaf-requires
+  pub read-leaf-requires : On t lts.Need-read_leaf-requires
   read-leaf-requires c κs = (leaf-start c.before).pre.1
 
-  pub same_length : On t lts.Need-same-length
-  same_length c = c.before.before.read-leaf.auto.1.1.1.1.1.0
+  pub same_length : On t lts.Need-shape_of-table-in_default
+  same_length c = c.before.before.read_leaf.auto.1.1.1.1.1.0
 
-  pub returns : On t lts.Need-returns
+  pub returns : On t lts.Need-returns-in_default
   returns c =
       let at_leaf = c.before.before in
       let joined = at_leaf.before.before in
-      rw (payload-leaf _ _ _ _ _ _ _ _ _ (leaf-start joined).requires.1.1 (holds_not joined)) at_leaf.read-leaf.ensures
+      rw (payload-leaf _ _ _ _ _ _ _ _ _ (leaf-start joined).requires.1.1 (holds_not joined)) at_leaf.read_leaf.ensures
 
   -- ---- a container
 
-  holds-is : (c : On t lts.Then2) → holds (start_of c).args.kind ≡ true
-  holds-is c = holds-between _ c.before.if1.false (omega (arith, c.if2.true))
+  holds-is : (c : On t lts.In-9) → holds (start_of c).args.kind ≡ true
+  holds-is c = holds-between _ c.before.if1.false (omega (arith, c.if-kind-lt11.true))
 
-  pub read-container-requires : On t lts.Need-read-container-requires
+  pub read-container-requires : On t lts.Need-read_container-requires
   read-container-requires c κs =
       let asked = (start_of c.before).pre.1 in
       let ready = asked.0.ready in (
@@ -83,7 +83,7 @@ module _ (t : ℕ) where
   container-requires c κs =
       let told = got_of c in
       let inside = inside-got told in
-      let s = held-done inside.read-container.result told.before.next.given.1 inside.read-container.ensures in
+      let s = held-done inside.read_container.result told.before.in-Done.is inside.read_container.ensures in
       let asked = (start_of (test_of inside)).pre.1.0 in
       omega (arith, asked, asked.ready, s.n_le, s.count_lt)
 
@@ -91,25 +91,25 @@ module _ (t : ℕ) where
   put-requires c κs =
       let inside = inside-got (got_of c.before) in
       let asked = (start_of (test_of inside)).pre.1 in
-      omega (arith, asked.0.ready, inside.read-container.kept.1.1.1.1.0, asked.1)
+      omega (arith, asked.0.ready, inside.read_container.kept.1.1.1.1.0, asked.1)
 
-  pub same-length-2 : On t lts.Need-same-length-2
-  same-length-2 c = (inside-no c).read-container.auto.1.1.1.1.0
+  pub same-length-2 : On t lts.Need-shape_of-table-in-No
+  same-length-2 c = (inside-no c).read_container.auto.1.1.1.1.0
 
-  pub returns-2 : On t lts.Need-returns-2
+  pub returns-2 : On t lts.Need-returns-in-No
   returns-2 c =
       let inside = inside-no c in
-      let s = held-no inside.read-container.result _ _ _ _ _ _ _ c.before.number.given.1 inside.read-container.ensures in
+      let s = held-no inside.read_container.result _ _ _ _ _ _ _ c.before.in-No.is inside.read_container.ensures in
       let test = test_of inside in
       let start = start_of test in
       (payload-no _ _ _ _ _ _ _ _ _ start.pre.1.1 (holds-is test) s.0, kept_less _ _ start.args.ix (start.args.ix + 1) (omega arith) s.1)
 
-  pub same-length-3 : On t lts.Need-same-length-3
+  pub same-length-3 : On t lts.Need-shape_of-table-in-Done
   same-length-3 c =
       let at-put = c.before.before in
-      at-put.put.auto.0 ∙ (inside-got (got_of at-put.before.before)).read-container.kept.1.1.1.1.0
+      at-put.put.auto.0 ∙ (inside-got (got_of at-put.before.before)).read_container.kept.1.1.1.1.0
 
-  pub returns-3 : On t lts.Need-returns-3
+  pub returns-3 : On t lts.Need-returns-in-Done
   returns-3 c =
       let at-put = c.before.before in
       let at-container = at-put.before in
@@ -117,7 +117,7 @@ module _ (t : ℕ) where
       let told = got_of at_wide in
       let inside = inside-got told in
       let test = test_of inside in
-      let s = held-done inside.read-container.result told.before.next.given.1 inside.read-container.ensures in
+      let s = held-done inside.read_container.result told.before.in-Done.is inside.read_container.ensures in
       let asked = (start_of test).pre.1 in
       record {
         x = _;
@@ -125,7 +125,7 @@ module _ (t : ℕ) where
         at_is = s.at_is;
         n_is = s.n_is;
         table =
-            held-table _ _ s (rw (at_wide.before.wide.ensures, at_wide.wide2.ensures) at at-container.container.ensures) at-put.put.ensures
+            held-table _ _ s (rw (at_wide.before.wide.ensures, at_wide.wide-in-Done.ensures) at at-container.container.ensures) at-put.put.ensures
             (omega (arith, asked.0.ready, asked.1));
         on = s.on;
         at_le = s.at_le;

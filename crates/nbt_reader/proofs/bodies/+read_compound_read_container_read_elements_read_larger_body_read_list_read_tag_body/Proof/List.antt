@@ -16,68 +16,68 @@ use Rattle.nbt_reader.proofs.bodies.read_list.Kinds as kinds
 use Rattle.nbt_fields.proofs.list_head.Reads as list-head
 use Rattle.nbt_reader.proofs.bodies.read_elements.Reads as read-elements
 use Rattle.nbt_reader.proofs.bodies.+read_compound_read_container_read_elements_read_larger_body_read_list_read_tag_body.Lts-read_list as lts
-use Rattle.nbt_reader.proofs.bodies.+read_compound_read_container_read_elements_read_larger_body_read_list_read_tag_body.Proof.Common.{read-elements-below, read-list-at}
+use Rattle.nbt_reader.proofs.bodies.+read_compound_read_container_read_elements_read_larger_body_read_list_read_tag_body.Proof.Common.{read_elements-below, read_list-at}
 
 abbrev On : ℕ → (lts.Claims → In 2 kinds.ps → Out 2 kinds.ps kinds.r → Type 0) → Type 0
-On t F = F (list-head.Asked, list-head.Learnt, read-elements-below t, read-elements.Post) (read-list-at t) read-list.Post
+On t F = F (list-head.Asked, list-head.Learnt, read_elements-below t, read-elements.Post) (read_list-at t) read-list.Post
 
 module _ (t : ℕ) where
   -- ---- places
 
-  abbrev start_of : On t lts.After-list-head → On t lts.Start
+  abbrev start_of : On t lts.After-list_head → On t lts.Start
   start_of c = c.before.before.before
 
-  abbrev head-of : On t lts.After-known-told2 → On t lts.After-list-head
+  abbrev head-of : On t lts.In-Is → On t lts.After-list_head
   head-of c = c.before.before.before
 
-  abbrev elements-no : On t lts.After-known-told3 → On t lts.After-read-elements
+  abbrev elements-no : On t lts.In-No-read_elements → On t lts.After-read_elements
   elements-no c = let at-match = c.before.before in at-match.before.before.before
 
-  abbrev elements-got : On t lts.After-known-told4 → On t lts.After-read-elements
+  abbrev elements-got : On t lts.In-Done → On t lts.After-read_elements
   elements-got c = let at-match = c.before.before in at-match.before.before.before
 
   -- ---- the head
 
-  pub list-head-requires : On t lts.Need-list-head-requires
+  pub list-head-requires : On t lts.Need-list_head-requires
   list-head-requires c κs = c.before.before.requires.1.at_le
 
-  pub returns : On t lts.Need-returns
-  returns c = (list-head-no _ _ _ _ _ (sym c.before.before.before.list-head.ensures ∙ ap list_head_out c.before.number.given.1), refl)
+  pub returns : On t lts.Need-returns-in-No
+  returns c = (list-head-no _ _ _ _ _ (sym c.before.before.before.list_head.ensures ∙ ap list_head_out c.before.in-No.is), refl)
 
   -- the head that was read
-  is : (c : On t lts.After-known-told2) →
+  is : (c : On t lts.In-Is) →
       let args = (start_of (head-of c)).args in
-      let head = c.before.kind.given.0 in
-      list_head_at (form_no args.form) args.doc.now args.at ≡ got (record { kind = head.0; count = head.1.0 })
-  is c = sym (head-of c).list-head.ensures ∙ ap list_head_out c.before.kind.given.1
+      let head = c.before.in-Is in
+      list_head_at (form_no args.form) args.doc.now args.at ≡ got (record { kind = head.kind; count = head.count })
+  is c = sym (head-of c).list_head.ensures ∙ ap list_head_out c.before.in-Is.is
 
   -- ---- the elements
 
-  pub add-read-elements : On t lts.Need-overflow-add-read-elements
+  pub add-read-elements : On t lts.Need-overflow_add-at
   add-read-elements c = omega (arith, list-head-within _ _ _ (is c))
 
-  pub read-elements-requires : On t lts.Need-read-elements-requires
+  pub read-elements-requires : On t lts.Need-read_elements-requires
   read-elements-requires c κs =
       let r = (start_of (head-of c.before)).pre.1 in
       let w = list-head-within _ _ _ (is c.before) in
       (omega arith, (record { doc_le = r.doc_le; at_le = w.0; cap_le = r.cap_le; fits = r.fits; n_le = r.n_le; above_le = r.above_le }, w.1))
 
-  pub same_length : On t lts.Need-same-length
-  same_length c = (elements-no c).read-elements.auto.1.1.1.1.1.0
+  pub same_length : On t lts.Need-shape_of-table-in-No-read_elements
+  same_length c = (elements-no c).read_elements.auto.1.1.1.1.1.0
 
-  pub returns-2 : On t lts.Need-returns-2
+  pub returns-2 : On t lts.Need-returns-in-No-read_elements
   returns-2 c =
       let e = elements-no c in
-      let s = went-no e.read-elements.result _ _ _ _ _ _ _ c.before.number2.given.1 e.read-elements.ensures in
+      let s = went-no e.read_elements.result _ _ _ _ _ _ _ c.before.in-No-read_elements.is e.read_elements.ensures in
       (list-no _ _ _ _ _ (is e.before.before) s.0, s.1)
 
-  pub same-length-2 : On t lts.Need-same-length-2
-  same-length-2 c = (elements-got c).read-elements.auto.1.1.1.1.1.0
+  pub same-length-2 : On t lts.Need-shape_of-table-in-Done
+  same-length-2 c = (elements-got c).read_elements.auto.1.1.1.1.1.0
 
-  pub returns-3 : On t lts.Need-returns-3
+  pub returns-3 : On t lts.Need-returns-in-Done
   returns-3 c =
       let e = elements-got c in
-      let s = went-done e.read-elements.result c.before.next.given.1 e.read-elements.ensures in
+      let s = went-done e.read_elements.result c.before.in-Done.is e.read_elements.ensures in
       let w = list-head-within _ _ _ (is e.before.before) in
       record {
         x = _;
@@ -86,7 +86,7 @@ module _ (t : ℕ) where
         n_is = s.n_is;
         count_is = refl;
         kind_is = refl;
-        table = s.table;
+        table = s.table-1;
         on = omega (arith, s.on);
         at_le = s.at_le;
         n_le = s.n_le;

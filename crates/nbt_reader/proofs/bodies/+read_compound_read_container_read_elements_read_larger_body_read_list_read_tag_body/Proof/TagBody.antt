@@ -11,43 +11,43 @@ use Rattle.nbt_reader.proofs.bodies.read_tag_body.Kinds as kinds
 use Rattle.nbt_reader.proofs.bodies.read_fixed.Reads as read-fixed
 use Rattle.nbt_reader.proofs.bodies.read_larger_body.Reads as read-larger-body
 use Rattle.nbt_reader.proofs.bodies.+read_compound_read_container_read_elements_read_larger_body_read_list_read_tag_body.Lts-read_tag_body as lts
-use Rattle.nbt_reader.proofs.bodies.+read_compound_read_container_read_elements_read_larger_body_read_list_read_tag_body.Proof.Common.{read-larger-body-below, read-tag-body-at}
+use Rattle.nbt_reader.proofs.bodies.+read_compound_read_container_read_elements_read_larger_body_read_list_read_tag_body.Proof.Common.{read_larger_body-below, read_tag_body-at}
 
 abbrev On : ℕ → (lts.Claims → In 2 kinds.ps → Out 2 kinds.ps kinds.r → Type 0) → Type 0
-On t F = F (read-fixed.Asked, read-fixed.Learnt, read-larger-body-below t, read-larger-body.Post) (read-tag-body-at t) read-tag-body.Post
+On t F = F (read-fixed.Asked, read-fixed.Learnt, read_larger_body-below t, read-larger-body.Post) (read_tag_body-at t) read-tag-body.Post
 
 module _ (t : ℕ) where
   -- the start, where there is room
-  abbrev start_of : On t lts.Else1 → On t lts.Start
+  abbrev start_of : On t lts.Else-cap-ix → On t lts.Start
   start_of c = c.before.before.before
 
-  pub returns : On t lts.Need-returns
-  returns c = (payload-full _ _ _ _ _ _ _ _ _ c.if1.true, refl)
+  pub returns : On t lts.Need-returns-then-cap-ix
+  returns c = (payload-full _ _ _ _ _ _ _ _ _ c.if-cap-ix.true, refl)
 
-  pub read-fixed-requires : On t lts.Need-read-fixed-requires
+  pub read-fixed-requires : On t lts.Need-read_fixed-requires
   read-fixed-requires c κs =
       let at-kind = c.before in
       let at_room = at-kind.before in
-      ((start_of at_room).requires.1, at_room.if1.false, at-kind.if2.true)
+      ((start_of at_room).requires.1, at_room.if-cap-ix.false, at-kind.if-kind-lt7.true)
 
-  pub same_length : On t lts.Need-same-length
-  same_length c = c.before.before.read-fixed.auto.1.1.1.1.1.0
+  pub same_length : On t lts.Need-shape_of-table-in-0-to-6
+  same_length c = c.before.before.read_fixed.auto.1.1.1.1.1.0
 
-  pub returns-2 : On t lts.Need-returns-2
+  pub returns-2 : On t lts.Need-returns-in-0-to-6
   returns-2 c =
       let at-fixed = c.before.before in
       let at-kind = at-fixed.before.before in
       let kind = (start_of at-kind.before).args.kind in
-      rw (payload-leaf _ _ _ _ _ _ _ _ _ at-kind.before.if1.false (holds-below kind (omega (arith, at-kind.if2.true)))) (at-fixed.read-fixed.ensures _)
+      rw (payload-leaf _ _ _ _ _ _ _ _ _ at-kind.before.if-cap-ix.false (holds-below kind (omega (arith, at-kind.if-kind-lt7.true)))) (at-fixed.read_fixed.ensures _)
 
-  pub read-larger-body-requires : On t lts.Need-read-larger-body-requires
+  pub read-larger-body-requires : On t lts.Need-read_larger_body-requires
   read-larger-body-requires c κs =
       let at-kind = c.before in
       let at_room = at-kind.before in
-      (omega arith, ((start_of at_room).requires.1, at_room.if1.false, omega (arith, at-kind.if2.false)))
+      (omega arith, ((start_of at_room).requires.1, at_room.if-cap-ix.false, omega (arith, at-kind.if-kind-lt7.false)))
 
-  pub same-length-2 : On t lts.Need-same-length-2
-  same-length-2 c = c.before.before.read-larger-body.auto.1.1.1.1.1.1.0
+  pub same-length-2 : On t lts.Need-shape_of-table-in_default
+  same-length-2 c = c.before.before.read_larger_body.auto.1.1.1.1.1.1.0
 
-  pub returns-3 : On t lts.Need-returns-3
-  returns-3 c = c.before.before.read-larger-body.ensures
+  pub returns-3 : On t lts.Need-returns-in_default
+  returns-3 c = c.before.before.read_larger_body.ensures
