@@ -3,11 +3,11 @@ use Rattle.query_reach.proofs.Plans.{below, from_low}
 use Rattle.query_reach.proofs.between.Statement.{statement}
 use Rattle.query_reach.proofs.between.Tie as tie
 
-returns : tie.Need-returns
-returns c = below _ _ _ c.if1.true
+returns : tie.Need-returns-then-x-low
+returns c = below _ _ _ c.if-x-low.true
 
-returns-2 : tie.Need-returns-2
-returns-2 c = from_low _ _ _ c.if1.false
+returns-2 : tie.Need-returns
+returns-2 c = from_low _ _ _ c.if-x-low.false
 
-pub between-spec : {M : Type 1} → statement M
-between-spec = tie.close (tie.spec returns returns-2)
+pub between_spec : {M : Type 1} → statement M
+between_spec = tie.close (tie.spec returns returns-2)

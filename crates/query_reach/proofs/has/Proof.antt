@@ -8,5 +8,5 @@ use Rattle.query_reach.proofs.has.Tie as tie
 returns : tie.Need-returns
 returns c = unfold has in refl
 
-pub has-spec : {M : Type 1} → statement M
-has-spec = tie.close (tie.spec (λ c. search rules) (λ c. search rules) returns)
+pub has_spec : {M : Type 1} → statement M
+has_spec = tie.close (tie.spec (λ c. search rules) (λ c. search rules) returns)

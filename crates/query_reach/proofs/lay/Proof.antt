@@ -6,12 +6,10 @@ use Rattle.query_reach.proofs.lay.Tie as tie
 
 returns : tie.Need-returns
 returns c =
-    let at-deeps = c.before.before in
-    let at-put = at-deeps.before.before in
-    laid at-put.before.put-steps-arg.given.0.1 at-put.put-steps.ensures at-deeps.of-kind.ensures c.of-kind2.ensures
+    laid c.put_steps-arg-1.given.0.1 c.put_steps.ensures c.of_kind-deeps.ensures c.of_kind-asks.ensures
 
-pub lay-spec : {M : Type 1} → statement M
-lay-spec =
+pub lay_spec : {M : Type 1} → statement M
+lay_spec =
     tie.close
     (tie.spec
     (λ c κs. search rules)

@@ -5,11 +5,11 @@ use Rattle.query_reach.proofs.Sets.{least-is}
 use Rattle.query_reach.proofs.least.Statement.{statement}
 use Rattle.query_reach.proofs.least.Tie as tie
 
-cast-result : tie.Need-overflow-cast-result
+cast-result : tie.Need-overflow_cast-result
 cast-result c = omega (arith, trailing_le 32 c.args.set)
 
 returns : tie.Need-returns
 returns c = least-is 32 c.args.set c.requires (omega arith)
 
-pub least-spec : {M : Type 1} → statement M
-least-spec = tie.close (tie.spec cast-result returns)
+pub least_spec : {M : Type 1} → statement M
+least_spec = tie.close (tie.spec cast-result returns)

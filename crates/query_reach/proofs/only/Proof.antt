@@ -7,5 +7,5 @@ use Rattle.query_reach.proofs.only.Tie as tie
 returns : tie.Need-returns
 returns c = one_shl c.args.s c.requires
 
-pub only-spec : {M : Type 1} → statement M
-only-spec = tie.close (tie.spec (λ c. search rules) (λ c. search rules) returns)
+pub only_spec : {M : Type 1} → statement M
+only_spec = tie.close (tie.spec (λ c. search rules) (λ c. search rules) returns)

@@ -12,65 +12,65 @@ use Rattle.query_reach.proofs.Hopping.{Taking, taking-start, taking-next, taking
 use Rattle.query_reach.proofs.takers.Statement.{statement}
 use Rattle.query_reach.proofs.takers.Tie as tie
 
-abbrev Inv : tie.invariant-loop
+abbrev Inv : tie.invariant-loop-rest
 Inv doc table q plan set parent c index rest₀ out₀ rest out = Taking (planned q plan) (hop_to doc table parent c index) set (bit_and set (get_or plan 1 0)) out rest
 
-abbrev μ : tie.decreases-loop
+abbrev μ : tie.decreases-loop-rest
 μ doc table q plan set parent c index rest₀ out₀ rest out = rest
 
 -- The places: where the function begins, from a turn of the loop, and the turn, from its step.
-abbrev loop-start : tie.At-loop Inv μ → tie.Start Inv μ
-loop-start c = let at-slices = c.before.before in at-slices.before.before.before
+abbrev loop-start : tie.At-loop-rest Inv μ → tie.Start Inv μ
+loop-start c = let at-slices = c.before.before in at-slices.before.before.before.before
 
-abbrev loop-of : tie.After-least Inv μ → tie.At-loop Inv μ
+abbrev loop-of : tie.After-least-s Inv μ → tie.At-loop-rest Inv μ
 loop-of c = c.before.before
 
 -- The step that is asked is one of the plan.
-asked : (c : tie.After-least Inv μ) → (0 < c.least.result) × (c.least.result ≤ 16)
+asked : (c : tie.After-least-s Inv μ) → (0 < c.least-s.result) × (c.least-s.result ≤ 16)
 asked c =
-    let p = (loop-start (loop-of c)).pre.0 in
-    asked-step p.1 p.2 (loop-of c).loop.invariant c.least.ensures
+    let p = (loop-start (loop-of c)).requires.0 in
+    asked-step p.1 p.2 (loop-of c).loop-rest.invariant c.least-s.ensures
 
-sub_out : tie.Need-overflow-sub-out Inv μ
+sub_out : tie.Need-overflow_sub-out Inv μ
 sub_out c = within-le _ _ (within_both _ _)
 
-loop-holds : tie.Need-loop-init Inv μ
+loop-holds : tie.Need-loop-rest-init Inv μ
 loop-holds c = taking-start _ _ _ _ (within_both _ _)
 
-least-requires : tie.Need-least-requires Inv μ
-least-requires c κs = c.loop-test.true
+least-requires : tie.Need-least-s-requires Inv μ
+least-requires c κs = c.loop-rest-test.true
 
-step-takes-requires : tie.Need-step-takes-requires Inv μ
-step-takes-requires c κs =
-    let p = (loop-start (loop-of c)).pre in
-    ((asked c).1, asked-name p.0.1 p.0.2 (loop-of c).loop.invariant c.least.ensures, p.1, p.2)
+step_takes-requires : tie.Need-step_takes-requires Inv μ
+step_takes-requires c κs =
+    let p = (loop-start (loop-of c)).requires in
+    ((asked c).1, asked-name p.0.1 p.0.2 (loop-of c).loop-rest.invariant c.least-s.ensures, p.1, p.2)
 
-sub-rest : tie.Need-overflow-sub-rest Inv μ
+sub-rest : tie.Need-overflow_sub-rest Inv μ
 sub-rest c =
     let at_least_lem = c.before.before.before in
-    (least-le at_least_lem.least.ensures c.only.ensures).0
+    (least-le at_least_lem.least-s.ensures c.only-rest.ensures).0
 
-loop-less : tie.Need-loop-smaller Inv μ
+loop-less : tie.Need-loop-rest-smaller Inv μ
 loop-less c =
     let at_least_lem = c.before.before.before in
-    (least-le at_least_lem.least.ensures c.only.ensures).1
+    (least-le at_least_lem.least-s.ensures c.only-rest.ensures).1
 
-loop-again : tie.Need-loop-preserved Inv μ
+loop-again : tie.Need-loop-rest-preserved Inv μ
 loop-again c =
     let at_mark = c.before in
     let at-step-takes = at_mark.before in
     let at_least_lem = at-step-takes.before in
-    let takes = at-step-takes.step-takes.ensures ∙ takes_at_lem _ _ _ (asked at_least_lem).0 in
-    taking-next _ _ _ _ (loop-of at_least_lem).loop.invariant at_least_lem.least.ensures takes at_mark.mark.ensures c.only.ensures
+    let takes = at-step-takes.step_takes.ensures ∙ takes_at_lem _ _ _ (asked at_least_lem).0 in
+    taking-next _ _ _ _ (loop-of at_least_lem).loop-rest.invariant at_least_lem.least-s.ensures takes at_mark.mark-out.ensures c.only-rest.ensures
 
 returns : tie.Need-returns Inv μ
 returns c =
     let at-loop = c.before in
     let p = (loop-start at-loop).requires in
-    taking-end p.0.1 p.0.2 at-loop.loop.invariant c.loop-test.false
+    taking-end p.0.1 p.0.2 at-loop.loop-rest.invariant c.loop-rest-test.false
 
-pub takers-spec : {M : Type 1} → statement M
-takers-spec =
+pub takers_spec : {M : Type 1} → statement M
+takers_spec =
     tie.close
     (tie.spec
     Inv
@@ -79,7 +79,7 @@ takers-spec =
     sub_out
     loop-holds
     least-requires
-    step-takes-requires
+    step_takes-requires
     (λ c κs. (asked c.before).1)
     (λ c κs. (asked c.before.before).1)
     sub-rest
