@@ -7,8 +7,8 @@ use Rattle.snbt_contents.proofs.Fronts.{front-escape, front-other}
 use Rattle.snbt_contents.proofs.front_at.Statement.{statement}
 use Rattle.snbt_contents.proofs.front_at.Tie as tie
 
-pub front-at-spec : {M : Type 1} → statement M
-front-at-spec =
+pub front_at_spec : {M : Type 1} → statement M
+front_at_spec =
     tie.close
     (tie.spec
     (λ c. search rules)
@@ -17,9 +17,9 @@ front-at-spec =
     (λ c.
     let at-opens = c.before.before in
     let a = at-opens.before.before.before.args in
-    c.escaped-at.ensures ∙ front-escape a.text.now a.at a.end (omega arith) (omega arith) a.quoted (sym at-opens.opens-escape.ensures ∙ c.before.if1.true))
+    c.escaped_at.ensures ∙ front-escape a.text.now a.at a.end (omega arith) (omega arith) a.quoted (sym at-opens.opens_escape.ensures ∙ c.before.if-opens_escape.true))
     (λ c κs. search rules)
     (λ c.
     let at-opens = c.before.before in
     let a = at-opens.before.before.before.args in
-    c.written_at.ensures ∙ front-other a.text.now a.at a.end (omega arith) (omega arith) a.quoted (sym at-opens.opens-escape.ensures ∙ c.before.if1.false)))
+    c.written_at.ensures ∙ front-other a.text.now a.at a.end (omega arith) (omega arith) a.quoted (sym at-opens.opens_escape.ensures ∙ c.before.if-opens_escape.false)))

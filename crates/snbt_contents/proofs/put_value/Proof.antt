@@ -5,22 +5,18 @@ use borrow.Author.Rules.{rules}
 use Rattle.snbt_contents.proofs.put_value.Statement.{statement}
 use Rattle.snbt_contents.proofs.put_value.Tie as tie
 
-returns : tie.Need-returns
+returns : tie.Need-returns-in-To
 returns c =
-    let answered = c.before.before.before in
-    let put = answered.before.before in
-    let w = rw c.before.next.given.1 at put.put-scalar.ensures in
+    let w = rw c.in-To.is at c.put_scalar.ensures in
     (w.0, w.2)
 
-returns-2 : tie.Need-returns-2
+returns-2 : tie.Need-returns-in-Full
 returns-2 c =
-    let answered = c.before.before in
-    let put = answered.before.before in
-    let full = rw c.enum_told.given.1 at put.put-scalar.ensures in
-    absurd (omega (arith, full.0, put.before.before.before.requires.1))
+    let full = rw c.in-Full.is at c.put_scalar.ensures in
+    absurd (omega (arith, full.0, c.requires.1))
 
-pub put-value-spec : {M : Type 1} → statement M
-put-value-spec =
+pub put_value_spec : {M : Type 1} → statement M
+put_value_spec =
     tie.close
     (tie.spec
     (λ c κs. search rules)  -- put-scalar-requires
