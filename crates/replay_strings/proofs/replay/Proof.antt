@@ -7,11 +7,11 @@ use Rattle.replay_strings.proofs.replay.Statement.{statement}
 use Rattle.replay_strings.proofs.replay.Tie as tie
 
 abbrev invariant-loop : tie.invariant-loop-turns
-invariant-loop chunk₀ line₀ bytes₀ out₀ input₀ turns₀ t10 chunk line bytes out input turns =
+invariant-loop chunk₀ line₀ bytes₀ out₀ input₀ turns₀ chunk line bytes out input turns =
     (length chunk ≡ length chunk₀) × (length line ≡ length line₀) × (length bytes ≡ length bytes₀) × (length out ≡ length out₀)
 
 abbrev decreases-loop : tie.decreases-loop-turns
-decreases-loop chunk₀ line₀ bytes₀ out₀ input₀ turns₀ t10 chunk line bytes out input turns = turns
+decreases-loop chunk₀ line₀ bytes₀ out₀ input₀ turns₀ chunk line bytes out input turns = turns
 
 pub replay_spec : {M : Type 1} → statement M
 replay_spec =
