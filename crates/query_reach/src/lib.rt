@@ -1,5 +1,7 @@
 // Rule 9 one hop at a time: which steps of a query may come next after the path to a record. A step is known by how many are left from it
 // on: the last is step 1, and 0 is the end, past them all. A set of these numbers is a word with a bit for each.
+#![tactic(auto)]
+
 ghost use Rattle.std.specs.Prelude.{◌≡◌, List, [], ◌∷◌, ◌++◌, ◌&&◌, ℕ, ◌+◌, ◌≤◌, ◌^◌, length, leb};
 ghost use Rattle.form.specs.Answer.{pick};
 ghost use Rattle.form.specs.Spans.{part, same};

@@ -60,7 +60,9 @@ loop-again c =
     let at_mark = c.before in
     let at-step-takes = at_mark.before in
     let at_least_lem = at-step-takes.before in
-    let takes = at-step-takes.step_takes.ensures ∙ takes_at_lem _ _ _ (asked at_least_lem).0 in
+    let a = c.args in
+    let hop = hop_to a.doc.now a.table.now a.parent a.c a.index in
+    let takes = at-step-takes.step_takes.ensures ∙ takes_at_lem (planned a.q.now a.plan.now) hop _ (asked at_least_lem).0 in
     taking-next _ _ _ _ (loop-of at_least_lem).loop-rest.invariant at_least_lem.least-s.ensures takes at_mark.mark-out.ensures c.only-rest.ensures
 
 returns : tie.Need-returns Inv μ
