@@ -7,8 +7,8 @@ use Rattle.snbt_lexer.proofs.Finds.{whole-kept}
 use Rattle.snbt_lexer.proofs.numeral_found.Statement.{statement}
 use Rattle.snbt_lexer.proofs.numeral_found.Tie as tie
 
-pub numeral-found-spec : {M : Type 1} → statement M
-numeral-found-spec =
+pub numeral_found_spec : {M : Type 1} → statement M
+numeral_found_spec =
     tie.close
     (tie.spec
     (λ c. search rules)
@@ -24,10 +24,10 @@ numeral-found-spec =
     (λ c. search rules)
     (λ c κs. search rules)
     (λ c. search rules)
-    (λ c. let m = c.before.before in rw m.n.given.1 (whole-kept byte m.n.given.0.0 _ _ _ _ (record { sfits = c.before.known-told.given.0.1 }) c.found.ensures))
-    (λ c. let m = c.before.before in rw m.n2.given.1 (whole-kept short m.n2.given.0.0 _ _ _ _ (record { sfits = c.before.known-told2.given.0.1 }) c.found2.ensures))
-    (λ c. let m = c.before.before in rw m.n3.given.1 (whole-kept int m.n3.given.0.0 _ _ _ _ (record { sfits = c.before.known-told3.given.0.1 }) c.found3.ensures))
-    (λ c. let m = c.before.before in rw m.n4.given.1 (whole-kept long m.n4.given.0.0 _ _ _ _ (record { sfits = c.before.known-told4.given.0.1 }) c.found4.ensures))
-    (λ c. rw c.before.before.n5.given.1 c.found5.ensures)
-    (λ c. rw c.before.before.n6.given.1 c.found6.ensures)
-    (λ c. rw c.before.n7.given.1 refl))
+    (λ c. let m = c.before.before in rw c.in-Byte.is (whole-kept byte c.in-Byte.z _ _ _ _ (record { sfits = c.known_told-1.given.0.1 }) c.found.ensures))
+    (λ c. let m = c.before.before in rw c.in-Short.is (whole-kept short c.in-Short.z _ _ _ _ (record { sfits = c.known_told-in-Short-1.given.0.1 }) c.found-in-Short.ensures))
+    (λ c. let m = c.before.before in rw c.in-Int.is (whole-kept int c.in-Int.z _ _ _ _ (record { sfits = c.known_told-in-Int-1.given.0.1 }) c.found-in-Int.ensures))
+    (λ c. let m = c.before.before in rw c.in-Long.is (whole-kept long c.in-Long.z _ _ _ _ (record { sfits = c.known_told-in-Long-1.given.0.1 }) c.found-in-Long.ensures))
+    (λ c. rw c.in-Float.is c.found-in-Float.ensures)
+    (λ c. rw c.in-Double.is c.found-in-Double.ensures)
+    (λ c. rw c.in-Refused.is refl))

@@ -7,8 +7,8 @@ use lib.ListN.{length, get_or, get_or-eq_default}
 use Rattle.snbt_lexer.proofs.peek_at.Statement.{statement}
 use Rattle.snbt_lexer.proofs.peek_at.Tie as tie
 
-pub peek-at-spec : {M : Type 1} → statement M
-peek-at-spec =
+pub peek_at_spec : {M : Type 1} → statement M
+peek_at_spec =
     tie.close
     (tie.spec
     (λ c κs. search rules)
@@ -16,9 +16,9 @@ peek-at-spec =
     (λ c.
     let at-skip = c.before.before in
     let t = at-skip.before.before.args.text.now in
-    let is = at-skip.skip-blank.ensures in
+    let is = at-skip.skip_blank-place.ensures in
     record { place = is; byte = ap (λ (i : ℕ). get_or t i 0) is })
     (λ c.
     let t = c.before.before.before.args.text.now in
-    let is = c.before.skip-blank.ensures in
-    record { place = is; byte = sym (get_or-eq_default t 0 (subst (λ (i : ℕ). length t ≤ i) is c.if1.false)) }))
+    let is = c.before.skip_blank-place.ensures in
+    record { place = is; byte = sym (get_or-eq_default t 0 (subst (λ (i : ℕ). length t ≤ i) is c.if-place-text.false)) }))

@@ -6,18 +6,18 @@ use Rattle.snbt_lexer.proofs.Finds.{token_end, token-here}
 use Rattle.snbt_lexer.proofs.token_at.Statement.{statement}
 use Rattle.snbt_lexer.proofs.token_at.Tie as tie
 
-pub token-at-spec : {M : Type 1} → statement M
-token-at-spec =
+pub token_at_spec : {M : Type 1} → statement M
+token_at_spec =
     tie.close
     (tie.spec
     (λ c κs. search rules)
     (λ c.
     let s = c.before in
     let a = s.before.before.args in
-    token_end (stops_is a.set) a.text.now a.start _ s.skip-blank.ensures c.if1.true)
+    token_end (stops_is a.set) a.text.now a.start _ s.skip_blank-i.ensures c.if-text-i.true)
     (λ c. search rules)
     (λ c κs. search rules)
     (λ c.
     let s = c.before.before.before in
     let a = s.before.before.args in
-    token-here (stops_is a.set) a.text.now a.start _ s.skip-blank.ensures _ c.before.before.if1.false c.token-by.ensures))
+    token-here (stops_is a.set) a.text.now a.start _ s.skip_blank-i.ensures _ c.before.before.if-text-i.false c.token_by.ensures))

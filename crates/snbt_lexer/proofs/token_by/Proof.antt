@@ -7,8 +7,8 @@ use Rattle.snbt_lexer.proofs.Finds.{by-quote, by_word}
 use Rattle.snbt_lexer.proofs.token_by.Statement.{statement}
 use Rattle.snbt_lexer.proofs.token_by.Tie as tie
 
-pub token-by-spec : {M : Type 1} → statement M
-token-by-spec =
+pub token_by_spec : {M : Type 1} → statement M
+token_by_spec =
     tie.close
     (tie.spec
     (λ c κs. search rules)
@@ -20,17 +20,17 @@ token-by-spec =
     (λ c κs. search rules)
     (λ c κs. search rules)
     (λ c κs. search rules)
-    (λ c. unfold token_by in rw c.before.match.keys1 c.sign.ensures)
-    (λ c. unfold token_by in rw c.before.match.keys2 c.sign2.ensures)
-    (λ c. unfold token_by in rw c.before.match.keys3 c.sign3.ensures)
-    (λ c. unfold token_by in rw c.before.match.keys4 c.sign4.ensures)
-    (λ c. unfold token_by in rw c.before.match.keys5 c.sign5.ensures)
-    (λ c. unfold token_by in rw c.before.match.keys6 c.sign6.ensures)
-    (λ c. unfold token_by in rw c.before.match.keys7 c.sign7.ensures)
-    (λ c. let a = c.before.before.before.args in by-quote (stops_is a.set) a.text.now a.i a.b _ c.before.match.keys8 c.quoted-found.ensures)
+    (λ c. unfold token_by in rw c.before.in-44.is c.sign.ensures)
+    (λ c. unfold token_by in rw c.before.in-58.is c.sign-in-58.ensures)
+    (λ c. unfold token_by in rw c.before.in-59.is c.sign-in-59.ensures)
+    (λ c. unfold token_by in rw c.before.in-91.is c.sign-in-91.ensures)
+    (λ c. unfold token_by in rw c.before.in-93.is c.sign-in-93.ensures)
+    (λ c. unfold token_by in rw c.before.in-123.is c.sign-in-123.ensures)
+    (λ c. unfold token_by in rw c.before.in-125.is c.sign-in-125.ensures)
+    (λ c. let a = c.before.before.before.args in by-quote (stops_is a.set) a.text.now a.i a.b _ c.before.in-34.is c.quoted_found.ensures)
     (λ c.
     let a = c.before.before.before.args in
-    let r = c.before.match.rest in
+    let r = c.before.in_default.in_default-own.rest in
     let r₄ = r.0.0.0.0 in
     by_word (stops_is a.set) a.text.now a.i a.b _ r₄.0.0.0.1 r₄.0.0.1 r₄.0.1 r₄.1 r.0.0.0.1 r.0.0.1 r.0.1 r.1
-    c.unquoted-at.ensures))
+    c.unquoted_at.ensures))

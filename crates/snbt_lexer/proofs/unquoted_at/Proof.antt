@@ -8,11 +8,11 @@ use Rattle.snbt_lexer.proofs.unquoted_at.Statement.{statement}
 use Rattle.snbt_lexer.proofs.unquoted_at.Tie as tie
 
 -- the place behind the word
-abbrev word_of : tie.After-opens-number → tie.After-word-at
+abbrev word_of : tie.After-opens_number → tie.After-word_at-w
 word_of c = c.before.before.before
 
-pub unquoted-at-spec : {M : Type 1} → statement M
-unquoted-at-spec =
+pub unquoted_at_spec : {M : Type 1} → statement M
+unquoted_at_spec =
     tie.close
     (tie.spec
     (λ c κs. search rules)
@@ -22,18 +22,18 @@ unquoted-at-spec =
     let w = word_of c.before in
     let s = w.before.before in
     let a = s.args in
-    reaches (stops_is a.set) a.text.now a.i (word_is w.word_at.result) w.word_at.ensures s.pre)
+    reaches (stops_is a.set) a.text.now a.i (word_is w.word_at-w.result) w.word_at-w.ensures s.pre)
     (λ c κs. search rules)
     (λ c.
     let at-opens = c.before.before.before in
     let w = word_of at-opens in
     let a = w.before.before.args in
-    unquoted-number (stops_is a.set) a.text.now a.i (word_is w.word_at.result) w.word_at.ensures _ _ at-opens.opens-number.ensures _
-    c.before.before.if1.true c.before.number_at.ensures c.numeral-found.ensures)
+    unquoted-number (stops_is a.set) a.text.now a.i (word_is w.word_at-w.result) w.word_at-w.ensures _ _ at-opens.opens_number.ensures _
+    c.before.before.if-opens_number.true c.before.number_at.ensures c.numeral_found.ensures)
     (λ c κs. search rules)
     (λ c.
     let at-opens = c.before.before in
     let w = word_of at-opens in
     let a = w.before.before.args in
-    unquoted-string (stops_is a.set) a.text.now a.i (word_is w.word_at.result) w.word_at.ensures _ _ at-opens.opens-number.ensures
-    c.before.if1.false c.found.ensures))
+    unquoted-string (stops_is a.set) a.text.now a.i (word_is w.word_at-w.result) w.word_at-w.ensures _ _ at-opens.opens_number.ensures
+    c.before.if-opens_number.false c.found.ensures))

@@ -10,14 +10,14 @@ use Rattle.snbt_lexer.proofs.Slurps.{run_more, run-stop, run-whole}
 use Rattle.snbt_lexer.proofs.characters.run_end.Statement.{statement}
 use Rattle.snbt_lexer.proofs.characters.run_end.Tie as tie
 
-abbrev invariant-loop : tie.invariant-loop
+abbrev invariant-loop : tie.invariant-loop-i
 invariant-loop text at i₀ i = run_end text at ≡ run_end text i
 
-abbrev decreases-loop : tie.decreases-loop
+abbrev decreases-loop : tie.decreases-loop-i
 decreases-loop text at i₀ i = length text - i
 
-pub run-end-spec : {M : Type 1} → statement M
-run-end-spec =
+pub run_end_spec : {M : Type 1} → statement M
+run_end_spec =
     tie.close
     (tie.spec
     invariant-loop
@@ -29,8 +29,8 @@ run-end-spec =
     (λ c. omega arith)
     (λ c.
     let turn = c.before.before.before in
-    turn.before.loop.invariant ∙ run_more _ _ turn.loop-test.true (sym c.before.is-ordinary.ensures ∙ c.if1.true))
+    turn.before.loop-i.invariant ∙ run_more _ _ turn.loop-i-test.true (sym c.before.is_ordinary.ensures ∙ c.if-is_ordinary.true))
     (λ c.
     let turn = c.before.before.before in
-    sym (turn.before.loop.invariant ∙ run-stop _ _ turn.loop-test.true (sym c.before.is-ordinary.ensures ∙ c.if1.false)))
-    (λ c. sym (c.before.loop.invariant ∙ run-whole _ _ c.loop-test.false)))
+    sym (turn.before.loop-i.invariant ∙ run-stop _ _ turn.loop-i-test.true (sym c.before.is_ordinary.ensures ∙ c.if-is_ordinary.false)))
+    (λ c. sym (c.before.loop-i.invariant ∙ run-whole _ _ c.loop-i-test.false)))

@@ -10,14 +10,14 @@ use Rattle.snbt_lexer.proofs.Slurps.{skip-more, skip_stop, skip-end}
 use Rattle.snbt_lexer.proofs.characters.skip_blank.Statement.{statement}
 use Rattle.snbt_lexer.proofs.characters.skip_blank.Tie as tie
 
-abbrev invariant-loop : tie.invariant-loop
+abbrev invariant-loop : tie.invariant-loop-i
 invariant-loop text at i₀ i = skip text at ≡ skip text i
 
-abbrev decreases-loop : tie.decreases-loop
+abbrev decreases-loop : tie.decreases-loop-i
 decreases-loop text at i₀ i = length text - i
 
-pub skip-blank-spec : {M : Type 1} → statement M
-skip-blank-spec =
+pub skip_blank_spec : {M : Type 1} → statement M
+skip_blank_spec =
     tie.close
     (tie.spec
     invariant-loop
@@ -29,8 +29,8 @@ skip-blank-spec =
     (λ c. omega arith)
     (λ c.
     let turn = c.before.before.before in
-    turn.before.loop.invariant ∙ skip-more _ _ turn.loop-test.true (sym c.before.is-blank.ensures ∙ c.if1.true))
+    turn.before.loop-i.invariant ∙ skip-more _ _ turn.loop-i-test.true (sym c.before.is_blank.ensures ∙ c.if-is_blank.true))
     (λ c.
     let turn = c.before.before.before in
-    sym (turn.before.loop.invariant ∙ skip_stop _ _ turn.loop-test.true (sym c.before.is-blank.ensures ∙ c.if1.false)))
-    (λ c. sym (c.before.loop.invariant ∙ skip-end _ _ c.loop-test.false)))
+    sym (turn.before.loop-i.invariant ∙ skip_stop _ _ turn.loop-i-test.true (sym c.before.is_blank.ensures ∙ c.if-is_blank.false)))
+    (λ c. sym (c.before.loop-i.invariant ∙ skip-end _ _ c.loop-i-test.false)))

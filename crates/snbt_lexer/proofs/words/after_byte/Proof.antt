@@ -6,23 +6,23 @@ use Rattle.snbt_lexer.proofs.Scans.{after-slash, after-single, after-double, aft
 use Rattle.snbt_lexer.proofs.words.after_byte.Statement.{statement}
 use Rattle.snbt_lexer.proofs.words.after_byte.Tie as tie
 
-pub after-byte-spec : {M : Type 1} → statement M
-after-byte-spec =
+pub after_byte_spec : {M : Type 1} → statement M
+after_byte_spec =
     tie.close
     (tie.spec
-    (λ c. let a = c.before.args in after-slash (scan_of a.st) a.b a.i c.if1.true)
+    (λ c. let a = c.before.args in after-slash (scan_of a.st) a.b a.i c.if-b-eq92.true)
     (λ c κs. search rules)
     (λ c.
     let e = c.before.before in
     let a = e.before.args in
-    after-single (scan_of a.st) a.b a.i _ e.if1.false c.before.if2.true c.toggled.ensures)
+    after-single (scan_of a.st) a.b a.i _ e.if-b-eq92.false c.before.if-b-eq39.true c.toggled.ensures)
     (λ c κs. search rules)
     (λ c.
     let e = c.before.before in
     let a = e.before.before.args in
-    after-double (scan_of a.st) a.b a.i _ e.before.if1.false e.if2.false c.before.if3.true c.toggled2.ensures)
+    after-double (scan_of a.st) a.b a.i _ e.before.if-b-eq92.false e.if-b-eq39.false c.before.if-b-eq34.true c.toggled-then-b-eq34.ensures)
     (λ c κs. search rules)
     (λ c.
     let e = c.before.before in
     let a = e.before.before.args in
-    after-other (scan_of a.st) a.b a.i _ e.before.if1.false e.if2.false c.before.if3.false c.grown-by.ensures))
+    after-other (scan_of a.st) a.b a.i _ e.before.if-b-eq92.false e.if-b-eq39.false c.before.if-b-eq34.false c.grown_by.ensures))

@@ -5,9 +5,9 @@ use Rattle.snbt_lexer.proofs.Scans.{in-single, in-double}
 use Rattle.snbt_lexer.proofs.words.in_quotes.Statement.{statement}
 use Rattle.snbt_lexer.proofs.words.in_quotes.Tie as tie
 
-pub in-quotes-spec : {M : Type 1} → statement M
-in-quotes-spec =
+pub in_quotes_spec : {M : Type 1} → statement M
+in_quotes_spec =
     tie.close
     (tie.spec
-    (λ c. in-single (scan_of c.before.args.st) c.if1.true)
-    (λ c. in-double (scan_of c.before.args.st) c.if1.false))
+    (λ c. in-single (scan_of c.before.args.st) c.if-st.true)
+    (λ c. in-double (scan_of c.before.args.st) c.if-st.false))

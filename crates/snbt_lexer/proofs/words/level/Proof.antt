@@ -12,18 +12,18 @@ use Rattle.snbt_lexer.proofs.words.level.Statement.{statement}
 use Rattle.snbt_lexer.proofs.words.level.Tie as tie
 
 -- a byte outside quotes that does not open
-other : (c : tie.Else2) {t : Bool} → let a = c.before.before.args in eqb a.b a.closing ≡ t
+other : (c : tie.Else-b-opening) {t : Bool} → let a = c.before.before.args in eqb a.b a.closing ≡ t
     → pick t (a.n - 1) a.n ≡ pick a.within a.n (pick (eqb a.b a.opening) (a.n + 1) (pick (eqb a.b a.closing) (a.n - 1) a.n))
-other c e = let a = c.before.before.args in rw (c.before.if1.false, ne_eqb a.b a.opening c.if2.false, e) refl
+other c e = let a = c.before.before.args in rw (c.before.if-within.false, ne_eqb a.b a.opening c.if-b-opening.false, e) refl
 
-pub level-spec : {M : Type 1} → statement M
-level-spec =
+pub level_spec : {M : Type 1} → statement M
+level_spec =
     tie.close
     (tie.spec
     (λ c. search rules)
     (λ c. search rules)
-    (λ c. let a = c.before.before.args in rw (c.before.if1.false, eq-eqb a.b a.opening c.if2.true) refl)
-    (λ c. other c.before (ne_eqb _ _ c.if3.true))
-    (λ c. let e = c.before.before in let z : 0 ≡ e.before.before.args.n - 1 = omega (arith, c.if4.true) in z ∙ other e (eq-eqb _ _ c.before.if3.false))
+    (λ c. let a = c.before.before.args in rw (c.before.if-within.false, eq-eqb a.b a.opening c.if-b-opening.true) refl)
+    (λ c. other c.before (ne_eqb _ _ c.if-b-closing.true))
+    (λ c. let e = c.before.before in let z : 0 ≡ e.before.before.args.n - 1 = omega (arith, c.if-n-eq0.true) in z ∙ other e (eq-eqb _ _ c.before.if-b-closing.false))
     (λ c. search rules)
-    (λ c. other c.before.before (eq-eqb _ _ c.before.if3.false)))
+    (λ c. other c.before.before (eq-eqb _ _ c.before.if-b-closing.false)))

@@ -10,11 +10,11 @@ use Rattle.snbt_lexer.proofs.words.word_at.Statement.{statement}
 use Rattle.snbt_lexer.proofs.words.word_at.Tie as tie
 
 -- the run behind the first character
-run : (c : tie.After-run-end) → let a = c.before.before.args in Run a.text.now (a.start + 1) c.run-end.result
-run c = let a = c.before.before.args in rw c.run-end.ensures (run_is a.text.now (a.start + 1) (omega arith))
+run : (c : tie.After-run_end-end) → let a = c.before.before.args in Run a.text.now (a.start + 1) c.run_end-end.result
+run c = let a = c.before.before.args in rw c.run_end-end.ensures (run_is a.text.now (a.start + 1) (omega arith))
 
-pub word-at-spec : {M : Type 1} → statement M
-word-at-spec =
+pub word_at_spec : {M : Type 1} → statement M
+word_at_spec =
     tie.close
     (tie.spec
     (λ c. omega arith)
@@ -25,6 +25,6 @@ word-at-spec =
     (λ c.
     let q = c.before.before.before in
     let a = q.before.before.before.args in
-    word-run (stops_is a.set) a.text.now a.start _ (run q.before) q.if1.true (sym c.before.is_stop.ensures ∙ c.if2.true))
+    word-run (stops_is a.set) a.text.now a.start _ (run q.before) q.if-end-text.true (sym c.before.is_stop.ensures ∙ c.if-is_stop.true))
     (λ c κs. search rules)
-    (λ c. c.word-from.ensures))
+    (λ c. c.word_from.ensures))

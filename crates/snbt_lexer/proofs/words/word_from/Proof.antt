@@ -12,28 +12,28 @@ use Rattle.snbt_lexer.proofs.Slurps.{Run, run_is, Going, going_start, going-run,
 use Rattle.snbt_lexer.proofs.words.word_from.Statement.{statement}
 use Rattle.snbt_lexer.proofs.words.word_from.Tie as tie
 
-abbrev invariant-loop : tie.invariant-loop
+abbrev invariant-loop : tie.invariant-loop-i
 invariant-loop text start set i₀ st₀ i st = (i ≤ length text) × Bounded (scan_of st) i × Going (stops_is set) text start (scan_of st) i
 
-abbrev decreases-loop : tie.decreases-loop
+abbrev decreases-loop : tie.decreases-loop-i
 decreases-loop text start set i₀ st₀ i st = length text - i
 
 -- the beginning, the place that the loop comes to, and the byte there that is tested
-abbrev start_of : tie.At-loop invariant-loop decreases-loop → tie.Start invariant-loop decreases-loop
+abbrev start_of : tie.At-loop-i invariant-loop decreases-loop → tie.Start invariant-loop decreases-loop
 start_of c = c.before.before
 
-abbrev loop-of : tie.After-run-end invariant-loop decreases-loop → tie.At-loop invariant-loop decreases-loop
+abbrev loop-of : tie.After-run_end-j invariant-loop decreases-loop → tie.At-loop-i invariant-loop decreases-loop
 loop-of c = c.before.before
 
-abbrev turn-of : tie.After-ends invariant-loop decreases-loop → tie.In-loop invariant-loop decreases-loop
+abbrev turn-of : tie.After-ends invariant-loop decreases-loop → tie.In-loop-i invariant-loop decreases-loop
 turn-of c = let at-run = c.before.before.before in at-run.before
 
 -- the run from that place
-run : (c : tie.After-run-end invariant-loop decreases-loop) → let l = c.before.before in Run (start_of l).args.text.now l.loop.i c.run-end.result
-run c = let l = c.before.before in rw c.run-end.ensures (run_is (start_of l).args.text.now l.loop.i l.loop.invariant.0)
+run : (c : tie.After-run_end-j invariant-loop decreases-loop) → let l = c.before.before in Run (start_of l).args.text.now l.loop-i.i c.run_end-j.result
+run c = let l = c.before.before in rw c.run_end-j.ensures (run_is (start_of l).args.text.now l.loop-i.i l.loop-i.invariant.0)
 
-pub word-from-spec : {M : Type 1} → statement M
-word-from-spec =
+pub word_from_spec : {M : Type 1} → statement M
+word_from_spec =
     tie.close
     (tie.spec
     invariant-loop
@@ -41,17 +41,17 @@ word-from-spec =
     (λ c. omega arith)
     (λ c. (omega arith, record { curly = omega arith; square = omega arith; end = omega arith; width = omega arith }, going_start _ _ _))
     (λ c κs. search rules)
-    (λ c κs. let r = run c.before in ((loop-of c.before).loop.inv.1, r.low, omega (arith, r.high)))
-    (λ c. let r = run c.before.before in omega (arith, r.high, c.before.if1.true))
+    (λ c κs. let r = run c.before in ((loop-of c.before).loop-i.inv.1, r.low, omega (arith, r.high)))
+    (λ c. let r = run c.before.before in omega (arith, r.high, c.before.if-i-j.true))
     (λ c.
     let at-run = c.before.before in
     let r = run at-run in
-    let l = (loop-of at-run).loop in
+    let l = (loop-of at-run).loop-i in
     let a = (start_of (loop-of at-run)).args in
-    let e = c.after_run.ensures in (
+    let e = c.after_run-st.ensures in (
       r.high,
       rw e (run-kept _ (scan_of l.st) _ l.inv.1 r.low),
-      rw e (going-run (stops_is a.set) a.text.now a.start l.i _ (scan_of l.st) c.before.if1.true r l.inv.2),
+      rw e (going-run (stops_is a.set) a.text.now a.start l.i _ (scan_of l.st) c.before.if-i-j.true r l.inv.2),
     ))
     (λ c. omega arith)
     (λ c κs. search rules)
@@ -59,22 +59,22 @@ word-from-spec =
     (λ c.
     let at-ends = c.before.before in
     let turn = turn-of at-ends in
-    let l = turn.before.loop in
+    let l = turn.before.loop-i in
     let a = (start_of turn.before).args in
     c.word_of.ensures
-    ∙ going-stop (stops_is a.set) a.text.now a.start l.i (scan_of l.st) turn.loop-test.taken (sym at-ends.ends.ensures ∙ c.before.if2.true) l.inv.2)
-    (λ c κs. ((turn-of c.before).before.loop.inv.1, omega arith))
+    ∙ going-stop (stops_is a.set) a.text.now a.start l.i (scan_of l.st) turn.loop-i-test.taken (sym at-ends.ends.ensures ∙ c.before.if-ends.true) l.inv.2)
+    (λ c κs. ((turn-of c.before).before.loop-i.inv.1, omega arith))
     (λ c. omega arith)
     (λ c. omega arith)
     (λ c.
     let at-ends = c.before.before in
     let turn = turn-of at-ends in
-    let l = turn.before.loop in
+    let l = turn.before.loop-i in
     let a = (start_of turn.before).args in
-    let e = c.after-byte.ensures in (
+    let e = c.after_byte-st.ensures in (
       omega arith,
       rw e (after_kept l.i (scan_of l.st) (get_or a.text.now l.i 0) l.inv.1),
-      rw e (going_on (stops_is a.set) a.text.now a.start l.i (scan_of l.st) turn.loop-test.taken (sym at-ends.ends.ensures ∙ c.before.if2.false) l.inv.2),
+      rw e (going_on (stops_is a.set) a.text.now a.start l.i (scan_of l.st) turn.loop-i-test.taken (sym at-ends.ends.ensures ∙ c.before.if-ends.false) l.inv.2),
     ))
     (λ c κs. search rules)
-    (λ c. let l = c.before.before.loop in c.word-of2.ensures ∙ going_end _ _ _ l.i (scan_of l.st) c.before.loop-test.false l.invariant.2))
+    (λ c. let l = c.before.before.loop-i in c.word_of-2.ensures ∙ going_end _ _ _ l.i (scan_of l.st) c.before.loop-i-test.false l.invariant.2))
