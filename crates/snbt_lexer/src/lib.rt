@@ -1,5 +1,7 @@
 // Rules 10 and 11: the token at a place of a text. A caller that has judged the text asks `token_at`; `token` judges it first.
 // Numbers are the crate numbers' (rule 13), quoted tokens the crate quotes' (rule 12).
+#![tactic(auto)]
+
 pub mod characters;
 pub mod words;
 

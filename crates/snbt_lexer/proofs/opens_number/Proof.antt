@@ -9,6 +9,6 @@ pub opens_number_spec : {M : Type 1} → statement M
 opens_number_spec =
     tie.close
     (tie.spec
-    (λ c. let b = c.before.args.b in rw (eq-eqb b 45 c.if-b-eq45.true) refl)
-    (λ c. let b = c.before.before.args.b in rw (ne_eqb b 45 c.before.if-b-eq45.false, lt-leb 48 b c.if-b-lt48.true) refl)
-    (λ c. let b = c.before.before.args.b in rw (ne_eqb b 45 c.before.if-b-eq45.false, le-leb 48 b c.if-b-lt48.false) refl))
+    (λ c. let b = c.args.b in rw (eq-eqb b 45 c.if-b-eq45.true) refl)
+    (λ c. let b = c.args.b in rw (ne_eqb b 45 c.if-b-eq45.false, lt-leb 48 b c.if-b-lt48.true) refl)
+    (λ c. let b = c.args.b in rw (ne_eqb b 45 c.if-b-eq45.false, le-leb 48 b c.if-b-lt48.false) refl))

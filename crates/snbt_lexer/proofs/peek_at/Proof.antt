@@ -14,11 +14,10 @@ peek_at_spec =
     (λ c κs. search rules)
     (λ c. search rules)
     (λ c.
-    let at-skip = c.before.before in
-    let t = at-skip.before.before.args.text.now in
-    let is = at-skip.skip_blank-place.ensures in
+    let t = c.args.text.now in
+    let is = c.skip_blank-place.ensures in
     record { place = is; byte = ap (λ (i : ℕ). get_or t i 0) is })
     (λ c.
-    let t = c.before.before.before.args.text.now in
-    let is = c.before.skip_blank-place.ensures in
+    let t = c.args.text.now in
+    let is = c.skip_blank-place.ensures in
     record { place = is; byte = sym (get_or-eq_default t 0 (subst (λ (i : ℕ). length t ≤ i) is c.if-place-text.false)) }))

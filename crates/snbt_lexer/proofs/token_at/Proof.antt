@@ -12,12 +12,10 @@ token_at_spec =
     (tie.spec
     (λ c κs. search rules)
     (λ c.
-    let s = c.before in
-    let a = s.before.before.args in
-    token_end (stops_is a.set) a.text.now a.start _ s.skip_blank-i.ensures c.if-text-i.true)
+    let a = c.args in
+    token_end (stops_is a.set) a.text.now a.start _ c.skip_blank-i.ensures c.if-text-i.true)
     (λ c. search rules)
     (λ c κs. search rules)
     (λ c.
-    let s = c.before.before.before in
-    let a = s.before.before.args in
-    token-here (stops_is a.set) a.text.now a.start _ s.skip_blank-i.ensures _ c.before.before.if-text-i.false c.token_by.ensures))
+    let a = c.args in
+    token-here (stops_is a.set) a.text.now a.start _ c.skip_blank-i.ensures _ c.if-text-i.false c.token_by.ensures))

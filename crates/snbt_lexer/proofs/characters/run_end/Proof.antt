@@ -28,9 +28,7 @@ run_end_spec =
     (λ c. omega arith)
     (λ c. omega arith)
     (λ c.
-    let turn = c.before.before.before in
-    turn.before.loop-i.invariant ∙ run_more _ _ turn.loop-i-test.true (sym c.before.is_ordinary.ensures ∙ c.if-is_ordinary.true))
+    c.loop-i.invariant ∙ run_more _ _ c.loop-i-test.true (sym c.is_ordinary.ensures ∙ c.if-is_ordinary.true))
     (λ c.
-    let turn = c.before.before.before in
-    sym (turn.before.loop-i.invariant ∙ run-stop _ _ turn.loop-i-test.true (sym c.before.is_ordinary.ensures ∙ c.if-is_ordinary.false)))
-    (λ c. sym (c.before.loop-i.invariant ∙ run-whole _ _ c.loop-i-test.false)))
+    sym (c.loop-i.invariant ∙ run-stop _ _ c.loop-i-test.true (sym c.is_ordinary.ensures ∙ c.if-is_ordinary.false)))
+    (λ c. sym (c.loop-i.invariant ∙ run-whole _ _ c.loop-i-test.false)))

@@ -28,9 +28,7 @@ skip_blank_spec =
     (λ c. omega arith)
     (λ c. omega arith)
     (λ c.
-    let turn = c.before.before.before in
-    turn.before.loop-i.invariant ∙ skip-more _ _ turn.loop-i-test.true (sym c.before.is_blank.ensures ∙ c.if-is_blank.true))
+    c.loop-i.invariant ∙ skip-more _ _ c.loop-i-test.true (sym c.is_blank.ensures ∙ c.if-is_blank.true))
     (λ c.
-    let turn = c.before.before.before in
-    sym (turn.before.loop-i.invariant ∙ skip_stop _ _ turn.loop-i-test.true (sym c.before.is_blank.ensures ∙ c.if-is_blank.false)))
-    (λ c. sym (c.before.loop-i.invariant ∙ skip-end _ _ c.loop-i-test.false)))
+    sym (c.loop-i.invariant ∙ skip_stop _ _ c.loop-i-test.true (sym c.is_blank.ensures ∙ c.if-is_blank.false)))
+    (λ c. sym (c.loop-i.invariant ∙ skip-end _ _ c.loop-i-test.false)))

@@ -10,19 +10,16 @@ pub after_byte_spec : {M : Type 1} → statement M
 after_byte_spec =
     tie.close
     (tie.spec
-    (λ c. let a = c.before.args in after-slash (scan_of a.st) a.b a.i c.if-b-eq92.true)
+    (λ c. let a = c.args in after-slash (scan_of a.st) a.b a.i c.if-b-eq92.true)
     (λ c κs. search rules)
     (λ c.
-    let e = c.before.before in
-    let a = e.before.args in
-    after-single (scan_of a.st) a.b a.i _ e.if-b-eq92.false c.before.if-b-eq39.true c.toggled.ensures)
+    let a = c.args in
+    after-single (scan_of a.st) a.b a.i _ c.if-b-eq92.false c.if-b-eq39.true c.toggled.ensures)
     (λ c κs. search rules)
     (λ c.
-    let e = c.before.before in
-    let a = e.before.before.args in
-    after-double (scan_of a.st) a.b a.i _ e.before.if-b-eq92.false e.if-b-eq39.false c.before.if-b-eq34.true c.toggled-then-b-eq34.ensures)
+    let a = c.args in
+    after-double (scan_of a.st) a.b a.i _ c.if-b-eq92.false c.if-b-eq39.false c.if-b-eq34.true c.toggled-then-b-eq34.ensures)
     (λ c κs. search rules)
     (λ c.
-    let e = c.before.before in
-    let a = e.before.before.args in
-    after-other (scan_of a.st) a.b a.i _ e.before.if-b-eq92.false e.if-b-eq39.false c.before.if-b-eq34.false c.grown_by.ensures))
+    let a = c.args in
+    after-other (scan_of a.st) a.b a.i _ c.if-b-eq92.false c.if-b-eq39.false c.if-b-eq34.false c.grown_by.ensures))

@@ -9,5 +9,5 @@ pub in_quotes_spec : {M : Type 1} → statement M
 in_quotes_spec =
     tie.close
     (tie.spec
-    (λ c. in-single (scan_of c.before.args.st) c.if-st.true)
-    (λ c. in-double (scan_of c.before.args.st) c.if-st.false))
+    (λ c. in-single (scan_of c.args.st) c.if-st.true)
+    (λ c. in-double (scan_of c.args.st) c.if-st.false))

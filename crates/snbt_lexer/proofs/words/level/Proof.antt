@@ -12,9 +12,9 @@ use Rattle.snbt_lexer.proofs.words.level.Statement.{statement}
 use Rattle.snbt_lexer.proofs.words.level.Tie as tie
 
 -- a byte outside quotes that does not open
-other : (c : tie.Else-b-opening) {t : Bool} → let a = c.before.before.args in eqb a.b a.closing ≡ t
+other : (c : tie.Else-b-opening) {t : Bool} → let a = c.args in eqb a.b a.closing ≡ t
     → pick t (a.n - 1) a.n ≡ pick a.within a.n (pick (eqb a.b a.opening) (a.n + 1) (pick (eqb a.b a.closing) (a.n - 1) a.n))
-other c e = let a = c.before.before.args in rw (c.before.if-within.false, ne_eqb a.b a.opening c.if-b-opening.false, e) refl
+other c e = let a = c.args in rw (c.if-within.false, ne_eqb a.b a.opening c.if-b-opening.false, e) refl
 
 pub level_spec : {M : Type 1} → statement M
 level_spec =
@@ -22,8 +22,8 @@ level_spec =
     (tie.spec
     (λ c. search rules)
     (λ c. search rules)
-    (λ c. let a = c.before.before.args in rw (c.before.if-within.false, eq-eqb a.b a.opening c.if-b-opening.true) refl)
+    (λ c. let a = c.args in rw (c.if-within.false, eq-eqb a.b a.opening c.if-b-opening.true) refl)
     (λ c. other c.before (ne_eqb _ _ c.if-b-closing.true))
-    (λ c. let e = c.before.before in let z : 0 ≡ e.before.before.args.n - 1 = omega (arith, c.if-n-eq0.true) in z ∙ other e (eq-eqb _ _ c.before.if-b-closing.false))
+    (λ c. let z : 0 ≡ c.args.n - 1 = omega (arith, c.if-n-eq0.true) in z ∙ other c.before.before (eq-eqb _ _ c.if-b-closing.false))
     (λ c. search rules)
-    (λ c. other c.before.before (eq-eqb _ _ c.before.if-b-closing.false)))
+    (λ c. other c.before.before (eq-eqb _ _ c.if-b-closing.false)))

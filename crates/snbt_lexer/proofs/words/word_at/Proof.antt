@@ -10,8 +10,8 @@ use Rattle.snbt_lexer.proofs.words.word_at.Statement.{statement}
 use Rattle.snbt_lexer.proofs.words.word_at.Tie as tie
 
 -- the run behind the first character
-run : (c : tie.After-run_end-end) → let a = c.before.before.args in Run a.text.now (a.start + 1) c.run_end-end.result
-run c = let a = c.before.before.args in rw c.run_end-end.ensures (run_is a.text.now (a.start + 1) (omega arith))
+run : (c : tie.After-run_end-end) → let a = c.args in Run a.text.now (a.start + 1) c.run_end-end.result
+run c = let a = c.args in rw c.run_end-end.ensures (run_is a.text.now (a.start + 1) (omega arith))
 
 pub word_at_spec : {M : Type 1} → statement M
 word_at_spec =
@@ -21,10 +21,9 @@ word_at_spec =
     (λ c κs. search rules)
     (λ c. omega arith)
     (λ c κs. search rules)
-    (λ c. let at-stop = c.before.before in omega (arith, (run at-stop.before.before).low))
+    (λ c. omega (arith, (run c.before.before.before.before).low))
     (λ c.
-    let q = c.before.before.before in
-    let a = q.before.before.before.args in
-    word-run (stops_is a.set) a.text.now a.start _ (run q.before) q.if-end-text.true (sym c.before.is_stop.ensures ∙ c.if-is_stop.true))
+    let a = c.args in
+    word-run (stops_is a.set) a.text.now a.start _ (run c.before.before.before.before) c.if-end-text.true (sym c.is_stop.ensures ∙ c.if-is_stop.true))
     (λ c κs. search rules)
     (λ c. c.word_from.ensures))

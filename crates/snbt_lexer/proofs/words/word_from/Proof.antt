@@ -18,19 +18,9 @@ invariant-loop text start set i₀ st₀ i st = (i ≤ length text) × Bounded (
 abbrev decreases-loop : tie.decreases-loop-i
 decreases-loop text start set i₀ st₀ i st = length text - i
 
--- the beginning, the place that the loop comes to, and the byte there that is tested
-abbrev start_of : tie.At-loop-i invariant-loop decreases-loop → tie.Start invariant-loop decreases-loop
-start_of c = c.before.before
-
-abbrev loop-of : tie.After-run_end-j invariant-loop decreases-loop → tie.At-loop-i invariant-loop decreases-loop
-loop-of c = c.before.before
-
-abbrev turn-of : tie.After-ends invariant-loop decreases-loop → tie.In-loop-i invariant-loop decreases-loop
-turn-of c = let at-run = c.before.before.before in at-run.before
-
 -- the run from that place
-run : (c : tie.After-run_end-j invariant-loop decreases-loop) → let l = c.before.before in Run (start_of l).args.text.now l.loop-i.i c.run_end-j.result
-run c = let l = c.before.before in rw c.run_end-j.ensures (run_is (start_of l).args.text.now l.loop-i.i l.loop-i.invariant.0)
+run : (c : tie.After-run_end-j invariant-loop decreases-loop) → Run c.args.text.now c.loop-i.i c.run_end-j.result
+run c = rw c.run_end-j.ensures (run_is c.args.text.now c.loop-i.i c.loop-i.invariant.0)
 
 pub word_from_spec : {M : Type 1} → statement M
 word_from_spec =
@@ -41,40 +31,35 @@ word_from_spec =
     (λ c. omega arith)
     (λ c. (omega arith, record { curly = omega arith; square = omega arith; end = omega arith; width = omega arith }, going_start _ _ _))
     (λ c κs. search rules)
-    (λ c κs. let r = run c.before in ((loop-of c.before).loop-i.inv.1, r.low, omega (arith, r.high)))
-    (λ c. let r = run c.before.before in omega (arith, r.high, c.before.if-i-j.true))
+    (λ c κs. let r = run c.before in (c.loop-i.invariant.1, r.low, omega (arith, r.high)))
+    (λ c. let r = run c.before.before in omega (arith, r.high, c.if-i-j.true))
     (λ c.
-    let at-run = c.before.before in
-    let r = run at-run in
-    let l = (loop-of at-run).loop-i in
-    let a = (start_of (loop-of at-run)).args in
+    let r = run c.before.before in
+    let l = c.loop-i in
+    let a = c.args in
     let e = c.after_run-st.ensures in (
       r.high,
-      rw e (run-kept _ (scan_of l.st) _ l.inv.1 r.low),
-      rw e (going-run (stops_is a.set) a.text.now a.start l.i _ (scan_of l.st) c.before.if-i-j.true r l.inv.2),
+      rw e (run-kept _ (scan_of l.st) _ l.invariant.1 r.low),
+      rw e (going-run (stops_is a.set) a.text.now a.start l.i _ (scan_of l.st) c.if-i-j.true r l.invariant.2),
     ))
     (λ c. omega arith)
     (λ c κs. search rules)
     (λ c κs. search rules)
     (λ c.
-    let at-ends = c.before.before in
-    let turn = turn-of at-ends in
-    let l = turn.before.loop-i in
-    let a = (start_of turn.before).args in
+    let l = c.loop-i in
+    let a = c.args in
     c.word_of.ensures
-    ∙ going-stop (stops_is a.set) a.text.now a.start l.i (scan_of l.st) turn.loop-i-test.taken (sym at-ends.ends.ensures ∙ c.before.if-ends.true) l.inv.2)
-    (λ c κs. ((turn-of c.before).before.loop-i.inv.1, omega arith))
+    ∙ going-stop (stops_is a.set) a.text.now a.start l.i (scan_of l.st) c.loop-i-test.true (sym c.ends.ensures ∙ c.if-ends.true) l.invariant.2)
+    (λ c κs. (c.loop-i.invariant.1, omega arith))
     (λ c. omega arith)
     (λ c. omega arith)
     (λ c.
-    let at-ends = c.before.before in
-    let turn = turn-of at-ends in
-    let l = turn.before.loop-i in
-    let a = (start_of turn.before).args in
+    let l = c.loop-i in
+    let a = c.args in
     let e = c.after_byte-st.ensures in (
       omega arith,
-      rw e (after_kept l.i (scan_of l.st) (get_or a.text.now l.i 0) l.inv.1),
-      rw e (going_on (stops_is a.set) a.text.now a.start l.i (scan_of l.st) turn.loop-i-test.taken (sym at-ends.ends.ensures ∙ c.before.if-ends.false) l.inv.2),
+      rw e (after_kept l.i (scan_of l.st) (get_or a.text.now l.i 0) l.invariant.1),
+      rw e (going_on (stops_is a.set) a.text.now a.start l.i (scan_of l.st) c.loop-i-test.true (sym c.ends.ensures ∙ c.if-ends.false) l.invariant.2),
     ))
     (λ c κs. search rules)
-    (λ c. let l = c.before.before.loop-i in c.word_of-2.ensures ∙ going_end _ _ _ l.i (scan_of l.st) c.before.loop-i-test.false l.invariant.2))
+    (λ c. let l = c.loop-i in c.word_of-2.ensures ∙ going_end _ _ _ l.i (scan_of l.st) c.loop-i-test.false l.invariant.2))
