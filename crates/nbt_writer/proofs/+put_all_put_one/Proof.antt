@@ -11,8 +11,8 @@ use Rattle.nbt_writer.proofs.+put_all_put_one.{statement}
 use Rattle.nbt_writer.proofs.+put_all_put_one.Tie.{close}
 use Common.{μ-put-all, μ-put-one, put-all-at, put-one-at}
 
-pub +put-all-put-one-spec : {M : Type 1} → statement M
-+put-all-put-one-spec =
+pub +put_all_put_one_spec : {M : Type 1} → statement M
++put_all_put_one_spec =
     close μ-put-all μ-put-one
     (λ t. put-all-lts.spec (All.claims t) (put-all-at t) put_all_lem.Post All.Inv-loop All.μ-loop
     (All.loop-holds t)

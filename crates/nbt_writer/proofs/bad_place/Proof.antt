@@ -23,76 +23,73 @@ abbrev head : tie.After-checked → Head
 head c = let a = (start_of c).args in head_of a.table.now a.n
 
 -- Where the name is looked at, from where the payload is.
-abbrev name_of : tie.After-checked2 → tie.After-checked
-name_of c = let at-good = c.before.before.before in at-good.before.before
+abbrev name_of : tie.After-checked-in-Good → tie.After-checked
+name_of c = let at-good = c.before.before.before in at-good.before
 
 -- What is told of the name.
 name-told : (c : tie.After-checked) → verdict_in (way_no (start_of c).args.way).from.strings (part (start_of c).args.doc.now (head c).name (head c).name_length) ≡ verdict_of c.checked.result
 name-told c =
     let at_length = c.before in
     let at_name = at_length.before in
-    sym (c.checked.ensures ∙ λ i. verdict_in (way_no (start_of c).args.way).from.strings (part (start_of c).args.doc.now (at_name.word.ensures i) (at_length.word2.ensures i)))
+    sym (c.checked.ensures ∙ λ i. verdict_in (way_no (start_of c).args.way).from.strings (part (start_of c).args.doc.now (at_name.word-name.ensures i) (at_length.word.ensures i)))
 
 -- What is told of the payload.
-payload-told : (c : tie.After-checked2) → let n = name_of c in
-    verdict_in (way_no (start_of n).args.way).from.strings (part (start_of n).args.doc.now (head n).start (head n).size) ≡ verdict_of c.checked2.result
+payload-told : (c : tie.After-checked-in-Good) → let n = name_of c in
+    verdict_in (way_no (start_of n).args.way).from.strings (part (start_of n).args.doc.now (head n).start (head n).size) ≡ verdict_of c.checked-in-Good.result
 payload-told c =
     let at_length = c.before in
     let at-start = at_length.before in
-    sym (c.checked2.ensures ∙ λ i. verdict_in (way_no (start_of (name_of c)).args.way).from.strings
-    (part (start_of (name_of c)).args.doc.now (at-start.word3.ensures i) (at_length.word4.ensures i)))
+    sym (c.checked-in-Good.ensures ∙ λ i. verdict_in (way_no (start_of (name_of c)).args.way).from.strings
+    (part (start_of (name_of c)).args.doc.now (at-start.word-start.ensures i) (at_length.word-in-Good.ensures i)))
 
 -- Every place in the document is a word.
 small : (c : tie.After-checked) → length (start_of c).args.doc.now < 2 ^ 64
 small c = omega arith
 
 -- The name can't be read.
-name-bad : (c : tie.After-known-told) → let n = c.before.before.before in
-    verdict_in (way_no (start_of n).args.way).from.strings (part (start_of n).args.doc.now (head n).name (head n).name_length) ≡ bad c.before.k.given.0.0
-name-bad c = name-told c.before.before.before ∙ ap verdict_of c.before.k.given.1
+name-bad : (c : tie.In-Bad) → let n = c.before in
+    verdict_in (way_no (start_of n).args.way).from.strings (part (start_of n).args.doc.now (head n).name (head n).name_length) ≡ bad c.in-Bad.k
+name-bad c = name-told c.before ∙ ap verdict_of c.in-Bad.is
 
 -- It can.
-name-good : (c : tie.After-checked2) → let n = name_of c in verdict_in (way_no (start_of n).args.way).from.strings (part (start_of n).args.doc.now (head n).name (head n).name_length) ≡ good
-name-good c = name-told (name_of c) ∙ ap verdict_of c.before.before.before.enum_told.given.1
+name-good : (c : tie.After-checked-in-Good) → let n = name_of c in verdict_in (way_no (start_of n).args.way).from.strings (part (start_of n).args.doc.now (head n).name (head n).name_length) ≡ good
+name-good c = name-told (name_of c) ∙ ap verdict_of c.before.before.before.in-Good.is
 
 -- The payload can't.
-payload-bad : (c : tie.After-known-told2) → let n = name_of c.before.before.before in
-    verdict_in (way_no (start_of n).args.way).from.strings (part (start_of n).args.doc.now (head n).start (head n).size) ≡ bad c.before.k2.given.0.0
-payload-bad c = payload-told c.before.before.before ∙ ap verdict_of c.before.k2.given.1
+payload-bad : (c : tie.In-Bad-checked) → let n = name_of c.before in
+    verdict_in (way_no (start_of n).args.way).from.strings (part (start_of n).args.doc.now (head n).start (head n).size) ≡ bad c.in-Bad-checked.k
+payload-bad c = payload-told c.before ∙ ap verdict_of c.in-Bad-checked.is
 
-add-name : tie.Need-overflow-add-result
+add-name : tie.Need-overflow_add-result
 add-name c =
-    let n = c.before.before.before in
-    let at_name = n.before.before in
-    omega (arith, at_name.word.ensures, place-within (way_no (start_of n).args.way) _ _ _ _ (start_of n).requires.name (name-bad c))
+    let n = c.before in
+    omega (arith, c.word-name.ensures, place-within (way_no (start_of n).args.way) _ _ _ _ (start_of n).requires.name (name-bad c))
 
-add_start : tie.Need-overflow-add-result-2
+add_start : tie.Need-overflow_add-result-in-Bad-checked
 add_start c =
-    let payload = c.before.before.before in
-    let at-start = payload.before.before in
-    omega (arith, at-start.word3.ensures, small (name_of payload), place-within (way_no (start_of (name_of payload)).args.way) _ _ _ _ (start_of (name_of payload)).requires.body (payload-bad c))
+    let payload = c.before in
+    omega (arith, c.word-start.ensures, small (name_of payload), place-within (way_no (start_of (name_of payload)).args.way) _ _ _ _ (start_of (name_of payload)).requires.body (payload-bad c))
 
-returns : tie.Need-returns
+returns : tie.Need-returns-in-Bad
 returns c =
-    let n = c.before.before.before in
-    let at_name = n.before.before in
-    omega (arith, at_name.word.ensures, place-name (way_no (start_of n).args.way) (start_of n).args.doc.now (head n) (name-bad c))
+    let n = c.before in
+    omega (arith, c.word-name.ensures, place-name (way_no (start_of n).args.way) (start_of n).args.doc.now (head n) (name-bad c))
 
-returns-2 : tie.Need-returns-2
+returns-2 : tie.Need-returns-in-Bad-checked
 returns-2 c =
-    let payload = c.before.before.before in
+    let payload = c.before in
     let at-start = payload.before.before in
     let n = name_of payload in
-    omega (arith, at-start.word3.ensures, place-string (way_no (start_of n).args.way) (start_of n).args.doc.now (head n) (name-good payload) (payload-bad c))
+    omega (arith, at-start.word-start.ensures, place-string (way_no (start_of n).args.way) (start_of n).args.doc.now (head n) (name-good payload) (payload-bad c))
 
-returns-3 : tie.Need-returns-3
+returns-3 : tie.Need-returns-in-Good-checked
 returns-3 c =
-    let payload = c.before.before in
+    let payload = c.before in
     let n = name_of payload in
-    place_none (way_no (start_of n).args.way) (start_of n).args.doc.now (head n) (name-good payload) (payload-told payload ∙ ap verdict_of c.enum-told2.given.1)
+    place_none (way_no (start_of n).args.way) (start_of n).args.doc.now (head n) (name-good payload) (payload-told payload ∙ ap verdict_of c.in-Good-checked.is)
 
-pub bad-place-spec : {M : Type 1} → statement M
-bad-place-spec =
+pub bad_place_spec : {M : Type 1} → statement M
+bad_place_spec =
     tie.close
     (tie.spec
     (λ c κs. search rules)

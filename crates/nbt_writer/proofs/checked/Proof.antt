@@ -14,8 +14,8 @@ returns c =
     let a = at_source.before.before.before.args in
     sym (judged-part (verdict_in (way_no a.way).from.strings) a.doc.now a.start a.size (rw (← at_source.source.ensures) (sym c.check.ensures.is)))
 
-pub checked-spec : {M : Type 1} → statement M
-checked-spec =
+pub checked_spec : {M : Type 1} → statement M
+checked_spec =
     tie.close
     (tie.spec
     (λ c. search rules)

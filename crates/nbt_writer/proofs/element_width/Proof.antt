@@ -11,13 +11,13 @@ use Rattle.nbt_writer.proofs.element_width.Statement.{statement}
 use Rattle.nbt_writer.proofs.element_width.Tie as tie
 
 -- The rest: the kinds 1 and 7 to 10, and what is none.
-returns-8 : tie.Need-returns-8
+returns-8 : tie.Need-returns-in_default
 unfolding element_width width_of
 returns-8 c = go c.before.args.kind refl (known c.before.args.kind)
   where
     go : (kind : ℕ) → c.before.args.kind ≡ kind → ((0 < kind) × (kind ≤ 12)) ⊎ (element_width kind ≡ 1) → ◌≡◌ {A = ℕ} 1 (element_width kind)
     go kind e (inl k) =
-        let other = c.match.rest in
+        let other = c.in_default.in_default-own.rest in
         by_kind (λ x. c.before.args.kind ≡ x → ◌≡◌ {A = ℕ} 1 (element_width x))
         (λ q. refl) (λ q. absurd (other.0.0.0.0.0.0.1 q)) (λ q. absurd (other.0.0.0.0.0.1 q)) (λ q. absurd (other.0.0.0.0.1 q))
         (λ q. absurd (other.0.0.0.1 q)) (λ q. absurd (other.0.0.1 q)) (λ q. refl) (λ q. refl) (λ q. refl) (λ q. refl)
@@ -25,16 +25,16 @@ returns-8 c = go c.before.args.kind refl (known c.before.args.kind)
         kind k.0 k.1 e
     go kind e (inr one) = sym one
 
-pub element-width-spec : {M : Type 1} → statement M
+pub element_width_spec : {M : Type 1} → statement M
 unfolding element_width width_of
-element-width-spec =
+element_width_spec =
     tie.close
     (tie.spec
-    (λ c. rw c.match.keys1 refl)
-    (λ c. rw c.match.keys2 refl)
-    (λ c. rw c.match.keys3 refl)
-    (λ c. rw c.match.keys4 refl)
-    (λ c. rw c.match.keys5 refl)
-    (λ c. rw c.match.keys6 refl)
-    (λ c. rw c.match.keys7 refl)
+    (λ c. rw c.in-2.is refl)
+    (λ c. rw c.in-3.is refl)
+    (λ c. rw c.in-4.is refl)
+    (λ c. rw c.in-5.is refl)
+    (λ c. rw c.in-6.is refl)
+    (λ c. rw c.in-11.is refl)
+    (λ c. rw c.in-12.is refl)
     returns-8)

@@ -7,20 +7,20 @@ use Rattle.nbt_writer.proofs.put.Statement.{statement}
 use Rattle.nbt_writer.proofs.put.Tie as tie
 
 -- The places that are gone by: what is known of the bytes, at the call of `word`, and the start.
-abbrev bytes_of : tie.After-word → tie.After-shared-slice-known
+abbrev bytes_of : tie.After-word-end → tie.After-shared_slice_known-1
 bytes_of c = c.before.before.before
 
-word-requires : tie.Need-word-requires
+word-requires : tie.Need-word-end-requires
 word-requires c κs =
     let start = c.before.before.before in
     (root-room start.args.doc.now _ start.requires.formed.small start.requires.formed.table, omega arith)
 
-put-all-requires : tie.Need-put-all-requires
-put-all-requires c κs =
+put_all-requires : tie.Need-put_all-requires
+put_all-requires c κs =
     let at-word = c.before.before in
     let at-bytes = bytes_of at-word in
     let start = at-bytes.before in
-    put-room _ _ _ _ start.pre (λ k. omega (arith, at-bytes.shared-slice-known.given k)) c.between.ensures at-word.word.ensures start.pre.formed.table
+    put-room _ _ _ _ start.requires (λ k. omega (arith, at-bytes.shared_slice_known-1.given k)) c.between.ensures at-word.word-end.ensures start.requires.formed.table
 
 returns : tie.Need-returns
 returns c =
@@ -29,7 +29,7 @@ returns c =
     let at-word = at-way.before.before in
     let at-bytes = bytes_of at-word in
     let start = at-bytes.before in
-    λ i. put-done _ _ _ _ start.pre (λ k. omega (arith, at-bytes.shared-slice-known.given k)) at-way.between.ensures at-word.word.ensures i at-put.put_all.ensures
+    λ i. put-done _ _ _ _ start.requires (λ k. omega (arith, at-bytes.shared_slice_known-1.given k)) at-way.between.ensures at-word.word-end.ensures i at-put.put_all.ensures
 
 pub put_spec : {M : Type 1} → statement M
 put_spec =
@@ -37,6 +37,6 @@ put_spec =
     (tie.spec
     word-requires
     (λ c κs. search rules)
-    put-all-requires
+    put_all-requires
     (λ c. search rules)
     returns)

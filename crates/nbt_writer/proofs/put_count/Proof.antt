@@ -16,7 +16,7 @@ returns c =
     let at_Target = at-pocket.before in
     let a = at_Target.before.before.before.args in
     at-put.put_in.ensures
-    ∙ ap (λ little. over a.out.now a.at (bytes_in (order_in little) a.width a.v)) (at-pocket.is-pocket.ensures ∙ ap (λ n. eqb n 2) at_Target.target.ensures)
+    ∙ ap (λ little. over a.out.now a.at (bytes_in (order_in little) a.width a.v)) (at-pocket.is_pocket.ensures ∙ ap (λ n. eqb n 2) at_Target.target.ensures)
 
-pub put-count-spec : {M : Type 1} → statement M
-put-count-spec = tie.close (tie.spec (λ c κs. search rules) (λ c κs. search rules) (λ c κs. search rules) (λ c. search rules) returns)
+pub put_count_spec : {M : Type 1} → statement M
+put_count_spec = tie.close (tie.spec (λ c κs. search rules) (λ c κs. search rules) (λ c κs. search rules) (λ c. search rules) returns)

@@ -13,11 +13,11 @@ use Rattle.nbt_writer.proofs.put_list.Statement.{statement}
 use Rattle.nbt_writer.proofs.put_list.Tie as tie
 
 -- The start, from the call that puts the id.
-abbrev start_of : tie.After-put-number-arg → tie.Start
+abbrev start_of : tie.After-put_number-arg-1 → tie.Start
 start_of c = c.before.before.before
 
 -- That call, from the one that puts the count.
-abbrev id-of : tie.After-put-count-arg → tie.After-put-number
+abbrev id-of : tie.After-put_count-arg-1 → tie.After-put_number
 id-of c = c.before.before.before
 
 returns : tie.Need-returns
@@ -28,12 +28,12 @@ returns c =
     let id = id-of count.before in
     let a = (start_of id.before.before).args in
     let h = head_of a.table.now a.n in
-    let one = puts-number big 1 h.list_kind (a.at + 1) refl id.before.word.ensures id.put-number.ensures in
-    let two = puts-number (way_no a.way).to.order 4 h.count (a.at + 5) (omega arith) count.word2.ensures put.put_count.ensures in
+    let one = puts-number big 1 h.list_kind (a.at + 1) refl id.before.word.ensures id.put_number.ensures in
+    let two = puts-number (way_no a.way).to.order 4 h.count (a.at + 5) (omega arith) count.word-2.ensures put.put_count.ensures in
     puts_then one (omega (arith, digits-length 1 h.list_kind)) two
 
-pub put-list-spec : {M : Type 1} → statement M
-put-list-spec =
+pub put_list_spec : {M : Type 1} → statement M
+put_list_spec =
     tie.close
     (tie.spec
     (λ c κs. search rules)

@@ -16,11 +16,11 @@ use Rattle.nbt_writer.proofs.put_same.Statement.{statement}
 use Rattle.nbt_writer.proofs.put_same.Tie as tie
 
 -- The start, from the first call.
-abbrev start_of : tie.After-put-length-arg → tie.Start
+abbrev start_of : tie.After-put_length-arg-1 → tie.Start
 start_of c = c.before.before.before
 
 -- That call, from the one that copies.
-abbrev front_of : tie.After-copy-arg → tie.After-put-length
+abbrev front_of : tie.After-copy-arg-1 → tie.After-put_length-first
 front_of c = c.before.before.before
 
 -- What stands before the span.
@@ -33,22 +33,22 @@ room s =
     let a = s.args in
     omega (arith, s.requires.1, length-append (length-of s) (part a.doc.now a.start a.size), part_length a.doc.now a.start a.size s.requires.0)
 
-put-length-requires : tie.Need-put-length-requires
-put-length-requires c κs = omega (arith, room (start_of c))
+put_length-requires : tie.Need-put_length-first-requires
+put_length-requires c κs = omega (arith, room (start_of c))
 
 copy-requires : tie.Need-copy-requires
 copy-requires c κs =
     let put = front_of c in
-    let front = put.put-length in
+    let front = put.put_length-first in
     let s = start_of put.before in
-    (s.pre.0, omega (arith, room s, front.ensures.next, front.kept.1.1.1.0))
+    (s.requires.0, omega (arith, room s, front.ensures.next, front.auto.out.1.1.0))
 
-add-result : tie.Need-overflow-add-result
+add-result : tie.Need-overflow_add-result
 add-result c =
     let copy = c.before.before in
     let put = front_of copy.before in
     let s = start_of put.before in
-    omega (arith, room s, s.good, put.put-length.ensures.next)
+    omega (arith, room s, s.well_formed, put.put_length-first.ensures.next)
 
 returns : tie.Need-returns
 returns c =
@@ -56,9 +56,9 @@ returns c =
     let put = front_of copy.before in
     let s = start_of put.before in
     let a = s.args in
-    let front = put.put-length in
-    let span = copied (part a.doc.now a.start a.size) a.doc.now _ _ a.start a.size front.result s.pre.0 refl copy.copy.ensures in
+    let front = put.put_length-first in
+    let span = copied (part a.doc.now a.start a.size) a.doc.now _ _ a.start a.size front.result s.requires.0 refl copy.copy.ensures in
     puts_then front.ensures (omega (arith, room s)) span
 
-pub put-same-spec : {M : Type 1} → statement M
-put-same-spec = tie.close (tie.spec put-length-requires copy-requires add-result (λ c. search rules) returns)
+pub put_same_spec : {M : Type 1} → statement M
+put_same_spec = tie.close (tie.spec put_length-requires copy-requires add-result (λ c. search rules) returns)

@@ -6,19 +6,19 @@ use Rattle.nbt_writer.proofs.Characters.{answer-bad, answer-other}
 use Rattle.nbt_writer.proofs.refused.Statement.{statement}
 use Rattle.nbt_writer.proofs.refused.Tie as tie
 
-returns : tie.Need-returns
+returns : tie.Need-returns-then-number-eq-BAD_STRING
 returns c =
     let at-four = c.before in
     let a = at-four.before.before.before.args in
-    answer-bad (way_no a.way) a.doc.now a.table.now a.n at-four.if1.true c.bad-place.ensures
+    answer-bad (way_no a.way) a.doc.now a.table.now a.n at-four.if-number-eq-BAD_STRING.true c.bad_place.ensures
 
-returns-2 : tie.Need-returns-2
+returns-2 : tie.Need-returns
 returns-2 c =
     let a = c.before.before.before.args in
-    answer-other (way_no a.way) a.doc.now a.table.now a.n c.if1.false
+    answer-other (way_no a.way) a.doc.now a.table.now a.n c.if-number-eq-BAD_STRING.false
 
-pub refused-spec : {M : Type 1} → statement M
-refused-spec =
+pub refused_spec : {M : Type 1} → statement M
+refused_spec =
     tie.close
     (tie.spec
     (λ c κs. search rules)
