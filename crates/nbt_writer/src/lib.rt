@@ -1,6 +1,8 @@
 // Rule 8 and the conversion of 02, [2]: the document that a table stands for, written in its own form or another where its records are judged
 // to keep the rules. Each function has the name of the
 // definition that it meets, in form/specs/Writing.antt or nbt_judging/specs/Pieces.antt; io.rs of the crate writes in the same order.
+#![tactic(auto)]
+
 ghost use Rattle.std.specs.Prelude.{◌≡◌, ◌+◌, ◌*◌, ◌≤◌, length};
 ghost use Rattle.form.specs.Answer.{no};
 ghost use Rattle.form.specs.Form.{form_no, way_from, way_no};

@@ -9,12 +9,12 @@ use Rattle.nbt_writer.proofs.+put_all_put_one.Lts-put_all as put-all-lts
 use Rattle.nbt_writer.proofs.+put_all_put_one.Lts-put_one as put-one-lts
 use Rattle.nbt_writer.proofs.+put_all_put_one.{statement}
 use Rattle.nbt_writer.proofs.+put_all_put_one.Tie.{close}
-use Common.{μ-put-all, μ-put-one, put-all-at, put-one-at}
+use Common.{μ-put-all, μ-put-one, put_all-at, put_one-at}
 
 pub +put_all_put_one_spec : {M : Type 1} → statement M
 +put_all_put_one_spec =
     close μ-put-all μ-put-one
-    (λ t. put-all-lts.spec (All.claims t) (put-all-at t) put_all_lem.Post All.Inv-loop All.μ-loop
+    (λ t. put-all-lts.spec (All.claims t) (put_all-at t) put_all_lem.Post All.Inv-loop All.μ-loop
     (All.loop-holds t)
     (All.word-requires t)
     (All.put-one-requires t)
@@ -22,7 +22,7 @@ pub +put_all_put_one_spec : {M : Type 1} → statement M
     (All.loop-again t)
     (All.same_length t)
     (All.returns t))
-    (λ t. put-one-lts.spec (One.claims t) (put-one-at t) put_one.Post
+    (λ t. put-one-lts.spec (One.claims t) (put_one-at t) put_one.Post
     (One.put-name-requires t)
     (One.word-requires t)
     (One.put-list-requires t)

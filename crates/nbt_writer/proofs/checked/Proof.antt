@@ -10,9 +10,8 @@ use Rattle.nbt_writer.proofs.checked.Tie as tie
 
 returns : tie.Need-returns
 returns c =
-    let at_source = c.before in
-    let a = at_source.before.before.before.args in
-    sym (judged-part (verdict_in (way_no a.way).from.strings) a.doc.now a.start a.size (rw (← at_source.source.ensures) (sym c.check.ensures.is)))
+    let a = c.args in
+    sym (judged-part (verdict_in (way_no a.way).from.strings) a.doc.now a.start a.size (rw (← c.source.ensures) (sym c.check.ensures.is)))
 
 pub checked_spec : {M : Type 1} → statement M
 checked_spec =

@@ -13,12 +13,12 @@ use Rattle.nbt_writer.proofs.element_width.Tie as tie
 -- The rest: the kinds 1 and 7 to 10, and what is none.
 returns-8 : tie.Need-returns-in_default
 unfolding element_width width_of
-returns-8 c = go c.before.args.kind refl (known c.before.args.kind)
+returns-8 c = go c.args.kind refl (known c.args.kind)
   where
-    go : (kind : ℕ) → c.before.args.kind ≡ kind → ((0 < kind) × (kind ≤ 12)) ⊎ (element_width kind ≡ 1) → ◌≡◌ {A = ℕ} 1 (element_width kind)
+    go : (kind : ℕ) → c.args.kind ≡ kind → ((0 < kind) × (kind ≤ 12)) ⊎ (element_width kind ≡ 1) → ◌≡◌ {A = ℕ} 1 (element_width kind)
     go kind e (inl k) =
         let other = c.in_default.in_default-own.rest in
-        by_kind (λ x. c.before.args.kind ≡ x → ◌≡◌ {A = ℕ} 1 (element_width x))
+        by_kind (λ x. c.args.kind ≡ x → ◌≡◌ {A = ℕ} 1 (element_width x))
         (λ q. refl) (λ q. absurd (other.0.0.0.0.0.0.1 q)) (λ q. absurd (other.0.0.0.0.0.1 q)) (λ q. absurd (other.0.0.0.0.1 q))
         (λ q. absurd (other.0.0.0.1 q)) (λ q. absurd (other.0.0.1 q)) (λ q. refl) (λ q. refl) (λ q. refl) (λ q. refl)
         (λ q. absurd (other.0.1 q)) (λ q. absurd (other.1 q))

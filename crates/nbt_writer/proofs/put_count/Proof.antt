@@ -11,12 +11,9 @@ use Rattle.nbt_writer.proofs.put_count.Tie as tie
 
 returns : tie.Need-returns
 returns c =
-    let at-put = c.before.before in
-    let at-pocket = at-put.before in
-    let at_Target = at-pocket.before in
-    let a = at_Target.before.before.before.args in
-    at-put.put_in.ensures
-    ∙ ap (λ little. over a.out.now a.at (bytes_in (order_in little) a.width a.v)) (at-pocket.is_pocket.ensures ∙ ap (λ n. eqb n 2) at_Target.target.ensures)
+    let a = c.args in
+    c.put_in.ensures
+    ∙ ap (λ little. over a.out.now a.at (bytes_in (order_in little) a.width a.v)) (c.is_pocket.ensures ∙ ap (λ n. eqb n 2) c.target.ensures)
 
 pub put_count_spec : {M : Type 1} → statement M
 put_count_spec = tie.close (tie.spec (λ c κs. search rules) (λ c κs. search rules) (λ c κs. search rules) (λ c. search rules) returns)

@@ -43,52 +43,37 @@ read bytes c =
     bytes (way_of s) s.args.doc.now (kind-of c).word-kind.result c.word-count.result at_size.before.word-start.result at_size.word-size.result
 
 -- The span that the code reads lies in the document.
-within : (c : tie.After-word-count) → let at_size = c.before in at_size.before.word-start.result + at_size.word-size.result ≤ length (start_of c).args.doc.now
-within c = let at_size = c.before in omega (arith, (start_of c).requires.0.body, at_size.before.word-start.ensures, at_size.word-size.ensures)
+within : (c : tie.After-word-count) → c.word-start.result + c.word-size.result ≤ length c.args.doc.now
+within c = omega (arith, c.requires.0.body, c.word-start.ensures, c.word-size.ensures)
 
 -- It is the payload's.
-turned : (c : tie.After-word-count) → read span_bytes c ≡ due (start_of c)
+turned : (c : tie.After-word-count) → read span_bytes c ≡ due c.before.before.before.before.before.before.before
 turned c =
-    let s = start_of c in
-    let at_size = c.before in
-    λ i. span_bytes (way_of s) s.args.doc.now ((kind-of c).word-kind.ensures i) (c.word-count.ensures i) (at_size.before.word-start.ensures i) (at_size.word-size.ensures i)
+    λ i. span_bytes (way_of c.before.before.before.before.before.before.before) c.args.doc.now (c.word-kind.ensures i) (c.word-count.ensures i) (c.word-start.ensures i) (c.word-size.ensures i)
 
 -- Where both forms are alike it is written as it stands.
-same : (c : tie.Then-stays) → let words = c.before.before in read same_bytes words ≡ due (start_of words)
+same : (c : tie.Then-stays) → let words = c.before.before in read same_bytes words ≡ due c.before.before.before.before.before.before.before.before.before
 same c =
-    let asked = c.before in
-    let words = asked.before in
-    let s = start_of words in
-    let at_size = words.before in
-    let is = asked.stays.ensures in
+    let is = c.stays.ensures in
     let alike = c.if-stays.true in
-    span_same (way_of s) s.args.doc.now (kind-of words).word-kind.result words.word-count.result at_size.before.word-start.result at_size.word-size.result
-    (alike-rule (way_of s) is alike) (within words) (alike-order (way_of s) is alike) ∙ turned words
+    span_same (way_of c.before.before.before.before.before.before.before.before.before) c.args.doc.now c.word-kind.result c.word-count.result c.word-start.result c.word-size.result
+    (alike-rule (way_of c.before.before.before.before.before.before.before.before.before) is alike) (within c.before.before) (alike-order (way_of c.before.before.before.before.before.before.before.before.before) is alike) ∙ turned c.before.before
 
 put_same-requires : tie.Need-put_same-requires
 put_same-requires c κs =
-    let alike = c.before in
-    let words = alike.before.before in
-    (within words, omega (arith, (start_of words).requires.2, ap length (same alike)))
+    (within c.before.before.before, omega (arith, c.requires.2, ap length (same c.before)))
 
 returns : tie.Need-returns-then-stays
 returns c =
-    let put = c.before.before in
-    let alike = put.before.before in
-    puts-same (same alike) put.put_same.ensures
+    puts-same (same c.before.before.before.before) c.put_same.ensures
 
 put_turned-requires : tie.Need-put_turned-requires
 put_turned-requires c κs =
-    let other = c.before in
-    let words = other.before.before in
-    let s = start_of words in
-    (within words, omega (arith, s.requires.1, words.before.word-size.ensures), omega (arith, s.requires.2, ap length (turned words)))
+    (within c.before.before.before, omega (arith, c.requires.1, c.word-size.ensures), omega (arith, c.requires.2, ap length (turned c.before.before.before)))
 
 returns-2 : tie.Need-returns
 returns-2 c =
-    let put = c.before.before in
-    let other = put.before.before in
-    puts-same (turned other.before.before) put.put_turned.ensures
+    puts-same (turned c.before.before.before.before.before.before) c.put_turned.ensures
 
 pub put_leaf_spec : {M : Type 1} → statement M
 put_leaf_spec =

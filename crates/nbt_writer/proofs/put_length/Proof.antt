@@ -24,50 +24,34 @@ due s = length_bytes (way_no s.args.way) s.args.kind s.args.size s.args.count
 abbrev order-of : tie.Start → Order
 order-of s = (way_no s.args.way).to.order
 
--- The start, from where the kind is a string's.
-abbrev string-start : tie.In-8 → tie.Start
-string-start c = c.before.before
-
--- And from where it is an array's.
-abbrev array-start : tie.In_default → tie.Start
-array-start c = c.before.before
-
 -- A string's length.
-string_bytes : (c : tie.In-8) → let s = string-start c in due s ≡ bytes_in (order-of s) 2 s.args.size
-string_bytes c = let a = (string-start c).args in length-string (way_no a.way) a.kind a.size a.count c.in-8.is
+string_bytes : (c : tie.In-8) → due c.before.before ≡ bytes_in (order-of c.before.before) 2 c.args.size
+string_bytes c = let a = c.args in length-string (way_no a.way) a.kind a.size a.count c.in-8.is
 
 -- An array's count.
-array-bytes : (c : tie.In_default) → let s = array-start c in due s ≡ bytes_in (order-of s) 4 s.args.count
-array-bytes c = let a = (array-start c).args in length-array (way_no a.way) a.kind a.size a.count c.match.rest.1 (omega arith)
+array-bytes : (c : tie.In_default) → due c.before.before ≡ bytes_in (order-of c.before.before) 4 c.args.count
+array-bytes c = let a = c.args in length-array (way_no a.way) a.kind a.size a.count c.in_default.in_default-own.rest.1 (omega arith)
 
 put_count-requires : tie.Need-put_count-requires
 put_count-requires c κs =
-    let string = c.before in
-    let s = string-start string in
-    (omega arith, omega (arith, s.requires, ap length (string_bytes string), bytes-length (order-of s) 2 s.args.size))
+    (omega arith, omega (arith, c.requires, ap length (string_bytes c.before), bytes-length (order-of c.before.before.before) 2 c.args.size))
 
 put_count-requires-2 : tie.Need-put_count-requires-in_default
 put_count-requires-2 c κs =
-    let array = c.before in
-    let s = array-start array in
-    (omega arith, omega (arith, s.requires, ap length (array-bytes array), bytes-length (order-of s) 4 s.args.count))
+    (omega arith, omega (arith, c.requires, ap length (array-bytes c.before), bytes-length (order-of c.before.before.before) 4 c.args.count))
 
 returns : tie.Need-returns-in-8
 returns c =
-    let put = c.before.before in
-    let string = put.before.before in
-    rw (string_bytes string) (puts-number (order-of (string-start string)) 2 _ _ refl refl put.put_count.ensures)
+    rw (string_bytes c.before.before.before.before) (puts-number (order-of c.before.before.before.before.before.before) 2 _ _ refl refl c.put_count.ensures)
 
 returns-2 : tie.Need-returns-in-0-to-6
 returns-2 c =
-    let a = c.before.before.args in
+    let a = c.args in
     rw (length-fixed (way_no a.way) a.kind a.size a.count (omega arith)) (puts_none _ _)
 
 returns-3 : tie.Need-returns-in_default
 returns-3 c =
-    let put = c.before.before in
-    let array = put.before.before in
-    rw (array-bytes array) (puts-number (order-of (array-start array)) 4 _ _ refl refl put.put_count-in_default.ensures)
+    rw (array-bytes c.before.before.before.before) (puts-number (order-of c.before.before.before.before.before.before) 4 _ _ refl refl c.put_count-in_default.ensures)
 
 pub put_length_spec : {M : Type 1} → statement M
 put_length_spec =

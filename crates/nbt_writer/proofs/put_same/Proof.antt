@@ -15,14 +15,6 @@ use Rattle.nbt_writer.proofs.Puts.{puts_then}
 use Rattle.nbt_writer.proofs.put_same.Statement.{statement}
 use Rattle.nbt_writer.proofs.put_same.Tie as tie
 
--- The start, from the first call.
-abbrev start_of : tie.After-put_length-arg-1 → tie.Start
-start_of c = c.before.before.before
-
--- That call, from the one that copies.
-abbrev front_of : tie.After-copy-arg-1 → tie.After-put_length-first
-front_of c = c.before.before.before
-
 -- What stands before the span.
 abbrev length-of : tie.Start → List ℕ
 length-of s = length_bytes (way_no s.args.way) s.args.kind s.args.size s.args.count
@@ -34,31 +26,23 @@ room s =
     omega (arith, s.requires.1, length-append (length-of s) (part a.doc.now a.start a.size), part_length a.doc.now a.start a.size s.requires.0)
 
 put_length-requires : tie.Need-put_length-first-requires
-put_length-requires c κs = omega (arith, room (start_of c))
+put_length-requires c κs = omega (arith, room c.before.before.before)
 
 copy-requires : tie.Need-copy-requires
 copy-requires c κs =
-    let put = front_of c in
-    let front = put.put_length-first in
-    let s = start_of put.before in
-    (s.requires.0, omega (arith, room s, front.ensures.next, front.auto.out.1.1.0))
+    let front = c.put_length-first in
+    (c.requires.0, omega (arith, room c.before.before.before.before.before.before.before, front.ensures.next, front.auto.out))
 
 add-result : tie.Need-overflow_add-result
 add-result c =
-    let copy = c.before.before in
-    let put = front_of copy.before in
-    let s = start_of put.before in
-    omega (arith, room s, s.well_formed, put.put_length-first.ensures.next)
+    omega (arith, room c.before.before.before.before.before.before.before.before.before.before, c.well_formed, c.put_length-first.ensures.next)
 
 returns : tie.Need-returns
 returns c =
-    let copy = c.before.before in
-    let put = front_of copy.before in
-    let s = start_of put.before in
-    let a = s.args in
-    let front = put.put_length-first in
-    let span = copied (part a.doc.now a.start a.size) a.doc.now _ _ a.start a.size front.result s.requires.0 refl copy.copy.ensures in
-    puts_then front.ensures (omega (arith, room s)) span
+    let a = c.args in
+    let front = c.put_length-first in
+    let span = copied (part a.doc.now a.start a.size) a.doc.now _ _ a.start a.size front.result c.requires.0 refl c.copy.ensures in
+    puts_then front.ensures (omega (arith, room c.before.before.before.before.before.before.before.before.before.before)) span
 
 pub put_same_spec : {M : Type 1} → statement M
 put_same_spec = tie.close (tie.spec put_length-requires copy-requires add-result (λ c. search rules) returns)

@@ -8,13 +8,12 @@ use Rattle.nbt_writer.proofs.refused.Tie as tie
 
 returns : tie.Need-returns-then-number-eq-BAD_STRING
 returns c =
-    let at-four = c.before in
-    let a = at-four.before.before.before.args in
-    answer-bad (way_no a.way) a.doc.now a.table.now a.n at-four.if-number-eq-BAD_STRING.true c.bad_place.ensures
+    let a = c.args in
+    answer-bad (way_no a.way) a.doc.now a.table.now a.n c.if-number-eq-BAD_STRING.true c.bad_place.ensures
 
 returns-2 : tie.Need-returns
 returns-2 c =
-    let a = c.before.before.before.args in
+    let a = c.args in
     answer-other (way_no a.way) a.doc.now a.table.now a.n c.if-number-eq-BAD_STRING.false
 
 pub refused_spec : {M : Type 1} → statement M

@@ -28,57 +28,40 @@ abbrev On : ℕ → (lts.Claims → In 3 kinds.ps → Out 3 kinds.ps kinds.r →
 On t F = F (claims t) (put_all-at t) put_all_lem.Post Inv-loop μ-loop
 
 module _ (t : ℕ) where
-  -- The start, from right before the loop.
-  abbrev start_of : On t lts.After-slice_known-1 → On t lts.Start
-  start_of c = c.before.before.before
-
-  -- The turn of the loop, from where the record is written.
-  abbrev turn-of : On t lts.After-put_one-here → On t lts.In-loop-i
-  turn-of c = c.before.before.before
-
   pub loop-holds : On t lts.Need-loop-i-init
   loop-holds c = (omega arith, λ p. course-start _ _ _ _ _ _ _ p)
 
   -- How far the walk has come.
   course : (c : On t lts.At-loop-i) →
-      let s = start_of c.before in
-      let a = s.args in
-      Course (way_no a.way) a.doc.now a.table.now a.list a.end s.pre.1.some.forest a.out-1.now a.at c.loop-i.out-1 c.loop-i.i c.loop-i.here
-  course c = c.loop-i.invariant.1 (start_of c.before).pre.1
+      let a = c.args in
+      Course (way_no a.way) a.doc.now a.table.now a.list a.end c.requires.1.some.forest a.out.now a.at c.loop-i.out c.loop-i.i c.loop-i.here
+  course c = c.loop-i.invariant.1 c.requires.1
 
   pub word-requires : On t lts.Need-word-next-requires
   word-requires c κs = (omega (arith, (course c.before).rows.fits, c.loop-i-test.true), omega arith)
 
   pub put-one-requires : On t lts.Need-put_one-here-requires
   put-one-requires c κs =
-      let at-word = c.before in
-      let turn = at-word.before in
-      let l = turn.before in
-      let p = (start_of l.before).pre in
-      let e = at-word.word-next.ensures in
-      let i = turn.loop-i-test.true in
-      let on = course-on _ _ _ _ _ _ _ (course l) i e in
-      (omega (arith, p.0, on.0, on.1, l.loop-i.invariant.0), course-one _ _ _ _ _ _ _ (course l) i e p.1.some.small)
+      let p = c.requires in
+      let e = c.word-next.ensures in
+      let i = c.loop-i-test.true in
+      let on = course-on _ _ _ _ _ _ _ (course c.before.before.before) i e in
+      (omega (arith, p.0, on.0, on.1, c.loop-i.invariant.0), course-one _ _ _ _ _ _ _ (course c.before.before.before) i e p.1.some.small)
 
   pub loop-less : On t lts.Need-loop-i-smaller
   loop-less c =
-      let one = c.before.before in
-      let turn = turn-of one in
-      let on = course-on _ _ _ _ _ _ _ (course turn.before) turn.loop-i-test.taken one.before.before.word-next.ensures in
+      let on = course-on _ _ _ _ _ _ _ (course c.before.before.before.before.before.before) c.loop-i-test.true c.word-next.ensures in
       omega (arith, on.0, on.1)
 
   pub loop-again : On t lts.Need-loop-i-preserved
   loop-again c =
-      let one = c.before.before in
-      let turn = turn-of one in
-      let l = turn.before in
-      let i = turn.loop-i-test.taken in
-      let e = one.before.before.word-next.ensures in
-      let on = course-on _ _ _ _ _ _ _ (course l) i e in
-      (omega (arith, on.0, l.loop-i.inv.0), λ p. course-next _ _ _ _ _ _ _ (l.loop-i.inv.1 p) i e p.some.small one.put_one-here.ensures)
+      let i = c.loop-i-test.true in
+      let e = c.word-next.ensures in
+      let on = course-on _ _ _ _ _ _ _ (course c.before.before.before.before.before.before) i e in
+      (omega (arith, on.0, c.loop-i.invariant.0), λ p. course-next _ _ _ _ _ _ _ (c.loop-i.invariant.1 p) i e p.some.small c.put_one-here.ensures)
 
   pub same_length : On t lts.Need-shape_of-out
   same_length c = course-length _ _ _ _ _ _ _ (course c.before)
 
   pub returns : On t lts.Need-returns
-  returns c = λ p. course-end _ _ _ _ _ _ _ (c.before.loop-i.invariant.1 p) c.loop-i-test.false
+  returns c = λ p. course-end _ _ _ _ _ _ _ (c.loop-i.invariant.1 p) c.loop-i-test.false

@@ -12,17 +12,17 @@ use Rattle.nbt_writer.proofs.put_one.Kinds as put-one-kinds
 abbrev pub μ-put-all : Measures 3 put-all-kinds.ps ℕ
 μ-put-all κs a = 2 * (a.1.1.1.0 - a.1.1.0) + 1
 
-abbrev pub put-all-at : ℕ → In 3 put-all-kinds.ps
-put-all-at t = and 3 put-all-kinds.ps (is 3 put-all-kinds.ps μ-put-all t) put_all_lem.Pre
+abbrev pub put_all-at : ℕ → In 3 put-all-kinds.ps
+put_all-at t = and 3 put-all-kinds.ps (is 3 put-all-kinds.ps μ-put-all t) put_all_lem.Pre
 
-abbrev pub put-all-below : ℕ → In 3 put-all-kinds.ps
-put-all-below t = and 3 put-all-kinds.ps (falls 3 put-all-kinds.ps ◌<◌ μ-put-all t) put_all_lem.Pre
+abbrev pub put_all-below : ℕ → In 3 put-all-kinds.ps
+put_all-below t = and 3 put-all-kinds.ps (falls 3 put-all-kinds.ps ◌<◌ μ-put-all t) put_all_lem.Pre
 
 abbrev pub μ-put-one : Measures 3 put-one-kinds.ps ℕ
 μ-put-one κs a = 2 * (a.1.1.1.0 - a.1.1.0)
 
-abbrev pub put-one-at : ℕ → In 3 put-one-kinds.ps
-put-one-at t = and 3 put-one-kinds.ps (is 3 put-one-kinds.ps μ-put-one t) put_one.Pre
+abbrev pub put_one-at : ℕ → In 3 put-one-kinds.ps
+put_one-at t = and 3 put-one-kinds.ps (is 3 put-one-kinds.ps μ-put-one t) put_one.Pre
 
-abbrev pub put-one-below : ℕ → In 3 put-one-kinds.ps
-put-one-below t = and 3 put-one-kinds.ps (falls 3 put-one-kinds.ps ◌<◌ μ-put-one t) put_one.Pre
+abbrev pub put_one-below : ℕ → In 3 put-one-kinds.ps
+put_one-below t = and 3 put-one-kinds.ps (falls 3 put-one-kinds.ps ◌<◌ μ-put-one t) put_one.Pre

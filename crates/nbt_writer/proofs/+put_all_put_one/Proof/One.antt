@@ -41,148 +41,94 @@ abbrev On : ℕ → (lts.Claims → In 3 kinds.ps → Out 3 kinds.ps kinds.r →
 On t F = F (claims t) (put_one-at t) put_one.Post
 
 module _ (t : ℕ) where
-  -- The start, from the call that puts the name.
-  abbrev start_of : On t lts.After-slice_known-1 → On t lts.Start
-  start_of c = c.before.before.before
-
-  -- That call, from where the kind is read.
-  abbrev name_of : On t lts.After-word → On t lts.After-put_name-from
-  name_of c = c.before.before.before
-
-  -- The start from there.
-  abbrev start-at : On t lts.After-word → On t lts.Start
-  start-at c = start_of (name_of c).before.before
-
-  -- Where a list's head is put, from the call that puts its elements.
-  abbrev head-of : On t lts.After-put_all-arg-1 → On t lts.After-put_list-first
-  head-of c = c.before.before.before
-
-  -- Where a compound's entries are put, from the call that puts the end byte.
-  abbrev entries-of : On t lts.After-put_number-arg-1 → On t lts.After-put_all-last
-  entries-of c = c.before.before.before
-
   -- It has a record more than the records in it.
   more : (c : On t lts.Start) → (c.args.n < c.args.end) × (9 * c.args.end ≤ length c.args.table.now)
   more c = let o = c.requires.1.one in (omega (arith, rows-to _ _ _ _ _ o.head o.inner o.rows), o.rows.fits)
 
   pub put-name-requires : On t lts.Need-put_name-from-requires
   put-name-requires c κs =
-      let s = start_of c.before in
-      let o = s.pre.1.one in
-      (one_placed o, omega (arith, (one_placed o).name, o.small.bytes), name-room _ _ _ _ _ _ _ _ s.pre.1)
+      let o = c.requires.1.one in
+      (one_placed o, omega (arith, (one_placed o).name, o.small.bytes), name-room _ _ _ _ _ _ _ _ c.requires.1)
 
   pub word-requires : On t lts.Need-word-requires
   word-requires c κs =
-      let named = c.before.before in
-      ((one_placed (start_of named.before.before).pre.1.one).room, omega arith)
+      ((one_placed c.requires.1.one).room, omega arith)
 
   -- ---- a list
 
-  is-list : (c : On t lts.In-9) → let a = (start-at c.before).args in word_of a.table.now a.n 0 ≡ 9
-  is-list c = sym c.before.word.ensures ∙ c.in-9.is
+  is-list : (c : On t lts.In-9) → let a = c.args in word_of a.table.now a.n 0 ≡ 9
+  is-list c = sym c.word.ensures ∙ c.in-9.is
 
   pub put-list-requires : On t lts.Need-put_list-first-requires
   put-list-requires c κs =
-      let list = c.before in
-      let s = start-at list.before in
-      ((one_placed s.pre.1.one).room, list-room _ _ _ _ _ _ _ _ s.pre.1 (name_of list.before).put_name-from.ensures (is-list list))
+      ((one_placed c.requires.1.one).room, list-room _ _ _ _ _ _ _ _ c.requires.1 c.put_name-from.ensures (is-list c.before))
 
   pub add-put-all : On t lts.Need-overflow_add-n
   add-put-all c =
-      let head = c.before.before in
-      let list = head.before.before in
-      omega (arith, one-next (start-at list.before).pre.1.one)
+      omega (arith, one-next c.requires.1.one)
 
   pub put-all-requires : On t lts.Need-put_all-requires
   put-all-requires c κs =
-      let head = head-of c in
-      let list = head.before.before in
-      let s = start-at list.before in
-      (omega (arith, s.pre.0, (more s).0), list-some _ _ _ _ _ _ _ _ s.pre.1 (name_of list.before).put_name-from.ensures (is-list list) head.put_list-first.ensures)
+      (omega (arith, c.requires.0, (more c.before.before.before.before.before.before.before.before.before.before.before.before.before.before).0), list-some _ _ _ _ _ _ _ _ c.requires.1 c.put_name-from.ensures (is-list c.before.before.before.before.before) c.put_list-first.ensures)
 
   pub returns : On t lts.Need-returns-in-9
   returns c =
-      let all = c.before.before in
-      let head = head-of all.before in
-      let list = head.before.before in
-      λ p. list_put _ _ _ _ _ _ _ _ p (name_of list.before).put_name-from.ensures (is-list list) head.put_list-first.ensures all.put_all.ensures
+      λ p. list_put _ _ _ _ _ _ _ _ p c.put_name-from.ensures (is-list c.before.before.before.before.before.before.before.before) c.put_list-first.ensures c.put_all.ensures
 
   pub same_length : On t lts.Need-shape_of-out-in-9
   same_length c =
-      let all = c.before.before in
-      let list = (head-of all.before).before.before in
-      let p = (start-at list.before).pre.1 in
+      let p = c.requires.1 in
       puts-length (returns c p) p.room
 
   -- ---- a compound
 
-  is-compound : (c : On t lts.In-10) → let a = (start-at c.before).args in word_of a.table.now a.n 0 ≡ 10
-  is-compound c = sym c.before.word.ensures ∙ c.in-10.is
+  is-compound : (c : On t lts.In-10) → let a = c.args in word_of a.table.now a.n 0 ≡ 10
+  is-compound c = sym c.word.ensures ∙ c.in-10.is
 
   pub add-put-all-2 : On t lts.Need-overflow_add-n-in-10
-  add-put-all-2 c = omega (arith, one-next (start-at c.before).pre.1.one)
+  add-put-all-2 c = omega (arith, one-next c.requires.1.one)
 
   pub put-all-requires-2 : On t lts.Need-put_all-last-requires
   put-all-requires-2 c κs =
-      let compound = c.before in
-      let s = start-at compound.before in
-      (omega (arith, s.pre.0, (more s).0), compound-some _ _ _ _ _ _ _ _ s.pre.1 (name_of compound.before).put_name-from.ensures (is-compound compound))
+      (omega (arith, c.requires.0, (more c.before.before.before.before.before.before.before.before.before.before).0), compound-some _ _ _ _ _ _ _ _ c.requires.1 c.put_name-from.ensures (is-compound c.before))
 
   pub put-number-requires : On t lts.Need-put_number-requires
   put-number-requires c κs =
-      let entries = entries-of c in
-      let compound = entries.before.before in
-      let s = start-at compound.before in
-      (omega arith, end-room _ _ _ _ _ _ _ _ s.pre.1 (name_of compound.before).put_name-from.ensures (is-compound compound) entries.put_all-last.ensures)
+      (omega arith, end-room _ _ _ _ _ _ _ _ c.requires.1 c.put_name-from.ensures (is-compound c.before.before.before.before.before) c.put_all-last.ensures)
 
   pub returns-2 : On t lts.Need-returns-in-10
   returns-2 c =
-      let put = c.before.before in
-      let entries = entries-of put.before in
-      let compound = entries.before.before in
-      λ p. put-compound _ _ _ _ _ _ _ _ p (name_of compound.before).put_name-from.ensures (is-compound compound) entries.put_all-last.ensures put.put_number.ensures
+      λ p. put-compound _ _ _ _ _ _ _ _ p c.put_name-from.ensures (is-compound c.before.before.before.before.before.before.before.before) c.put_all-last.ensures c.put_number.ensures
 
   pub add-result : On t lts.Need-overflow_add-result
   add-result c =
-      let put = c.before.before in
-      let compound = (entries-of put.before).before.before in
-      let s = start-at compound.before in
-      let p = s.pre.1 in
-      omega (arith, (returns-2 c p).next, p.room, s.good)
+      let p = c.requires.1 in
+      omega (arith, (returns-2 c p).next, p.room, c.well_formed)
 
   pub same-length-2 : On t lts.Need-shape_of-out-in-10
   same-length-2 c =
-      let put = c.before.before in
-      let compound = (entries-of put.before).before.before in
-      let p = (start-at compound.before).pre.1 in
+      let p = c.requires.1 in
       puts-length (returns-2 c p) p.room
 
   -- ---- a leaf
 
   pub put-leaf-requires : On t lts.Need-put_leaf-requires
   put-leaf-requires c κs =
-      let other = c.before.in_default.in_default-own.rest in
-      let at-kind = c.before.before in
-      let e = at-kind.word.ensures in
-      let s = start-at at-kind in
-      let o = s.pre.1.one in (
+      let other = c.in_default.in_default-own.rest in
+      let e = c.word.ensures in
+      let o = c.requires.1.one in (
         one_placed o,
         omega (arith, (one_placed o).body, o.small.bytes),
-        leaf_room _ _ _ _ _ _ _ _ s.pre.1 (name_of at-kind).put_name-from.ensures (λ q. other.0.1 (e ∙ q)) (λ q. other.1 (e ∙ q)),
+        leaf_room _ _ _ _ _ _ _ _ c.requires.1 c.put_name-from.ensures (λ q. other.0.1 (e ∙ q)) (λ q. other.1 (e ∙ q)),
       )
 
   pub returns-3 : On t lts.Need-returns-in_default
   returns-3 c =
-      let leaf = c.before.before in
-      let rest = leaf.before.before in
-      let other = rest.in_default.in_default-own.rest in
-      let at-kind = rest.before in
-      let e = at-kind.word.ensures in
-      λ p. leaf-put _ _ _ _ _ _ _ _ p (name_of at-kind).put_name-from.ensures (λ q. other.0.1 (e ∙ q)) (λ q. other.1 (e ∙ q)) leaf.put_leaf.ensures
+      let other = c.in_default.in_default-own.rest in
+      let e = c.word.ensures in
+      λ p. leaf-put _ _ _ _ _ _ _ _ p c.put_name-from.ensures (λ q. other.0.1 (e ∙ q)) (λ q. other.1 (e ∙ q)) c.put_leaf.ensures
 
   pub same-length-3 : On t lts.Need-shape_of-out-in_default
   same-length-3 c =
-      let leaf = c.before.before in
-      let at-kind = leaf.before.before.before in
-      let p = (start-at at-kind).requires.1 in
+      let p = c.requires.1 in
       puts-length (returns-3 c p) p.room
