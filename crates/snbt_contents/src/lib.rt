@@ -1,5 +1,7 @@
 // What a string token's content is in rule 2's form: its length, and its bytes in an output (rule 12).
 // A run of plain bytes is taken at once; what is not plain goes character by character.
+#![tactic(auto)]
+
 ghost use Rattle.std.specs.Prelude.{◌≡◌, ◌&&◌, ◌+◌, ◌-◌, ◌≤◌, ◌<◌, eqb, length};
 ghost use Rattle.form.specs.Spans.{part, over};
 ghost use Rattle.form.specs.Strings.{scalar_bytes};

@@ -42,7 +42,7 @@ value_of c = c.before.before
 
 -- the output behind the copy, and the place up to which it is written
 abbrev out_of : tie.After-slice_known-in-loop-i-1 Inv μ → List ℕ
-out_of c = (copy_of c).copy.new.out.1.1.0
+out_of c = (copy_of c).copy.new.out
 
 abbrev to-of : tie.After-slice_known-in-loop-i-1 Inv μ → ℕ
 to-of c = let l = (turn-of (run_of c)).loop-i in l.to + ((run_of c).plain_end-j.result - l.i)
@@ -62,11 +62,11 @@ ran c =
     let l = (turn-of (run_of c)).loop-i in
     let s = start_of (turn-of (run_of c)) in
     let e = (run_of c).plain_end-j.ensures in
-    putting-plain _ _ _ _ _ _ s.requires l.out-1 l.to l.i _ e.0 e.1 e.2 l.invariant.1 _ (copy_of c).copy.ensures
+    putting-plain _ _ _ _ _ _ s.requires l.out l.to l.i _ e.0 e.1 e.2 l.invariant.1 _ (copy_of c).copy.ensures
 
 -- the output is as long as it was, and what is written ends in it
 within : (c : tie.After-slice_known-in-loop-i-1 Inv μ)
-    → (to-of c ≤ length (out_of c)) × (length (out_of c) ≡ length (start_of (turn-of (run_of c))).args.out-1.now)
+    → (to-of c ≤ length (out_of c)) × (length (out_of c) ≡ length (start_of (turn-of (run_of c))).args.out.now)
 within c =
     let s = start_of (turn-of (run_of c)) in
     (putting-room _ _ _ _ _ _ s.requires _ _ _ (ran c), putting-length _ _ _ _ _ _ s.requires _ _ _ (ran c))
@@ -84,7 +84,7 @@ told c v d =
 ahead : (c : tie.In-Is Inv μ)
     → let p = copied-of (front_of c) in let s = start_of (turn-of (run_of p)) in let a = s.args in let v = c.in-Is in
     Room a.text.now a.quoted a.start a.end a.out.now a.at s.requires (out_of p) (to-of p) (run_of p).plain_end-j.result v.scalar v.bytes
-ahead c = told (front_of c) _ c.before.in-Is.is
+ahead c = told (front_of c) _ c.in-Is.is
 
 -- the same behind the value that was put
 abbrev put_of : tie.After-slice_known-in-Is-1 Inv μ → tie.In-Is Inv μ
@@ -117,12 +117,12 @@ put_content_spec =
     (λ c. (omega arith, ran c.before))  -- loop-again
     (λ c κs. (omega arith, (start_of (turn-of (run_of c.before))).requires.within.1))  -- front-at-requires
     (λ c. search rules)  -- enum-known-scalar
-    (λ c κs. let w = ahead c.before in (w.scalar-1, w.room))  -- put-value-requires
+    (λ c κs. let w = ahead c.before in (w.scalar, w.room))  -- put-value-requires
     add-i
     (λ c. let w = ahead (put_of c) in omega (arith, w.some, w.reach))  -- loop-less-2
     loop-again-2
     (λ c. search rules)  -- enum_told
-    (λ c. (within (copied-of c.before.before)).1)  -- same-length
-    (λ c. told c.before.before _ c.in-Refused.is _ _)  -- returns
+    (λ c. (within (copied-of c.before)).1)  -- same-length
+    (λ c. told c.before _ c.in-Refused.is _ _)  -- returns
     (λ c. putting-length _ _ _ _ _ _ (start_of c.before).requires _ _ _ c.before.loop-i.invariant.1)  -- same-length-2
     (λ c. putting-end _ _ _ _ _ _ (start_of c.before).requires _ _ _ (omega arith) c.before.loop-i.invariant.1))  -- returns-2
