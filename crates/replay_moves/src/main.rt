@@ -5,6 +5,8 @@
 // feed, `z` eight zeros, `s` seven, any other byte itself. For each case it prints the answer and then the whole output, which was filled
 // with AA before: that it was kept; else its bytes, after `U` and `D` with `/` for a line feed, a dash for each byte that was kept and all
 // digits as they are. The answers in stdout are of a second reading of the paper: tests/replay/moves.py made them.
+#![tactic(auto)]
+
 use lines::Line;
 use table_store::Answer;
 

@@ -6,8 +6,8 @@ use lib.Seq.{length-take-le}
 use Rattle.replay_moves.proofs.move_case.Statement.{statement}
 use Rattle.replay_moves.proofs.move_case.Tie as tie
 
-pub move-case-spec : {M : Type 1} → statement M
-move-case-spec =
+pub move_case_spec : {M : Type 1} → statement M
+move_case_spec =
     tie.close
     (tie.spec
     (λ c. sym (length-take-le _ _ (search rules)))

@@ -6,14 +6,14 @@ use lib.ListN.{length}
 use Rattle.replay_moves.proofs.print_spelt.Statement.{statement}
 use Rattle.replay_moves.proofs.print_spelt.Tie as tie
 
-abbrev invariant-loop : tie.invariant-loop
+abbrev invariant-loop : tie.invariant-loop-i
 invariant-loop out i₀ i = i ≤ length out
 
-abbrev decreases-loop : tie.decreases-loop
+abbrev decreases-loop : tie.decreases-loop-i
 decreases-loop out i₀ i = length out - i
 
-pub print-spelt-spec : {M : Type 1} → statement M
-print-spelt-spec =
+pub print_spelt_spec : {M : Type 1} → statement M
+print_spelt_spec =
     tie.close
     (tie.spec
     invariant-loop
