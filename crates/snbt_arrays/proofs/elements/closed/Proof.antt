@@ -7,12 +7,12 @@ use Rattle.snbt_tokens.specs.Answers.{last_is}
 use Rattle.snbt_arrays.proofs.elements.closed.Statement.{statement}
 use Rattle.snbt_arrays.proofs.elements.closed.Tie as tie
 
-pub closed-spec : {M : Type 1} → statement M
-closed-spec =
+pub closed_spec : {M : Type 1} → statement M
+closed_spec =
     tie.close
     (tie.spec
     (λ c. search rules)
     (λ c. search rules)
     (λ c. search rules)
-    (λ c. (ap (λ l. no_comma (last_is l)) c.before.enum_told.given.1, refl))
-    (λ c. ap (λ l. no_comma (last_is l)) c.before.last.given.1))
+    (λ c. (ap (λ l. no_comma (last_is l)) c.before.in-Other.is, refl))
+    (λ c. ap (λ l. no_comma (last_is l)) c.in-Comma.is))

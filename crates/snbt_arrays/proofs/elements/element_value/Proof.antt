@@ -9,8 +9,8 @@ use Rattle.snbt_arrays.proofs.Turning.{whole_of, no-element}
 use Rattle.snbt_arrays.proofs.elements.element_value.Statement.{statement}
 use Rattle.snbt_arrays.proofs.elements.element_value.Tie as tie
 
-pub element-value-spec : {M : Type 1} → statement M
-element-value-spec =
+pub element_value_spec : {M : Type 1} → statement M
+element_value_spec =
     tie.close
     (tie.spec
     (λ c. search rules)
@@ -21,17 +21,17 @@ element-value-spec =
     (λ c κs. search rules)
     (λ c.
     let told = c.before in
-    let v = told.before.token.given in
-    let kept = held v.0.0 told.known-told.given.0.1 in
+    let v = c.token-1.given in
+    let kept = held v.0.0 c.known_told-1.given.0.1 in
     whole_of (byte v.0.0) _ 1 _ c.fitting.result (ap token_is v.1) refl (sym kept) c.fitting.ensures)
     (λ c.
     let told = c.before in
-    let v = told.before.token2.given in
-    let kept = held v.0.0 told.known-told2.given.0.1 in
-    whole_of (int v.0.0) _ 4 _ c.fitting2.result (ap token_is v.1) refl (sym kept) c.fitting2.ensures)
+    let v = c.token-in-Int-1.given in
+    let kept = held v.0.0 c.known_told-in-Int-1.given.0.1 in
+    whole_of (int v.0.0) _ 4 _ c.fitting-in-Int.result (ap token_is v.1) refl (sym kept) c.fitting-in-Int.ensures)
     (λ c.
     let told = c.before in
-    let v = told.before.token3.given in
-    let kept = held v.0.0 told.known-told3.given.0.1 in
-    whole_of (long v.0.0) _ 8 _ c.fitting3.result (ap token_is v.1) refl (sym kept) c.fitting3.ensures)
-    (λ c. let s = c.before in no-element s.requires s.args.token c.match.keys4))
+    let v = c.token-in-Long-1.given in
+    let kept = held v.0.0 c.known_told-in-Long-1.given.0.1 in
+    whole_of (long v.0.0) _ 8 _ c.fitting-in-Long.result (ap token_is v.1) refl (sym kept) c.fitting-in-Long.ensures)
+    (λ c. no-element c.requires c.args.token-1 c.match.keys4))

@@ -5,17 +5,17 @@ use Rattle.snbt_arrays.proofs.Turning.{wide-range, fitting-is, fitting-out, fitt
 use Rattle.snbt_arrays.proofs.elements.fitting.Statement.{statement}
 use Rattle.snbt_arrays.proofs.elements.fitting.Tie as tie
 
-pub fitting-spec : {M : Type 1} → statement M
-fitting-spec =
+pub fitting_spec : {M : Type 1} → statement M
+fitting_spec =
     tie.close
     (tie.spec
     (λ c κs. wide-range c.before.requires)
     (λ c.
     let r = c.before in
     let s = r.before.before in
-    fitting-is s.args.own s.args.width s.args.v _ (held s.args.v s.well-formed.0) r.before.if1.true r.in-range.ensures c.if2.true)
+    fitting-is s.args.own s.args.width s.args.v _ (held s.args.v s.well_formed.0) r.before.if-own-width.true r.in_range.ensures c.if-in_range.true)
     (λ c.
     let r = c.before in
     let s = r.before.before in
-    fitting-out s.args.own s.args.width s.args.v _ (held s.args.v s.well-formed.0) r.before.if1.true r.in-range.ensures c.if2.false)
-    (λ c. let a = c.before.args in fitting-other a.own a.width a.v c.if1.false))
+    fitting-out s.args.own s.args.width s.args.v _ (held s.args.v s.well_formed.0) r.before.if-own-width.true r.in_range.ensures c.if-in_range.false)
+    (λ c. let a = c.before.args in fitting-other a.own a.width a.v c.if-own-width.false))
