@@ -20,8 +20,6 @@ use Rattle.snbt_tokens.specs.declared.Index.{Index}
 use Rattle.snbt_tokens.specs.declared.Token as code
 use Rattle.snbt_tokens.specs.declared.Token.TheVariants.{OpenCurly, ClosedCurly, OpenSquare, ClosedSquare, Comma as CommaSign, Colon, Semicolon, Str, Byte, Short, Int, Long, Float, Double}
 use Rattle.snbt_tokens.specs.Answers.{token_is}
-use Rattle.snbt_tokens.proofs.Rests.{tag_of}
-use types.Run.{OneOf, miss}
 use Rattle.snbt_arrays.specs.declared.elements.Whole.{Whole}
 use Rattle.snbt_arrays.specs.declared.elements.Whole.TheVariants.{Is, Not}
 use Rattle.snbt_arrays.specs.declared.elements.ElementTurn.{ElementTurn}
@@ -69,24 +67,22 @@ none_of n ints e a p = rw (e, a) refl
 none_of n longs e a p = rw (e, a) refl
 
 -- Any other token than byte, int or long is none.
-abbrev pub no_elements : List ℕ
-no_elements = 0 ∷ 1 ∷ 2 ∷ 3 ∷ 4 ∷ 5 ∷ 6 ∷ 7 ∷ 9 ∷ 12 ∷ 13 ∷ []
-
-pub no-element : {w : ℕ} → Wide w → (k : code.Token) → OneOf no_elements (tag_of k) → (p : ℕ) → element_int w (token_is k) p ≡ no mixed_list p
-no-element h OpenCurly o p = refl
-no-element h ClosedCurly o p = refl
-no-element h OpenSquare o p = refl
-no-element h ClosedSquare o p = refl
-no-element h CommaSign o p = refl
-no-element h Colon o p = refl
-no-element h Semicolon o p = refl
-no-element h (Str q a e) o p = refl
-no-element h (Byte z) o p = absurd (miss no_elements 8 tt o)
-no-element h (Short z) o p = none_of (short z) h refl refl p
-no-element h (Int z) o p = absurd (miss no_elements 10 tt o)
-no-element h (Long z) o p = absurd (miss no_elements 11 tt o)
-no-element h (Float x) o p = none_of (float x) h refl refl p
-no-element h (Double x) o p = none_of (double x) h refl refl p
+pub no-element : {w : ℕ} → Wide w → (k : code.Token) → ((z : ℤ) → k ≡ Byte z → ⊥) → ((z : ℤ) → k ≡ Int z → ⊥) → ((z : ℤ) → k ≡ Long z → ⊥)
+    → (p : ℕ) → element_int w (token_is k) p ≡ no mixed_list p
+no-element h OpenCurly b i l p = refl
+no-element h ClosedCurly b i l p = refl
+no-element h OpenSquare b i l p = refl
+no-element h ClosedSquare b i l p = refl
+no-element h CommaSign b i l p = refl
+no-element h Colon b i l p = refl
+no-element h Semicolon b i l p = refl
+no-element h (Str q a e) b i l p = refl
+no-element h (Byte z) b i l p = absurd (b z refl)
+no-element h (Short z) b i l p = none_of (short z) h refl refl p
+no-element h (Int z) b i l p = absurd (i z refl)
+no-element h (Long z) b i l p = absurd (l z refl)
+no-element h (Float x) b i l p = none_of (float x) h refl refl p
+no-element h (Double x) b i l p = none_of (double x) h refl refl p
 
 -- ---- an element that is written
 

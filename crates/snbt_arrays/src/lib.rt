@@ -1,4 +1,6 @@
 // Arrays of a text (rule 14): the count and the elements of a byte, int or long array as the bytes of a document.
+#![tactic(auto)]
+
 mod elements;
 
 ghost use Rattle.std.specs.Prelude.{◌≡◌, List, ◌+◌, ◌≤◌, length, ℤ};

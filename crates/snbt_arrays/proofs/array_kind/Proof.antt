@@ -12,4 +12,4 @@ array_kind_spec =
     (tie.spec
     (λ c. unfold kind_of in λ vs. rw c.in-1.is refl)
     (λ c. unfold kind_of in λ vs. rw c.in-4.is refl)
-    (λ c. unfold kind_of in λ vs. let w = c.before.args.width in rw (ne_eqb w 1 c.in_default.in_default-own.rest.0.1, ne_eqb w 4 c.in_default.in_default-own.rest.1) refl))
+    (λ c. unfold kind_of in λ vs. let w = c.args.width in rw (ne_eqb w 1 c.in_default.in_default-own.rest.0.1, ne_eqb w 4 c.in_default.in_default-own.rest.1) refl))

@@ -14,5 +14,5 @@ closed_spec =
     (λ c. search rules)
     (λ c. search rules)
     (λ c. search rules)
-    (λ c. (ap (λ l. no_comma (last_is l)) c.before.in-Other.is, refl))
+    (λ c. (ap (λ l. no_comma (last_is l)) c.in-Other.is, refl))
     (λ c. ap (λ l. no_comma (last_is l)) c.in-Comma.is))

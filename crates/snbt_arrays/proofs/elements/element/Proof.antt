@@ -15,81 +15,61 @@ use Rattle.snbt_arrays.proofs.Turning.{turn-refused, turn-ended, turn-comma, tur
 use Rattle.snbt_arrays.proofs.elements.element.Statement.{statement}
 use Rattle.snbt_arrays.proofs.elements.element.Tie as tie
 
--- the beginning, and the token behind which an element is put
-abbrev start_of : tie.After-index-1 → tie.Start
-start_of c = let at-peek = c.before in at-peek.before.before.before
-
-abbrev token-of : tie.In-Found → tie.After-token_at
-token-of c = c.before
-
 -- A sign in front as the token that it is.
 abbrev token-in-front : tie.After-index-1 → Token → TokenData
-token-in-front c k = record { token = k; index = c.before.peek_at-peeked.result.index.0; width = 1 }
+token-in-front c k = record { token = k; index = c.peek_at-peeked.result.index.0; width = 1 }
 
 -- The sign that stands in front is the token.
-is-sign : (c : tie.After-index-1) (k : Token) → 0 < sign_of k → c.before.peek_at-peeked.result.byte ≡ sign_of k
-    → let a = (start_of c).args in token_at later a.text.now a.place ≡ sign k c.before.peek_at-peeked.result.index.0
-is-sign c k z e = let a = (start_of c).args in let p = c.before.peek_at-peeked in front-sign a.text.now a.place p.result p.ensures later k z e
+is-sign : (c : tie.After-index-1) (k : Token) → 0 < sign_of k → c.peek_at-peeked.result.byte ≡ sign_of k
+    → let a = c.args in token_at later a.text.now a.place ≡ sign k c.peek_at-peeked.result.index.0
+is-sign c k z e = let a = c.args in let p = c.peek_at-peeked in front-sign a.text.now a.place p.result p.ensures later k z e
 
 -- The next place of such a token lies within the text.
-sign-within : (c : tie.After-index-1) (k : Token) → 0 < sign_of k → c.before.peek_at-peeked.result.byte ≡ sign_of k
-    → (token-in-front c k).index < length (start_of c).args.text.now
+sign-within : (c : tie.After-index-1) (k : Token) → 0 < sign_of k → c.peek_at-peeked.result.byte ≡ sign_of k
+    → (token-in-front c k).index < length c.args.text.now
 sign-within c k z e =
-    let b = start_of c in
-    omega (arith, (token-moves later b.args.text.now b.args.place (token-in-front c k) _ (is-sign c k z e) b.requires.0).2)
+    omega (arith, (token-moves later c.args.text.now c.args.place (token-in-front c k) _ (is-sign c k z e) c.requires.0).2)
 
 -- The token that was found.
 is_found : (c : tie.In-Found)
-    → let a = (start_of (token-of c).before.before).args in token_at later a.text.now a.place ≡ got (found (data_is c.«data».given.0.0) c.«data».given.0.1.0)
-is_found c = sym (token-of c).token_at.ensures ∙ ap lexed_out c.«data».given.1
+    → let a = c.args in token_at later a.text.now a.place ≡ got (found (data_is c.in-Found.«data») c.in-Found.next)
+is_found c = sym c.token_at.ensures ∙ ap lexed_out c.in-Found.is
 
 returns : tie.Need-returns-in-44
 returns c =
-    let at-match = c.before in
-    let f = at-match.before in
-    let b = start_of f in
-    let a = b.args in
-    turn-comma a.text.now a.width a.brace.0 (last_is a.last) a.place a.used a.out.now b.requires.0 (token-in-front f comma) _
-    (is-sign f comma (omega arith) at-match.in-44.is) refl _ refl refl
+    let a = c.args in
+    turn-comma a.text.now a.width a.brace.0 (last_is a.last) a.place a.used a.out.now c.requires.0 (token-in-front c.before.before comma) _
+    (is-sign c.before.before comma (omega arith) c.in-44.is) refl _ refl refl
 
 returns-2 : tie.Need-returns-in-93
 returns-2 c =
-    let at-match = c.before in
-    let f = at-match.before in
-    let b = start_of f in
-    let a = b.args in
-    turn-closed a.text.now a.width a.brace.0 (last_is a.last) a.place a.used a.out.now b.requires.0 (token-in-front f closed_square) _
-    (is-sign f closed_square (omega arith) at-match.in-93.is) refl c.closed.result refl c.closed.ensures
+    let a = c.args in
+    turn-closed a.text.now a.width a.brace.0 (last_is a.last) a.place a.used a.out.now c.requires.0 (token-in-front c.before.before closed_square) _
+    (is-sign c.before.before closed_square (omega arith) c.in-93.is) refl c.closed.result refl c.closed.ensures
 
 returns-3 : tie.Need-returns-in-Refused
 returns-3 c =
-    let at-token = c.before.before.before in
-    let a = (start_of at-token).args in
+    let a = c.args in
     turn-refused a.text.now (length a.out.now) a.width a.brace.0 (last_is a.last) a.place a.used _ _
     (sym c.token_at.ensures ∙ ap lexed_out c.in-Refused.is)
 
 returns-4 : tie.Need-returns-in-Ended
 returns-4 c =
-    let at-token = c.before.before in
-    let a = (start_of at-token.before).args in
+    let a = c.args in
     turn-ended a.text.now (length a.out.now) a.width a.brace.0 (last_is a.last) a.place a.used _
     (sym c.token_at.ensures ∙ ap lexed_out c.in-Ended.is)
 
 returns-5 : tie.Need-returns-in-Found
 returns-5 c =
-    let at-put = c.before.before in
-    let at-data = at-put.before.before in
-    let at_rest = (token-of at-data).before in
-    let d = at-data.«data».given.0 in
-    let e = is_found at-data in
-    let f = at_rest.before in
-    let b = start_of f in
-    let a = b.args in
-    let p = at_rest.peek_at-peeked in
-    let in-front = (front-token a.text.now a.place p.result p.ensures later (data_is d.0) d.1.0 e).1 in
-    turn-put a.text.now a.width a.brace.0 (last_is a.last) a.place a.used a.out-1.now b.requires.0 (data_is d.0) d.1.0 e
-    (λ s. at_rest.in_default.in_default-own.rest.0.1 (in-front (omega (arith, s)) ∙ s))
-    (λ s. at_rest.in_default.in_default-own.rest.1 (in-front (omega (arith, s)) ∙ s))
+    let d = c.in-Found.«data» in
+    let n = c.in-Found.next in
+    let e = is_found c.before.before.before.before in
+    let a = c.args in
+    let p = c.peek_at-peeked in
+    let in-front = (front-token a.text.now a.place p.result p.ensures later (data_is d) n e).1 in
+    turn-put a.text.now a.width a.brace.0 (last_is a.last) a.place a.used a.out.now c.requires.0 (data_is d) n e
+    (λ s. c.in_default.in_default-own.rest.0.1 (in-front (omega (arith, s)) ∙ s))
+    (λ s. c.in_default.in_default-own.rest.1 (in-front (omega (arith, s)) ∙ s))
     c.put_element.result _ c.put_element.ensures
 
 pub element_spec : {M : Type 1} → statement M
@@ -97,7 +77,7 @@ element_spec =
     tie.close
     (tie.spec
     (λ c κs. search rules)
-    (λ c. omega (arith, sign-within c.before.before comma (omega arith) c.before.in-44.is))
+    (λ c. omega (arith, sign-within c.before.before comma (omega arith) c.in-44.is))
     (λ c κs. omega (arith, sign-within c.before closed_square (omega arith) c.in-93.is))
     (λ c κs. search rules)
     (λ c. search rules)

@@ -20,18 +20,15 @@ element_value_spec =
     (λ c. search rules)
     (λ c κs. search rules)
     (λ c.
-    let told = c.before in
-    let v = c.token-1.given in
-    let kept = held v.0.0 c.known_told-1.given.0.1 in
-    whole_of (byte v.0.0) _ 1 _ c.fitting.result (ap token_is v.1) refl (sym kept) c.fitting.ensures)
+    let v = c.in-Byte in
+    let kept = held v.v c.in-Byte.known_told-1-own.given.0.1 in
+    whole_of (byte v.v) _ 1 _ c.fitting.result (ap token_is v.is) refl (sym kept) c.fitting.ensures)
     (λ c.
-    let told = c.before in
-    let v = c.token-in-Int-1.given in
-    let kept = held v.0.0 c.known_told-in-Int-1.given.0.1 in
-    whole_of (int v.0.0) _ 4 _ c.fitting-in-Int.result (ap token_is v.1) refl (sym kept) c.fitting-in-Int.ensures)
+    let v = c.in-Int in
+    let kept = held v.v c.in-Int.known_told-in-Int-1-own.given.0.1 in
+    whole_of (int v.v) _ 4 _ c.fitting-in-Int.result (ap token_is v.is) refl (sym kept) c.fitting-in-Int.ensures)
     (λ c.
-    let told = c.before in
-    let v = c.token-in-Long-1.given in
-    let kept = held v.0.0 c.known_told-in-Long-1.given.0.1 in
-    whole_of (long v.0.0) _ 8 _ c.fitting-in-Long.result (ap token_is v.1) refl (sym kept) c.fitting-in-Long.ensures)
-    (λ c. no-element c.requires c.args.token-1 c.match.keys4))
+    let v = c.in-Long in
+    let kept = held v.v c.in-Long.known_told-in-Long-1-own.given.0.1 in
+    whole_of (long v.v) _ 8 _ c.fitting-in-Long.result (ap token_is v.is) refl (sym kept) c.fitting-in-Long.ensures)
+    (λ c. no-element c.requires c.args.token c.in_default.not-Byte c.in_default.not-Int c.in_default.not-Long))

@@ -9,13 +9,9 @@ pub fitting_spec : {M : Type 1} → statement M
 fitting_spec =
     tie.close
     (tie.spec
-    (λ c κs. wide-range c.before.requires)
+    (λ c κs. wide-range c.requires)
     (λ c.
-    let r = c.before in
-    let s = r.before.before in
-    fitting-is s.args.own s.args.width s.args.v _ (held s.args.v s.well_formed.0) r.before.if-own-width.true r.in_range.ensures c.if-in_range.true)
+    fitting-is c.args.own c.args.width c.args.v _ (held c.args.v c.well_formed.0) c.if-own-width.true c.in_range.ensures c.if-in_range.true)
     (λ c.
-    let r = c.before in
-    let s = r.before.before in
-    fitting-out s.args.own s.args.width s.args.v _ (held s.args.v s.well_formed.0) r.before.if-own-width.true r.in_range.ensures c.if-in_range.false)
-    (λ c. let a = c.before.args in fitting-other a.own a.width a.v c.if-own-width.false))
+    fitting-out c.args.own c.args.width c.args.v _ (held c.args.v c.well_formed.0) c.if-own-width.true c.in_range.ensures c.if-in_range.false)
+    (λ c. let a = c.args in fitting-other a.own a.width a.v c.if-own-width.false))

@@ -15,58 +15,36 @@ use Rattle.snbt_arrays.proofs.Turning.{wide-range, put-not, put_full, put-done}
 use Rattle.snbt_arrays.proofs.elements.put_element.Statement.{statement}
 use Rattle.snbt_arrays.proofs.elements.put_element.Tie as tie
 
--- the beginning, the integer that the token is as an element, and the test of its room
-abbrev start_of : tie.After-element_value → tie.Start
-start_of c = c.before.before.before
-
-abbrev called_of : tie.In-Is → tie.After-element_value
-called_of c = c.before
-
-abbrev integer-of : tie.After-has_room → tie.In-Is
-integer-of c = c.before
-
-abbrev room_of : tie.After-put_signed-arg-1 → tie.After-has_room
-room_of c = c.before.before
-
 -- What the token is as an element, at the case that the `match` took.
 whole : (c : tie.After-element_value) {r : Whole} → c.element_value.result ≡ r
-    → let a = (start_of c).args in WholeIs a.width (token_is a.«data».token) r
-whole c e = let a = (start_of c).args in subst (WholeIs a.width (token_is a.«data».token)) e c.element_value.ensures
+    → let a = c.args in WholeIs a.width (token_is a.«data».token) r
+whole c e = let a = c.args in subst (WholeIs a.width (token_is a.«data».token)) e c.element_value.ensures
 
 put_signed-requires : tie.Need-put_signed-requires
 put_signed-requires c κs =
-    let at_room = room_of c in
-    let z = integer-of at_room in
-    let s = start_of (called_of z) in
-    let a = s.args in
-    let kept = held z.in-Is.v at_room.known_told-1.given.0.1 in (
-      (wide-range s.pre).1,
-      leb-true (a.used + a.width) _ (sym at_room.has_room.ensures ∙ c.if-has_room.true),
-      subst (FitsIn a.width) (sym kept) (whole (called_of z) z.in-Is.is).1,
+    let a = c.args in
+    let kept = held c.in-Is.v c.in-Is.known_told-1-own.given.0.1 in (
+      (wide-range c.requires).1,
+      leb-true (a.used + a.width) _ (sym c.has_room.ensures ∙ c.if-has_room.true),
+      subst (FitsIn a.width) (sym kept) (whole c.before.before.before.before c.in-Is.is).1,
     )
 
 returns : tie.Need-returns-then-has_room
 returns c =
-    let at-put = c.before.before in
-    let at_room = room_of at-put.before in
-    let z = integer-of at_room in
-    let a = (start_of (called_of z)).args in
-    let kept = held z.in-Is.v at_room.known_told-1.given.0.1 in
-    put-done a.out-1.now a.width (data_is a.«data») a.next a.used _ (whole (called_of z) z.in-Is.is).0 at_room.has_room.ensures
-    c.if-has_room.true (c.put_signed.ensures ∙ ap (λ v. over a.out-1.now a.used (int_bytes a.width v)) kept)
+    let a = c.args in
+    let kept = held c.in-Is.v c.in-Is.known_told-1-own.given.0.1 in
+    put-done a.out.now a.width (data_is a.«data») a.next a.used _ (whole c.before.before.before.before.before.before.before c.in-Is.is).0 c.has_room.ensures
+    c.if-has_room.true (c.put_signed.ensures ∙ ap (λ v. over a.out.now a.used (int_bytes a.width v)) kept)
 
 returns-2 : tie.Need-returns-else-has_room
 returns-2 c =
-    let at_room = c.before in
-    let z = integer-of at_room in
-    let a = (start_of (called_of z)).args in
-    put_full a.out.now a.width (data_is a.«data») a.next a.used _ (whole (called_of z) z.in-Is.is).0 at_room.has_room.ensures c.if-has_room.false
+    let a = c.args in
+    put_full a.out.now a.width (data_is a.«data») a.next a.used _ (whole c.before.before.before c.in-Is.is).0 c.has_room.ensures c.if-has_room.false
 
 returns-3 : tie.Need-returns-in-Not
 returns-3 c =
-    let at_value = c.before in
-    let a = (start_of at_value).args in
-    put-not a.out.now a.width (data_is a.«data») a.next a.used (whole at_value c.in-Not.is)
+    let a = c.args in
+    put-not a.out.now a.width (data_is a.«data») a.next a.used (whole c.before c.in-Not.is)
 
 pub put_element_spec : {M : Type 1} → statement M
 put_element_spec =
