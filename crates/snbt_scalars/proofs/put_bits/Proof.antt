@@ -15,36 +15,36 @@ use Rattle.snbt_scalars.proofs.put_bits.Tie as tie
 abbrev start_of : tie.After-admits → tie.Start
 start_of c = c.before.before.before
 
-abbrev asked_of : tie.After-enum-told → tie.After-admits
-asked_of c = c.before.before
+abbrev asked_of : tie.In-Yes → tie.After-admits
+asked_of c = c.before
 
 -- There is room for the bytes.
-room : (c : tie.After-enum-told) → let a = (start_of (asked_of c)).args in a.target.at + a.width ≤ length a.out.now
+room : (c : tie.In-Yes) → let a = (start_of (asked_of c)).args in a.target.at + a.width ≤ length a.out.now
 room c =
     let a = (start_of (asked_of c)).args in
-    admitted-room a.target.want a.kind (length a.out.now) a.target.at a.width c.enum_told.given.1 (asked_of c).admits.ensures
+    admitted-room a.target.want a.kind (length a.out.now) a.target.at a.width c.in-Yes.is (asked_of c).admits.ensures
 
-returns : tie.Need-returns
+returns : tie.Need-returns-in-Yes
 returns c tag k s =
     let put = c.before.before in
     let told = put.before.before in
     let a = (start_of (asked_of told)).args in
     let t = a.target in
     placed-did a.out.now t.want t.index.0 t.next t.at a.kind a.width (bytes_of a.width a.bits) (digits-length a.width a.bits) tag k s
-    told.enum_told.given.1 (asked_of told).admits.ensures put.put-number.ensures
+    told.in-Yes.is (asked_of told).admits.ensures put.put_number.ensures
 
-returns-2 : tie.Need-returns-2
+returns-2 : tie.Need-returns-in-No
 returns-2 c tag k s =
     let told = c.before in
-    let asked = told.before.before in
+    let asked = told in
     let a = (start_of asked).args in
     let t = a.target in
     let e = placed-barred a.out.now t.want t.index.0 t.next t.at a.kind a.width (bytes_of a.width a.bits) (digits-length a.width a.bits) tag k s
-    told.number.given.1 asked.admits.ensures in
+    c.in-No.is c.admits.ensures in
     (e, refl)
 
-pub put-bits-spec : {M : Type 1} → statement M
-put-bits-spec =
+pub put_bits_spec : {M : Type 1} → statement M
+put_bits_spec =
     tie.close
     (tie.spec
     (λ c κs. search rules)
