@@ -24,7 +24,8 @@ name-told c =
     sym (c.checked.ensures ∙ λ i. verdict_in (way_no c.args.way).from.strings (part c.args.doc.now (c.word-name.ensures i) (c.word.ensures i)))
 
 -- What is told of the payload.
-payload-told : (c : tie.After-checked-in-Good) → verdict_in (way_no c.args.way).from.strings (part c.args.doc.now (head c.before.before.before.before).start (head c.before.before.before.before).size) ≡ verdict_of c.checked-in-Good.result
+payload-told : (c : tie.After-checked-in-Good) → let h = head c.before.before.before.before in
+    verdict_in (way_no c.args.way).from.strings (part c.args.doc.now h.start h.size) ≡ verdict_of c.checked-in-Good.result
 payload-told c =
     sym (c.checked-in-Good.ensures ∙ λ i. verdict_in (way_no c.args.way).from.strings
     (part c.args.doc.now (c.word-start.ensures i) (c.word-in-Good.ensures i)))
@@ -38,11 +39,11 @@ name-bad : (c : tie.In-Bad) → verdict_in (way_no c.args.way).from.strings (par
 name-bad c = name-told c.before ∙ ap verdict_of c.in-Bad.is
 
 -- It can.
-name-good : (c : tie.After-checked-in-Good) → verdict_in (way_no c.args.way).from.strings (part c.args.doc.now (head c.before.before.before.before).name (head c.before.before.before.before).name_length) ≡ good
+name-good : (c : tie.After-checked-in-Good) → let h = head c.before.before.before.before in verdict_in (way_no c.args.way).from.strings (part c.args.doc.now h.name h.name_length) ≡ good
 name-good c = name-told c.before.before.before.before ∙ ap verdict_of c.in-Good.is
 
 -- The payload can't.
-payload-bad : (c : tie.In-Bad-checked) → verdict_in (way_no c.args.way).from.strings (part c.args.doc.now (head c.before.before.before.before.before).start (head c.before.before.before.before.before).size) ≡ bad c.in-Bad-checked.k
+payload-bad : (c : tie.In-Bad-checked) → let h = head c.before.before.before.before.before in verdict_in (way_no c.args.way).from.strings (part c.args.doc.now h.start h.size) ≡ bad c.in-Bad-checked.k
 payload-bad c = payload-told c.before ∙ ap verdict_of c.in-Bad-checked.is
 
 add-name : tie.Need-overflow_add-result

@@ -15,32 +15,13 @@ use Rattle.nbt_writer.proofs.Spans.{alike-order, alike-rule, span_same}
 use Rattle.nbt_writer.proofs.put_leaf.Statement.{statement}
 use Rattle.nbt_writer.proofs.put_leaf.Tie as tie
 
--- Where the kind is read, from where all the words are read.
-abbrev kind-of : tie.After-word-count → tie.After-word-kind
-kind-of c = c.before.before.before
-
--- The start, from right before the kind is read.
-abbrev first_of : tie.After-slice_known-1 → tie.Start
-first_of c = c.before.before.before
-
--- And from where all the words are read.
-abbrev start_of : tie.After-word-count → tie.Start
-start_of c = first_of (kind-of c).before
-
--- The way.
-abbrev way_of : tie.Start → Way
-way_of s = way_no s.args.way
-
 -- The bytes that are due.
 abbrev due : tie.Start → List ℕ
-due s = leaf_bytes (way_of s) s.args.doc.now (head_of s.args.table.now s.args.n)
+due s = leaf_bytes (way_no s.args.way) s.args.doc.now (head_of s.args.table.now s.args.n)
 
 -- A definition's bytes, of the words that the code reads.
 abbrev read : (Way → List ℕ → ℕ → ℕ → ℕ → ℕ → List ℕ) → tie.After-word-count → List ℕ
-read bytes c =
-    let s = start_of c in
-    let at_size = c.before in
-    bytes (way_of s) s.args.doc.now (kind-of c).word-kind.result c.word-count.result at_size.before.word-start.result at_size.word-size.result
+read bytes c = bytes (way_no c.args.way) c.args.doc.now c.word-kind.result c.word-count.result c.word-start.result c.word-size.result
 
 -- The span that the code reads lies in the document.
 within : (c : tie.After-word-count) → c.word-start.result + c.word-size.result ≤ length c.args.doc.now
@@ -49,15 +30,15 @@ within c = omega (arith, c.requires.0.body, c.word-start.ensures, c.word-size.en
 -- It is the payload's.
 turned : (c : tie.After-word-count) → read span_bytes c ≡ due c.before.before.before.before.before.before.before
 turned c =
-    λ i. span_bytes (way_of c.before.before.before.before.before.before.before) c.args.doc.now (c.word-kind.ensures i) (c.word-count.ensures i) (c.word-start.ensures i) (c.word-size.ensures i)
+    λ i. span_bytes (way_no c.args.way) c.args.doc.now (c.word-kind.ensures i) (c.word-count.ensures i) (c.word-start.ensures i) (c.word-size.ensures i)
 
 -- Where both forms are alike it is written as it stands.
 same : (c : tie.Then-stays) → let words = c.before.before in read same_bytes words ≡ due c.before.before.before.before.before.before.before.before.before
 same c =
     let is = c.stays.ensures in
     let alike = c.if-stays.true in
-    span_same (way_of c.before.before.before.before.before.before.before.before.before) c.args.doc.now c.word-kind.result c.word-count.result c.word-start.result c.word-size.result
-    (alike-rule (way_of c.before.before.before.before.before.before.before.before.before) is alike) (within c.before.before) (alike-order (way_of c.before.before.before.before.before.before.before.before.before) is alike) ∙ turned c.before.before
+    span_same (way_no c.args.way) c.args.doc.now c.word-kind.result c.word-count.result c.word-start.result c.word-size.result
+    (alike-rule (way_no c.args.way) is alike) (within c.before.before) (alike-order (way_no c.args.way) is alike) ∙ turned c.before.before
 
 put_same-requires : tie.Need-put_same-requires
 put_same-requires c κs =

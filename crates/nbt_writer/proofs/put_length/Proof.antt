@@ -6,7 +6,7 @@ use mathlib.Core.List.{List}
 use mathlib.Core.Path.{◌≡◌, refl, ap}
 use Prim.Native.Nat.{ℕ}
 use lib.ListN.{length}
-use Rattle.form.specs.Form.{Order, way_no}
+use Rattle.form.specs.Form.{way_no}
 use Rattle.form.specs.Numbers.{bytes_in}
 use Rattle.form.proofs.Orders.{bytes-length}
 use Rattle.recode.proofs.Outputs.{puts_none}
@@ -20,29 +20,25 @@ use Rattle.nbt_writer.proofs.put_length.Tie as tie
 abbrev due : tie.Start → List ℕ
 due s = length_bytes (way_no s.args.way) s.args.kind s.args.size s.args.count
 
--- The order that they are written in.
-abbrev order-of : tie.Start → Order
-order-of s = (way_no s.args.way).to.order
-
 -- A string's length.
-string_bytes : (c : tie.In-8) → due c.before.before ≡ bytes_in (order-of c.before.before) 2 c.args.size
+string_bytes : (c : tie.In-8) → due c.before.before ≡ bytes_in (way_no c.args.way).to.order 2 c.args.size
 string_bytes c = let a = c.args in length-string (way_no a.way) a.kind a.size a.count c.in-8.is
 
 -- An array's count.
-array-bytes : (c : tie.In_default) → due c.before.before ≡ bytes_in (order-of c.before.before) 4 c.args.count
+array-bytes : (c : tie.In_default) → due c.before.before ≡ bytes_in (way_no c.args.way).to.order 4 c.args.count
 array-bytes c = let a = c.args in length-array (way_no a.way) a.kind a.size a.count c.in_default.in_default-own.rest.1 (omega arith)
 
 put_count-requires : tie.Need-put_count-requires
 put_count-requires c κs =
-    (omega arith, omega (arith, c.requires, ap length (string_bytes c.before), bytes-length (order-of c.before.before.before) 2 c.args.size))
+    (omega arith, omega (arith, c.requires, ap length (string_bytes c.before), bytes-length (way_no c.args.way).to.order 2 c.args.size))
 
 put_count-requires-2 : tie.Need-put_count-requires-in_default
 put_count-requires-2 c κs =
-    (omega arith, omega (arith, c.requires, ap length (array-bytes c.before), bytes-length (order-of c.before.before.before) 4 c.args.count))
+    (omega arith, omega (arith, c.requires, ap length (array-bytes c.before), bytes-length (way_no c.args.way).to.order 4 c.args.count))
 
 returns : tie.Need-returns-in-8
 returns c =
-    rw (string_bytes c.before.before.before.before) (puts-number (order-of c.before.before.before.before.before.before) 2 _ _ refl refl c.put_count.ensures)
+    rw (string_bytes c.before.before.before.before) (puts-number (way_no c.args.way).to.order 2 _ _ refl refl c.put_count.ensures)
 
 returns-2 : tie.Need-returns-in-0-to-6
 returns-2 c =
@@ -51,7 +47,7 @@ returns-2 c =
 
 returns-3 : tie.Need-returns-in_default
 returns-3 c =
-    rw (array-bytes c.before.before.before.before) (puts-number (order-of c.before.before.before.before.before.before) 4 _ _ refl refl c.put_count-in_default.ensures)
+    rw (array-bytes c.before.before.before.before) (puts-number (way_no c.args.way).to.order 4 _ _ refl refl c.put_count-in_default.ensures)
 
 pub put_length_spec : {M : Type 1} → statement M
 put_length_spec =

@@ -21,52 +21,28 @@ use Rattle.nbt_writer.proofs.Spans.{alike-rule, span-text, text_same}
 use Rattle.nbt_writer.proofs.put_name.Statement.{statement}
 use Rattle.nbt_writer.proofs.put_name.Tie as tie
 
--- The start, from where `list` is asked.
-abbrev start_of : tie.After-slice_known-1 → tie.Start
-start_of c = c.before.before.before
-
--- Where an entry begins, from where the name's length is read.
-abbrev entry_of : tie.After-word-size → tie.Else-list
-entry_of c = c.before.before
-
--- The start from there.
-abbrev start-at : tie.After-word-size → tie.Start
-start-at c = let entry = entry_of c in start_of entry.before
-
--- Where that is read, from where the id is put.
-abbrev size_of : tie.After-put_number → tie.After-word-size
-size_of c = c.before.before.before
-
--- Where the id is put, from where it is known whether the forms are alike.
-abbrev id-of : tie.After-stays → tie.After-put_number
-id-of c = c.before.before.before
-
--- The way.
-abbrev way_of : tie.Start → Way
-way_of s = way_no s.args.way
-
 -- The record's words.
 abbrev head-of : tie.Start → Head
 head-of s = head_of s.args.table.now s.args.n
 
 -- The name's bytes.
 abbrev name_of : tie.Start → List ℕ
-name_of s = text_bytes (way_of s) s.args.doc.now (head-of s).name (head-of s).name_length
+name_of s = text_bytes (way_no s.args.way) s.args.doc.now (head_of s.args.table.now s.args.n).name (head_of s.args.table.now s.args.n).name_length
 
 -- There is room for the id and for them.
 room : (c : tie.Else-list) → c.args.at + (1 + length (name_of c.before.before.before.before)) ≤ length c.args.out.now
 room c =
     let h = head-of c.before.before.before.before in
-    let all = name-entry (way_of c.before.before.before.before) c.args.doc.now h c.args.list c.if-list.false in
+    let all = name-entry (way_no c.args.way) c.args.doc.now h c.args.list c.if-list.false in
     omega (arith, c.requires.2, ap length all, length-append (bytes_of 1 h.kind) (name_of c.before.before.before.before), digits-length 1 h.kind)
 
 -- A definition's bytes, of the span that the code reads.
 abbrev read : (Way → List ℕ → ℕ → ℕ → ℕ → ℕ → List ℕ) → tie.After-word-size → List ℕ
-read bytes c = let s = start-at c in bytes (way_of s) s.args.doc.now 8 0 c.before.word-start.result c.word-size.result
+read bytes c = bytes (way_no c.args.way) c.args.doc.now 8 0 c.word-start.result c.word-size.result
 
 -- That span is the name's.
-named : (c : tie.After-word-size) → text_bytes (way_of c.before.before.before.before.before.before) c.args.doc.now c.word-start.result c.word-size.result ≡ name_of c.before.before.before.before.before.before
-named c = λ i. text_bytes (way_of c.before.before.before.before.before.before) c.args.doc.now (c.word-start.ensures i) (c.word-size.ensures i)
+named : (c : tie.After-word-size) → text_bytes (way_no c.args.way) c.args.doc.now c.word-start.result c.word-size.result ≡ name_of c.before.before.before.before.before.before
+named c = λ i. text_bytes (way_no c.args.way) c.args.doc.now (c.word-start.ensures i) (c.word-size.ensures i)
 
 -- It lies in the document.
 within : (c : tie.After-word-size) → c.word-start.result + c.word-size.result ≤ length c.args.doc.now
@@ -74,27 +50,28 @@ within c = omega (arith, c.requires.0.name, c.word-start.ensures, c.word-size.en
 
 -- So the other form has it as the definition says.
 turned : (c : tie.After-word-size) → read span_bytes c ≡ name_of c.before.before.before.before.before.before
-turned c = span-text (way_of c.before.before.before.before.before.before) c.args.doc.now 8 0 c.word-start.result c.word-size.result refl ∙ named c
+turned c = span-text (way_no c.args.way) c.args.doc.now 8 0 c.word-start.result c.word-size.result refl ∙ named c
 
 -- Where both forms are alike it is written as it stands.
-same : (c : tie.Then-stays) → let size = size_of (id-of c.before) in read same_bytes size ≡ name_of c.before.before.before.before.before.before.before.before.before.before.before.before.before
+same : (c : tie.Then-stays) → let size = c.before.before.before.before.before.before.before in read same_bytes size ≡ name_of size.before.before.before.before.before.before
 same c =
-    let alike = alike-rule (way_of c.before.before.before.before.before.before.before.before.before.before.before.before.before) c.stays.ensures c.if-stays.true in
-    text_same (way_of c.before.before.before.before.before.before.before.before.before.before.before.before.before) c.args.doc.now 8 0 c.word-start.result c.word-size.result alike (within c.before.before.before.before.before.before.before) refl ∙ named c.before.before.before.before.before.before.before
+    let alike = alike-rule (way_no c.args.way) c.stays.ensures c.if-stays.true in
+    let size = c.before.before.before.before.before.before.before in
+    text_same (way_no c.args.way) c.args.doc.now 8 0 c.word-start.result c.word-size.result alike (within size) refl ∙ named size
 
 -- The id and the name make what stands before the payload.
 joined : (c : tie.After-put_number) {o : List ℕ} {r : ℕ} →
     Puts (name_of c.before.before.before.before.before.before.before.before.before) c.put_number.new.d (c.args.at + 1) o r
-    → Puts (name_bytes (way_of c.before.before.before.before.before.before.before.before.before) c.args.doc.now c.args.list (head-of c.before.before.before.before.before.before.before.before.before)) c.args.out.now c.args.at o r
+    → Puts (name_bytes (way_no c.args.way) c.args.doc.now c.args.list (head_of c.args.table.now c.args.n)) c.args.out.now c.args.at o r
 joined c name =
     let h = head-of c.before.before.before.before.before.before.before.before.before in
     let at = c.args.at in
     let fits : at + length (bytes_of 1 h.kind) ≤ length c.args.out.now = omega (arith, room c.before.before.before.before.before, digits-length 1 h.kind) in
     let id = puts-number big 1 h.kind (at + 1) refl c.word.ensures c.put_number.ensures in
-    rw (name-entry (way_of c.before.before.before.before.before.before.before.before.before) c.args.doc.now h c.args.list c.if-list.false) (puts_then id fits name)
+    rw (name-entry (way_no c.args.way) c.args.doc.now h c.args.list c.if-list.false) (puts_then id fits name)
 
 returns : tie.Need-returns-then-list
-returns c = rw (name-element (way_of c.before.before.before.before) c.args.doc.now (head-of c.before.before.before.before) c.args.list c.if-list.true) (puts_none _ _)
+returns c = rw (name-element (way_no c.args.way) c.args.doc.now (head_of c.args.table.now c.args.n) c.args.list c.if-list.true) (puts_none _ _)
 
 put_number-requires : tie.Need-put_number-requires
 put_number-requires c κs =
@@ -108,7 +85,8 @@ add-put_same c =
 
 put_same-requires : tie.Need-put_same-requires
 put_same-requires c κs =
-    (within c.before.before.before.before.before.before.before.before, omega (arith, room c.before.before.before.before.before.before.before.before.before.before, ap length (same c.before), c.put_number.auto.d))
+    let fits = room c.before.before.before.before.before.before.before.before.before.before in
+    (within c.before.before.before.before.before.before.before.before, omega (arith, fits, ap length (same c.before), c.put_number.auto.d))
 
 returns-2 : tie.Need-returns-then-stays
 returns-2 c =

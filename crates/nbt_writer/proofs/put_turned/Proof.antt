@@ -7,7 +7,7 @@ use mathlib.Core.List.{List, ◌++◌}
 use mathlib.Core.Path.{◌≡◌, ap}
 use Prim.Native.Nat.{ℕ, ◌+◌, ◌≤◌}
 use lib.ListN.{length, length-append}
-use Rattle.form.specs.Form.{Way, way_no}
+use Rattle.form.specs.Form.{way_no}
 use Rattle.form.specs.Spans.{part}
 use Rattle.form.specs.Turned.{recoded}
 use Rattle.recode.specs.Steps.{numbers}
@@ -20,13 +20,9 @@ use Rattle.nbt_writer.proofs.Spans.{span-string, span-numbers}
 use Rattle.nbt_writer.proofs.put_turned.Statement.{statement}
 use Rattle.nbt_writer.proofs.put_turned.Tie as tie
 
--- The way.
-abbrev way_of : tie.Start → Way
-way_of s = way_no s.args.way
-
 -- What stands before a span of n bytes.
 abbrev length-of : tie.Start → ℕ → List ℕ
-length-of s n = length_bytes (way_of s) s.args.kind n s.args.count
+length-of s n = length_bytes (way_no s.args.way) s.args.kind n s.args.count
 
 -- The span as it stands.
 abbrev part_of : tie.Start → List ℕ
@@ -34,7 +30,7 @@ part_of s = part s.args.doc.now s.args.start s.args.size
 
 -- The bytes that are due.
 abbrev due : tie.Start → List ℕ
-due s = span_bytes (way_of s) s.args.doc.now s.args.kind s.args.count s.args.start s.args.size
+due s = span_bytes (way_no s.args.way) s.args.doc.now s.args.kind s.args.count s.args.start s.args.size
 
 -- There is room for the two parts of them.
 room : (s : tie.Start) (front rest : List ℕ) → due s ≡ front ++ rest → s.args.at + (length front + length rest) ≤ length s.args.out.now
@@ -44,7 +40,7 @@ room s front rest e = omega (arith, s.requires.2, ap length e, length-append fro
 
 -- The string as it is written.
 abbrev text_of : tie.Start → List ℕ
-text_of s = recoded (way_of s) (part_of s)
+text_of s = recoded (way_no s.args.way) (part_of s)
 
 -- Its length and the string are what is due.
 string-parted : (c : tie.After-length) → due c.before.before.before.before ≡ length-of c.before.before.before.before c.length.result ++ text_of c.before.before.before.before
@@ -66,13 +62,14 @@ put_string-requires c κs =
 
 returns : tie.Need-returns-then-kind-eq-STRING
 returns c =
-    rw (string-parted c.before.before.before.before.before.before.before.before) (puts_then c.put_length-first.ensures (omega (arith, string-room c.before.before.before.before.before.before.before.before)) c.put_string.ensures)
+    let sized = c.before.before.before.before.before.before.before.before in
+    rw (string-parted sized) (puts_then c.put_length-first.ensures (omega (arith, string-room sized)) c.put_string.ensures)
 
 -- ---- numbers
 
 -- The bytes of the numbers.
 abbrev numbers_of : tie.Start → List ℕ
-numbers_of s = numbers (way_of s) (element_width s.args.kind) (part_of s)
+numbers_of s = numbers (way_no s.args.way) (element_width s.args.kind) (part_of s)
 
 -- An array's count and the numbers are what is due.
 numbers-parted : (c : tie.Else-kind-eq-STRING) → due c.before.before.before ≡ length-of c.before.before.before c.args.size ++ numbers_of c.before.before.before
@@ -83,8 +80,8 @@ numbers-room : (c : tie.Else-kind-eq-STRING) → c.args.at + (length (length-of 
 numbers-room c = room c.before.before.before (length-of c.before.before.before c.args.size) (numbers_of c.before.before.before) (numbers-parted c)
 
 -- The numbers are of the width that the code has.
-same_numbers : (c : tie.After-element_width) → numbers (way_of c.before.before.before.before.before.before.before.before) c.element_width.result (part_of c.before.before.before.before.before.before.before.before) ≡ numbers_of c.before.before.before.before.before.before.before.before
-same_numbers c = ap (λ w. numbers (way_of c.before.before.before.before.before.before.before.before) w (part_of c.before.before.before.before.before.before.before.before)) c.element_width.ensures
+same_numbers : (c : tie.After-element_width) → let s = c.before.before.before.before.before.before.before.before in numbers (way_no c.args.way) c.element_width.result (part_of s) ≡ numbers_of s
+same_numbers c = ap (λ w. numbers (way_no c.args.way) w (part_of c.before.before.before.before.before.before.before.before)) c.element_width.ensures
 
 put_length-requires-2 : tie.Need-put_length-first-requires-2
 put_length-requires-2 c κs = omega (arith, numbers-room c.before)
@@ -102,7 +99,8 @@ put_numbers-requires c κs =
 returns-2 : tie.Need-returns
 returns-2 c =
     let payload = puts-same (same_numbers c.before.before.before.before) c.put_numbers.ensures in
-    rw (numbers-parted c.before.before.before.before.before.before.before.before.before) (puts_then c.put_length-first-2.ensures (omega (arith, numbers-room c.before.before.before.before.before.before.before.before.before)) payload)
+    let other = c.before.before.before.before.before.before.before.before.before in
+    rw (numbers-parted other) (puts_then c.put_length-first-2.ensures (omega (arith, numbers-room other)) payload)
 
 pub put_turned_spec : {M : Type 1} → statement M
 put_turned_spec =

@@ -69,7 +69,8 @@ module _ (t : ℕ) where
 
   pub put-all-requires : On t lts.Need-put_all-requires
   put-all-requires c κs =
-      (omega (arith, c.requires.0, (more c.before.before.before.before.before.before.before.before.before.before.before.before.before.before).0), list-some _ _ _ _ _ _ _ _ c.requires.1 c.put_name-from.ensures (is-list c.before.before.before.before.before) c.put_list-first.ensures)
+      let further = more c.before.before.before.before.before.before.before.before.before.before.before.before.before.before in
+      (omega (arith, c.requires.0, further.0), list-some _ _ _ _ _ _ _ _ c.requires.1 c.put_name-from.ensures (is-list c.before.before.before.before.before) c.put_list-first.ensures)
 
   pub returns : On t lts.Need-returns-in-9
   returns c =
@@ -90,7 +91,8 @@ module _ (t : ℕ) where
 
   pub put-all-requires-2 : On t lts.Need-put_all-last-requires
   put-all-requires-2 c κs =
-      (omega (arith, c.requires.0, (more c.before.before.before.before.before.before.before.before.before.before).0), compound-some _ _ _ _ _ _ _ _ c.requires.1 c.put_name-from.ensures (is-compound c.before))
+      let further = more c.before.before.before.before.before.before.before.before.before.before in
+      (omega (arith, c.requires.0, further.0), compound-some _ _ _ _ _ _ _ _ c.requires.1 c.put_name-from.ensures (is-compound c.before))
 
   pub put-number-requires : On t lts.Need-put_number-requires
   put-number-requires c κs =
