@@ -1,5 +1,7 @@
 // Rules 3 to 6: a document read into a table of records, field by field, in the order in which io.rs of the crate reads. Each contract
 // cites the definition in form/specs/Reading.antt that the function meets.
+#![tactic(auto)]
+
 mod bodies;
 mod settling;
 

@@ -8,7 +8,7 @@ use Rattle.nbt_reader.proofs.read.Tie as tie
 returns : tie.Need-returns-in-No
 returns c =
     let d = c.document in
-    refused _ _ c.args.table.now d.new.table.0 (rw c.in-No.is at d.ensures).0 d.auto.table.0
+    refused _ _ c.args.table.now d.new.table (rw c.in-No.is at d.ensures).0 d.auto.table
     c.clear.ensures
 
 returns-2 : tie.Need-returns-in-Next

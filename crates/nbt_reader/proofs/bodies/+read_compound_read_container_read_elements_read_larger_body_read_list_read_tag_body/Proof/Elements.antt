@@ -12,9 +12,9 @@ use Rattle.form.specs.Reading.{elements as elementsOf}
 use Rattle.form.specs.Table.{Forest, none}
 use Rattle.form.proofs.Runs.{Sofar, sofar-start, sofar-no, sofar-end, sofar-next, sofar-length, elements-none, elements-no, elements-next}
 use Rattle.nbt_reader.proofs.Steps.{stepped-no, stepped-next}
-use Rattle.nbt_reader.proofs.bodies.read_elements.Reads as read-elements
+use Rattle.nbt_reader.proofs.bodies.read_elements.Reads as read_elements
 use Rattle.nbt_reader.proofs.bodies.read_elements.Kinds as kinds
-use Rattle.nbt_reader.proofs.bodies.read_tag_body.Reads as read-tag-body
+use Rattle.nbt_reader.proofs.bodies.read_tag_body.Reads as read_tag_body
 use Rattle.nbt_reader.proofs.bodies.+read_compound_read_container_read_elements_read_larger_body_read_list_read_tag_body.Lts-read_elements as lts
 use Rattle.nbt_reader.proofs.bodies.+read_compound_read_container_read_elements_read_larger_body_read_list_read_tag_body.Proof.Common.{read_of, read_tag_body-below, read_elements-at}
 
@@ -33,7 +33,7 @@ abbrev pub μ-loop : lts.decreases-loop-left
 μ-loop doc kind count at depth table₀ cap above ix form here₀ next₀ left₀ table here next left = left
 
 abbrev On : ℕ → (lts.Claims → In 2 kinds.ps → Out 2 kinds.ps kinds.r → lts.invariant-loop-left → lts.decreases-loop-left → Type 0) → Type 0
-On t F = F (read_tag_body-below t, read-tag-body.Post) (read_elements-at t) read-elements.Post Inv-loop μ-loop
+On t F = F (read_tag_body-below t, read_tag_body.Post) (read_elements-at t) read_elements.Post Inv-loop μ-loop
 
 module _ (t : ℕ) where
   -- ---- places
@@ -45,10 +45,10 @@ module _ (t : ℕ) where
   turn-of c = c.before.before
 
   abbrev body-no : On t lts.In-No → On t lts.After-read_tag_body
-  body-no c = let at-match = c.before.before in at-match.before.before.before
+  body-no c = let at-match = c.before.before in at-match.before
 
   abbrev body-got : On t lts.In-Next → On t lts.After-read_tag_body
-  body-got c = let at-match = c.before.before in at-match.before.before.before
+  body-got c = let at-match = c.before.before in at-match.before
 
   -- ---- the loop's head
 
@@ -58,11 +58,11 @@ module _ (t : ℕ) where
       record { acc = none; sofar = sofar-start _ _ _ _ (omega arith); left_le = omega arith; on = omega arith; at_le = r.at_le; n_le = r.n_le }
 
   -- at the loop's head the table is as long as it was
-  same : (c : On t lts.At-loop-left) → length c.loop-left.table-1 ≡ length (start_of c).args.table-1.now
+  same : (c : On t lts.At-loop-left) → length c.loop-left.table ≡ length (start_of c).args.table.now
   same c = sofar-length c.loop-left.invariant.sofar (omega arith)
 
-  pub read-tag-body-requires : On t lts.Need-read_tag_body-requires
-  read-tag-body-requires c κs =
+  pub read_tag_body-requires : On t lts.Need-read_tag_body-requires
+  read_tag_body-requires c κs =
       let l = c.before.before in
       let p = (start_of l).requires.1 in
       let i = l.loop-left.invariant in (
@@ -85,30 +85,30 @@ module _ (t : ℕ) where
   pub same_length : On t lts.Need-shape_of-table-in-No
   same_length c =
       let n = body-no c in
-      n.read_tag_body.kept.1.1.1.1.1.1.0 ∙ same (turn-of n).before
+      n.read_tag_body.auto.table ∙ same (turn-of n).before
 
   pub returns : On t lts.Need-returns-in-No
   returns c =
       let n = body-no c in
       let turn = turn-of n in
       let l = turn.before in
-      let i = l.loop-left.inv in
-      let s = stepped-no n.read_tag_body.result _ _ _ _ _ _ _ c.before.in-No.is n.read_tag_body.ensures in (
-        sofar-no i.sofar (elements-no _ _ _ _ _ _ _ turn.loop-left-test.taken s.0),
-        kept_from _ _ _ _ _ _ i.acc i.sofar.table-1 i.sofar.n_is (omega (arith, i.n_le, (start_of l).pre.1.0.fits)) s.1,
+      let i = l.loop-left.invariant in
+      let s = stepped-no n.read_tag_body.result _ _ _ _ _ _ _ c.in-No.is n.read_tag_body.ensures in (
+        sofar-no i.sofar (elements-no _ _ _ _ _ _ _ turn.loop-left-test.true s.0),
+        kept_from _ _ _ _ _ _ i.acc i.sofar.table i.sofar.n_is (omega (arith, i.n_le, (start_of l).requires.1.0.fits)) s.1,
       )
 
   pub loop-again : On t lts.Need-loop-left-preserved
   loop-again c =
       let n = body-got c in
       let turn = turn-of n in
-      let i = turn.before.loop-left.inv in
-      let s = stepped-next n.read_tag_body.result c.before.in-Next.is n.read_tag_body.ensures in
+      let i = turn.before.loop-left.invariant in
+      let s = stepped-next n.read_tag_body.result c.in-Next.is n.read_tag_body.ensures in
       record {
         acc = _;
         sofar =
-            sofar-next i.sofar s.x (elements-next _ _ _ _ _ _ _ turn.loop-left-test.taken s.is s.at_is s.n_is)
-            s.table-1 s.n_is (omega (arith, i.left_le)) (omega (arith, i.n_le));
+            sofar-next i.sofar s.x (elements-next _ _ _ _ _ _ _ turn.loop-left-test.true s.is s.at_is s.n_is)
+            s.table s.n_is (omega (arith, i.left_le)) (omega (arith, i.n_le));
         left_le = omega (arith, i.left_le);
         on = omega (arith, i.on, s.on);
         at_le = s.at_le;
@@ -127,7 +127,7 @@ module _ (t : ℕ) where
         at_is = refl;
         n_is = i.sofar.n_is;
         count_is = omega (arith, i.sofar.done-is);
-        table = i.sofar.table-1;
+        table = i.sofar.table;
         on = i.on;
         at_le = i.at_le;
         n_le = i.n_le;
