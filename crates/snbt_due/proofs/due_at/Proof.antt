@@ -7,20 +7,20 @@ use Rattle.snbt_due.proofs.Reading.{due-ended, due-no}
 use Rattle.snbt_due.proofs.due_at.Statement.{statement}
 use Rattle.snbt_due.proofs.due_at.Tie as tie
 
-pub due-at-spec : {M : Type 1} → statement M
-due-at-spec =
+pub due_at_spec : {M : Type 1} → statement M
+due_at_spec =
     tie.close
     (tie.spec
     (λ c κs. search rules)
     (λ c. search rules)
     (λ c. search rules)
     (λ c. search rules)
-    (λ c. sym c.before.before.before.token-at.ensures ∙ ap lexed_out c.before.td.given.1)
+    (λ c. sym c.token_at.ensures ∙ ap lexed_out c.in-Found.is)
     (λ c.
     let at-token = c.before.before in
-    let a = at-token.before.before.args in
-    λ room. due-ended a.text.now room (stops_is a.set) a.place a.number a.end _ (sym at-token.token-at.ensures ∙ ap lexed_out c.enum_told.given.1))
+    let a = c.args in
+    λ room. due-ended a.text.now room (stops_is a.set) a.place a.number a.end _ (sym c.token_at.ensures ∙ ap lexed_out c.in-Ended.is))
     (λ c.
     let at-token = c.before.before.before in
-    let a = at-token.before.before.args in
-    λ room. due-no a.text.now room (stops_is a.set) a.place a.number a.end _ _ (sym at-token.token-at.ensures ∙ ap lexed_out c.before.n.given.1)))
+    let a = c.args in
+    λ room. due-no a.text.now room (stops_is a.set) a.place a.number a.end _ _ (sym c.token_at.ensures ∙ ap lexed_out c.in-Refused.is)))
