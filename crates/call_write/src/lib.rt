@@ -1,4 +1,6 @@
 // Writing under the promise of its C names: it fills eight words that the caller lends (include/tikfazrul.h).
+#![tactic(auto)]
+
 ghost use Rattle.calls.specs.Calls.{WriteCalled};
 ghost use Rattle.form.specs.Form.{form_no, way_from, stays};
 

@@ -5,22 +5,16 @@ use Rattle.call_write.proofs.Words.{write-accepted, write-refused}
 use Rattle.call_write.proofs.convert.Statement.{statement}
 use Rattle.call_write.proofs.convert.Tie as tie
 
-returns : tie.Need-returns
+returns : tie.Need-returns-in-Written
 returns c =
-    let at-answer = c.before.before in
-    let at_told = at-answer.before.before.before in
-    let at-write = at_told.before.before.before in
-    write-accepted _ _ _ _ _ _ at-answer.bytes.given.1 at-write.write.ensures
+    write-accepted _ _ _ _ _ _ c.in-Written.is c.write.ensures
 
-returns-2 : tie.Need-returns-2
+returns-2 : tie.Need-returns-in-Refused
 returns-2 c =
-    let at-answer = c.before.before in
-    let at_told = at-answer.before.before.before in
-    let at-write = at_told.before.before.before in
-    write-refused _ _ _ _ _ _ at-answer.refusal.given.1 at-write.write.ensures
+    write-refused _ _ _ _ _ _ c.in-Refused.is c.write.ensures
 
-pub convert-spec : {M : Type 1} → statement M
-convert-spec =
+pub convert_spec : {M : Type 1} → statement M
+convert_spec =
     tie.close
     (tie.spec
     (λ c κs. search rules)
