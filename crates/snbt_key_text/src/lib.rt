@@ -1,4 +1,6 @@
 // A key's content into a lent buffer (rule 15): a string token (19) of at most 65,535 bytes (12).
+#![tactic(auto)]
+
 ghost use Rattle.std.specs.Prelude.{ℕ, ◌≤◌, length};
 ghost use Rattle.snbt_form.specs.Text.{string_of, key_of};
 ghost use Rattle.snbt_tokens.specs.Answers.{data_is};
