@@ -1,11 +1,11 @@
 -- Laws of tokens and values that are due and of what follows: each way through a definition, one law a path.
 -- Assumes nothing.
-use Prim.Native.Nat.{ℕ, ◌-◌}
+use Prim.Native.Nat.{ℕ}
 use mathlib.Core.Path.{◌≡◌, refl}
 use mathlib.Core.List.{List}
 use borrow.Author.Tests.{eq-eqb, ne_eqb}
 use lib.ListN.{length}
-use Rattle.form.specs.Answer.{Out, got, no, ◌>>=◌, ◌>>◌, unexpected_token, text_ends}
+use Rattle.form.specs.Answer.{Out, got, no, ◌>>=◌, unexpected_token, text_ends}
 use Rattle.snbt_form.specs.Lexing.{Stops, default, TokenData, found, ended, token_at}
 use Rattle.snbt_form.specs.Text.{Next, goes_on, closes, Reads, sign_of, due, following}
 use Rattle.snbt_due.specs.Due.{value_from}

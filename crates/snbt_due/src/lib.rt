@@ -1,4 +1,6 @@
 // Tokens that are due in a text that was judged (rules 14 and 15): any token, and a comma or a closing brace, known by its character.
+#![tactic(auto)]
+
 ghost use Rattle.std.specs.Prelude.{◌≡◌, ◌⊎◌, ◌≤◌, length};
 ghost use Rattle.snbt_tokens.specs.Answers.{stops_is};
 ghost use Rattle.snbt_due.specs.Due.{DueIs, AfterIs};

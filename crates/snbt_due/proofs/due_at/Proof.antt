@@ -17,10 +17,8 @@ due_at_spec =
     (λ c. search rules)
     (λ c. sym c.token_at.ensures ∙ ap lexed_out c.in-Found.is)
     (λ c.
-    let at-token = c.before.before in
     let a = c.args in
     λ room. due-ended a.text.now room (stops_is a.set) a.place a.number a.end _ (sym c.token_at.ensures ∙ ap lexed_out c.in-Ended.is))
     (λ c.
-    let at-token = c.before.before.before in
     let a = c.args in
     λ room. due-no a.text.now room (stops_is a.set) a.place a.number a.end _ _ (sym c.token_at.ensures ∙ ap lexed_out c.in-Refused.is)))
