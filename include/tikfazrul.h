@@ -1,4 +1,4 @@
-/* Tikfazrul: NBT read, written and asked by a proved library. Link libnbt.a (`rt staticlib nbt`, or tools/native-staticlib nbt for the processor at hand).
+/* Tikfazrul: NBT read, written and asked by a proved library. Link libnbt.a (`rt lib` in crates/nbt, or tools/native-staticlib nbt for the processor at hand).
  *
  * Every function takes its slices as a pointer and a number of elements, and fills `answer`, eight words that the caller lends:
  *

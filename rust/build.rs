@@ -1,5 +1,5 @@
 //! Links the proved library, libnbt.a: from the folder that TIKFAZRUL_LIB names, else from the repository's target/native or
-//! target/staticlib.
+//! crates/nbt/out.
 use std::path::{Path, PathBuf};
 
 fn main() {
@@ -17,9 +17,9 @@ fn folder() -> PathBuf {
         return folder;
     }
     let here = std::env::var("CARGO_MANIFEST_DIR").expect("cargo sets CARGO_MANIFEST_DIR");
-    let target = Path::new(&here).join("../target");
-    ["native", "staticlib"]
-        .map(|name| target.join(name))
+    let top = Path::new(&here).join("..");
+    ["target/native", "crates/nbt/out"]
+        .map(|name| top.join(name))
         .into_iter()
         .find(|folder| folder.join("libnbt.a").is_file())
         .expect("libnbt.a is not built: run `tools/native-staticlib nbt` in the repository, or set TIKFAZRUL_LIB to its folder")
