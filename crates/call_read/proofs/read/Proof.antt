@@ -7,7 +7,10 @@ use Rattle.call_read.proofs.read.Tie as tie
 
 returns : tie.Need-returns
 returns c =
-    read-accepted _ _ _ _ c.consumed.given.1 c.read.ensures
+    let at-answer = c.before.before in
+    let at_told = at-answer.before.before in
+    let at_read = at_told.before.before in
+    read-accepted _ _ _ _ at-answer.consumed.given.1 at_read.read.ensures
 
 returns-2 : tie.Need-returns-2
 returns-2 c =

@@ -13,7 +13,7 @@ use Rattle.nbt_gather.proofs.gather.Statement.{statement}
 use Rattle.nbt_gather.proofs.gather.Tie as tie
 
 abbrev name_of : tie.After-start → tie.After-string-at
-name_of c = c.before
+name_of c = c.before.before
 
 abbrev start_of : tie.After-start → tie.Start
 start_of c = let at-lines = (name_of c).before.before in at-lines.before.before.before
@@ -27,13 +27,13 @@ is c = sym (name_of c).string-at.ensures ∙ ap part_out c.start.given.1
 
 -- the root's payload, where it is whole and where it is cut
 abbrev whole_of : tie.After-enum-told2 → tie.After-gather-larger-body
-whole_of c = let at-lines = c.before.before.before in at-lines.before.before
+whole_of c = let at-lines = c.before.before.before in at-lines.before.before.before
 
 abbrev cut_of : tie.After-known-told2 → tie.After-gather-larger-body
-cut_of c = let at-ix = c.before.before in let at-lines = at-ix.before.before in at-lines.before
+cut_of c = let at-ix = c.before.before in let at-lines = at-ix.before.before in at-lines.before.before.before
 
 abbrev root-of : tie.After-gather-larger-body → tie.After-start
-root-of c = let at_arg = c.before.before in at_arg.before
+root-of c = let at_arg = c.before.before in at_arg.before.before
 
 returns-2 : tie.Need-returns-2
 returns-2 c = ((_, _, sym c.before.before.string-at.ensures ∙ ap part_out c.enum_told.given.1), refl, refl)

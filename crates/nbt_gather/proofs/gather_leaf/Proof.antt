@@ -14,7 +14,7 @@ use Rattle.nbt_gather.proofs.gather_leaf.Statement.{statement}
 use Rattle.nbt_gather.proofs.gather_leaf.Tie as tie
 
 abbrev payload-of : tie.After-known-told → tie.After-leaf-at
-payload-of c = c.before
+payload-of c = c.before.before.before
 
 abbrev start_of : tie.After-known-told → tie.Start
 start_of c = let at-payload = payload-of c in at-payload.before.before.before

@@ -13,21 +13,21 @@ use Rattle.nbt_gather.proofs.held.Tie as tie
 
 -- the start, where the side is known
 abbrev whole-start : tie.After-side → tie.Start
-whole-start c = let at-lines = c.before in at-lines.before.before
+whole-start c = let at-lines = c.before.before in at-lines.before.before
 
 abbrev cut-start : tie.After-side2 → tie.Start
-cut-start c = let at-lines = c.before in at-lines.before.before
+cut-start c = let at-lines = c.before.before in at-lines.before.before
 
 -- the side, where the record of a cut container is written
 abbrev side-of : tie.After-put2 → tie.After-side2
-side-of c = let at_wide = c.before.before in let at_first = at_wide.before.before in at_first.before
+side-of c = let at_wide = c.before.before in let at_first = at_wide.before.before in at_first.before.before
 
 container-requires : tie.Need-container-requires
 container-requires c κs =
     let at_wide = c.before in
     let at_Side = at_wide.before.before.before in
-    let asked = asked-known c.side.given.1 (whole-start at_Side).requires in
-    omega (arith, asked, c.wide.ensures, c.wide2.ensures)
+    let asked = asked-known at_Side.side.given.1 (whole-start at_Side).requires in
+    omega (arith, asked, at_wide.wide.ensures, c.wide2.ensures)
 
 -- the kind that is written for the elements of a cut container
 first-is : (c : tie.Joined1) → c.if1.first ≡ pick (eqb c.before.before.side2.given.0.1.0 0) 0 (cut-start c.before.before).args.inner
