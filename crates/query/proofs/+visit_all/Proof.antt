@@ -42,10 +42,10 @@ at t = and 5 kinds.ps (is 5 kinds.ps μ t) visit-all.Pre
 abbrev below : ℕ → In 5 kinds.ps
 below t = and 5 kinds.ps (falls 5 kinds.ps ◌<◌ μ t) visit-all.Pre
 
-abbrev invariant-loop : lts.invariant-loop
+abbrev invariant-loop : lts.invariant-loop-i
 invariant-loop doc table q plan n set list₀ count end more₀ i₀ index₀ list more i index = Going doc table q plan n set list₀ count list more i index
 
-abbrev decreases-loop : lts.decreases-loop
+abbrev decreases-loop : lts.decreases-loop-i
 decreases-loop doc table q plan n set list₀ count end more₀ i₀ index₀ list more i index = end - i
 
 -- What the calls ask and give.
@@ -63,98 +63,98 @@ claims t = (
   visit-all.Post,
 )
 
-abbrev On : ℕ → (lts.Claims → In 5 kinds.ps → Out 5 kinds.ps kinds.r → lts.invariant-loop → lts.decreases-loop → Type 0) → Type 0
+abbrev On : ℕ → (lts.Claims → In 5 kinds.ps → Out 5 kinds.ps kinds.r → lts.invariant-loop-i → lts.decreases-loop-i → Type 0) → Type 0
 On t F = F (claims t) (at t) visit-all.Post invariant-loop decreases-loop
 
 module _ (t : ℕ) where
   -- The places: where the function begins, where a turn of the loop does, and where the record's match is noted.
-  abbrev known_start : On t lts.After-slice-known → On t lts.Start
+  abbrev known_start : On t lts.After-slice_known-1 → On t lts.Start
   known_start c = let at-slices = c.before in at-slices.before.before.before
 
-  abbrev loop-start : On t lts.At-loop → On t lts.Start
+  abbrev loop-start : On t lts.At-loop-i → On t lts.Start
   loop-start c = known_start c.before.before
 
-  abbrev noted-turn : On t lts.After-note → On t lts.In-loop
+  abbrev noted-turn : On t lts.After-note-more → On t lts.In-loop-i
   noted-turn c = c.before.before.before
 
-  abbrev ended-note : On t lts.After-word2 → On t lts.After-note
+  abbrev ended-note : On t lts.After-word-next → On t lts.After-note-more
   ended-note c = c.before.before.before
 
   -- A record is left.
-  left : (c : On t lts.In-loop) → c.before.loop.i < word (loop-start c.before).args.table.now (loop-start c.before).args.n 7
+  left : (c : On t lts.In-loop-i) → c.before.loop-i.i < word (loop-start c.before).args.table.now (loop-start c.before).args.n 7
   left c =
-      let end = c.before.before.word.ensures in
-      let below = c.loop-test.true in
+      let end = c.before.before.word-end.ensures in
+      let below = c.loop-i-test.true in
       omega arith
 
-  word-requires : On t lts.Need-word-requires
+  word-requires : On t lts.Need-word-end-requires
   word-requires c κs = ((known_start c).requires.1.own.row, omega arith)
 
-  add-i : On t lts.Need-overflow-add-i
+  add-i : On t lts.Need-overflow_add-i
   add-i c =
-      let w = (known_start c.before).pre.1 in
+      let w = (known_start c.before).requires.1 in
       let row = w.own.row in
       let few = w.few in
       omega arith
 
-  loop-holds : On t lts.Need-loop-init
-  loop-holds c = going_start (known_start c.before).pre.1
+  loop-holds : On t lts.Need-loop-i-init
+  loop-holds c = going_start (known_start c.before).requires.1
 
-  next-requires : On t lts.Need-next-requires
+  next-requires : On t lts.Need-next-own-requires
   next-requires c κs =
       let at-loop = c.before in
       let w = (loop-start at-loop).requires.1 in
-      ((w.total, w.path, w.reaches), w.own, going-own w at-loop.loop.invariant (left c))
+      ((w.total, w.path, w.reaches), w.own, going-own w at-loop.loop-i.invariant (left c))
 
-  note-requires : On t lts.Need-note-requires
+  note-requires : On t lts.Need-note-more-requires
   note-requires c κs =
       let turn = c.before.before in
       let at-loop = turn.before in
-      going-few (loop-start at-loop).requires.1 at-loop.loop.invariant (left turn)
+      going-few (loop-start at-loop).requires.1 at-loop.loop-i.invariant (left turn)
 
-  word-requires-2 : On t lts.Need-word-requires-2
+  word-requires-2 : On t lts.Need-word-next-requires
   word-requires-2 c κs =
       let turn = noted-turn c.before.before in
       let at-loop = turn.before in
-      ((going-own (loop-start at-loop).pre.1 at-loop.loop.inv (left turn)).row, omega arith)
+      ((going-own (loop-start at-loop).requires.1 at-loop.loop-i.invariant (left turn)).row, omega arith)
 
-  goes-in-requires : On t lts.Need-goes-in-requires
+  goes-in-requires : On t lts.Need-goes_in-requires
   goes-in-requires c κs =
       let turn = noted-turn (ended-note c) in
       let at-loop = turn.before in
-      (going-few (loop-start at-loop).pre.1 at-loop.loop.inv (left turn)).1
+      (going-few (loop-start at-loop).requires.1 at-loop.loop-i.invariant (left turn)).1
 
-  visit-all-requires : On t lts.Need-visit-all-requires
+  visit-all-requires : On t lts.Need-visit_all-more-requires
   visit-all-requires c κs =
       let at-goes-in = c.before.before in
       let at-note = ended-note at-goes-in.before in
       let turn = noted-turn at-note in
       let at-loop = turn.before in
       let at-start = loop-start at-loop in
-      let w = at-start.pre.1 in
-      let same = at-start.pre.0 in
-      let less = going_less w at-loop.loop.inv (left turn) in
-      (omega arith, going-ready w at-loop.loop.inv (left turn) at-note.before.before.next.ensures at-note.note.ensures)
+      let w = at-start.requires.1 in
+      let same = at-start.requires.0 in
+      let less = going_less w at-loop.loop-i.invariant (left turn) in
+      (omega arith, going-ready w at-loop.loop-i.invariant (left turn) at-note.before.before.next-own.ensures at-note.note-more.ensures)
 
-  add-index : On t lts.Need-overflow-add-index
+  add-index : On t lts.Need-overflow_add-index
   add-index c =
       let at-word2 = c.before.before in
       let turn = noted-turn (ended-note at-word2) in
       let at-loop = turn.before in
-      let few = going-index (loop-start at-loop).pre.1 at-loop.loop.inv (left turn) in
+      let few = going-index (loop-start at-loop).requires.1 at-loop.loop-i.invariant (left turn) in
       omega arith
 
-  loop-less : On t lts.Need-loop-smaller
+  loop-less : On t lts.Need-loop-i-smaller
   loop-less c =
       let at-word2 = c.before.before in
       let turn = noted-turn (ended-note at-word2) in
       let at-loop = turn.before in
-      let on = going_on (loop-start at-loop).pre.1 at-loop.loop.inv (left turn) in
-      let past = at-word2.word2.ensures in
-      let below = turn.loop-test.taken in
+      let on = going_on (loop-start at-loop).requires.1 at-loop.loop-i.invariant (left turn) in
+      let past = at-word2.word-next.ensures in
+      let below = turn.loop-i-test.true in
       omega arith
 
-  loop-again : On t lts.Need-loop-preserved
+  loop-again : On t lts.Need-loop-i-preserved
   loop-again c =
       let at-goes-in = c.before in
       let at-word2 = at-goes-in.before in
@@ -162,27 +162,27 @@ module _ (t : ℕ) where
       let at_next = at-note.before.before in
       let turn = noted-turn at-note in
       let at-loop = turn.before in
-      let w = (loop-start at-loop).pre.1 in
-      let s = at-loop.loop.inv in
-      rw at-word2.word2.ensures
-      (going_next w s (left turn) at_next.next.ensures at-note.note.ensures
+      let w = (loop-start at-loop).requires.1 in
+      let s = at-loop.loop-i.invariant in
+      rw at-word2.word-next.ensures
+      (going_next w s (left turn) at_next.next-own.ensures at-note.note-more.ensures
       (⊎_elim
       (λ went. done-as went.2.ensures went.5 went.6)
-      (λ over. done-as (going-over w s (left turn) at_next.next.ensures at-note.note.ensures at-word2.word2.ensures at-goes-in.goes_in.ensures over.0.left) over.1 over.2)
-      c.if1.branch))
+      (λ over. done-as (going-over w s (left turn) at_next.next-own.ensures at-note.note-more.ensures at-word2.word-next.ensures at-goes-in.goes_in.ensures over.0.left) over.1 over.2)
+      c.if-goes_in.branch))
 
-  same_length : On t lts.Need-same-length
-  same_length c = c.before.loop.invariant.long
+  same_length : On t lts.Need-shape_of-list
+  same_length c = c.before.loop-i.invariant.long
 
   returns : On t lts.Need-returns
   returns c =
       let at-loop = c.before in
-      let end = at-loop.before.word.ensures in
-      let past = c.loop-test.false in
-      going_end (loop-start at-loop).requires.1 at-loop.loop.invariant (omega arith)
+      let end = at-loop.before.word-end.ensures in
+      let past = c.loop-i-test.false in
+      going_end (loop-start at-loop).requires.1 at-loop.loop-i.invariant (omega arith)
 
-pub +visit-all-spec : {M : Type 1} → statement M
-+visit-all-spec =
+pub +visit_all_spec : {M : Type 1} → statement M
++visit_all_spec =
     close μ
     (λ t. lts.spec (claims t) (at t) visit-all.Post invariant-loop decreases-loop
     (word-requires t)

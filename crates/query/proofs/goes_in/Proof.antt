@@ -5,16 +5,16 @@ use Rattle.query.proofs.Walking.{goes-by-set, goes_none}
 use Rattle.query.proofs.goes_in.Statement.{statement}
 use Rattle.query.proofs.goes_in.Tie as tie
 
-returns : tie.Need-returns
+returns : tie.Need-returns-then-n-end
 returns c =
     let at-then = c.before in
     let at-start = at-then.before in
-    goes-by-set at-start.args.set _ _ at-then.if1.true c.goes_on.ensures
+    goes-by-set at-start.args.set _ _ at-then.if-n-end.true c.goes_on.ensures
 
-returns-2 : tie.Need-returns-2
+returns-2 : tie.Need-returns
 returns-2 c =
     let at-start = c.before in
-    goes_none at-start.args.set _ _ c.if1.false
+    goes_none at-start.args.set _ _ c.if-n-end.false
 
-pub goes-in-spec : {M : Type 1} → statement M
-goes-in-spec = tie.close (tie.spec (λ c. search rules) (λ c κs. search rules) returns returns-2)
+pub goes_in_spec : {M : Type 1} → statement M
+goes_in_spec = tie.close (tie.spec (λ c. search rules) (λ c κs. search rules) returns returns-2)

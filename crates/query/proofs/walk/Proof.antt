@@ -13,15 +13,15 @@ laid-start c =
     let at-slices = c.before.before.before in
     at-slices.before.before.before
 
-abbrev noted-lay : tie.After-note → tie.After-lay
+abbrev noted-lay : tie.After-note-more → tie.After-lay
 noted-lay c =
     let at_set = c.before.before in
     at_set.before.before
 
-abbrev ended-note : tie.After-word → tie.After-note
+abbrev ended-note : tie.After-word → tie.After-note-more
 ended-note c = c.before.before.before
 
-start-requires : tie.Need-start-requires
+start-requires : tie.Need-start-set-requires
 start-requires c κs =
     let at-lay = c.before in
     (_, laid_in_lem at-lay.lay.ensures _ (laid-start at-lay).requires.2)
@@ -29,20 +29,20 @@ start-requires c κs =
 word-requires : tie.Need-word-requires
 word-requires c κs =
     let at-start = laid-start (noted-lay c.before.before) in
-    ((root-own at-start.args.doc.now _ at-start.pre.0.0).row, omega arith)
+    ((root-own at-start.args.doc.now _ at-start.requires.0.0).row, omega arith)
 
-visit-all-requires : tie.Need-visit-all-requires
-visit-all-requires c κs =
+visit_all-requires : tie.Need-visit_all-requires
+visit_all-requires c κs =
     let at-goes-in = c.before.before.before in
     let at-note = ended-note at-goes-in.before in
     let at_set = at-note.before.before in
     let at-lay = noted-lay at-note in
     let at-start = laid-start at-lay in
-    let pre = at-start.pre in
-    let reaches = at_set.start.ensures _ (laid_in_lem at-lay.lay.ensures at-start.args.q.now pre.2) in
-    root-ready _ _ pre.0.0 _ reaches at-note.note.ensures pre.0.1 pre.1
+    let pre = at-start.requires in
+    let reaches = at_set.start-set.ensures _ (laid_in_lem at-lay.lay.ensures at-start.args.q.now pre.2) in
+    root-ready _ _ pre.0.0 _ reaches at-note.note-more.ensures pre.0.1 pre.1
 
-returns : tie.Need-returns
+returns : tie.Need-returns-then-goes_in
 returns c =
     let at-visit-all = c.before.before in
     let at-then = at-visit-all.before.before.before in
@@ -52,10 +52,10 @@ returns c =
     let at-lay = noted-lay at-note in
     let at-start = laid-start at-lay in
     let laid = at-lay.lay.ensures in
-    let reaches = at_set.start.ensures _ (laid_in_lem laid at-start.args.q.now at-start.pre.2) in
-    λ form i. root-done form _ _ i _ laid reaches at-note.note.ensures at-visit-all.visit-all.ensures
+    let reaches = at_set.start-set.ensures _ (laid_in_lem laid at-start.args.q.now at-start.requires.2) in
+    λ form i. root-done form _ _ i _ laid reaches at-note.note-more.ensures at-visit-all.visit_all.ensures
 
-returns-2 : tie.Need-returns-2
+returns-2 : tie.Need-returns
 returns-2 c =
     let at-goes-in = c.before in
     let at-word = at-goes-in.before in
@@ -64,11 +64,11 @@ returns-2 c =
     let at-lay = noted-lay at-note in
     let at-start = laid-start at-lay in
     let laid = at-lay.lay.ensures in
-    let reaches = at_set.start.ensures _ (laid_in_lem laid at-start.args.q.now at-start.pre.2) in
-    λ form i. root-alone form at-start.args.doc.now _ i _ laid reaches at-note.note.ensures at-word.word.ensures at-goes-in.goes_in.ensures c.if1.false
+    let reaches = at_set.start-set.ensures _ (laid_in_lem laid at-start.args.q.now at-start.requires.2) in
+    λ form i. root-alone form at-start.args.doc.now _ i _ laid reaches at-note.note-more.ensures at-word.word.ensures at-goes-in.goes_in.ensures c.if-goes_in.false
 
-pub walk-spec : {M : Type 1} → statement M
-walk-spec =
+pub walk_spec : {M : Type 1} → statement M
+walk_spec =
     tie.close
     (tie.spec
     (λ c κs. search rules)
@@ -76,7 +76,7 @@ walk-spec =
     (λ c κs. search rules)
     word-requires
     (λ c κs. search rules)
-    visit-all-requires
+    visit_all-requires
     (λ c. search rules)
     returns
     (λ c. search rules)
