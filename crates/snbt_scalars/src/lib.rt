@@ -1,4 +1,6 @@
 // Strings and numbers of a text as the bytes of a document (rules 13 and 15): a value goes to a place of the output.
+#![tactic(auto)]
+
 ghost use Rattle.std.specs.Prelude.{◌≡◌, Bool, ◌≤◌, ◌<◌, length};
 ghost use Rattle.form.specs.Numbers.{bytes_of};
 ghost use Rattle.form.specs.Tree.{Tag, kind_of};

@@ -87,9 +87,9 @@ returns-3 c =
     let put = (put_of last.before).put_number in
     let r = last.put_content-used in
     let o = r.new.out in
-    string-did a.text.now a.quoted a.start a.end t.want t.index.0 t.next t.at a.out.now m asked.before.if-size-gt-STRING.false
-    told.in-Yes.is asked.admits.ensures put.last.0 o r.result put.ensures
-    (subst (λ x. PutIs x put.last.0 (t.at + 2) r.result o) m.is r.ensures)
+    string-did a.text.now a.quoted a.start a.end t.want t.index.0 t.next t.at a.out.now m c.if-size-gt-STRING.false
+    told.in-Yes.is asked.admits.ensures put.new.d o r.result put.ensures
+    (subst (λ x. PutIs x put.new.d (t.at + 2) r.result o) m.is r.ensures)
 
 -- Its kind or its room refuses it.
 returns-4 : tie.Need-returns-in-No

@@ -50,7 +50,7 @@ returns c quoted =
     let own = own-long a.text.now a.start a.end s.requires.0 s.requires.1 s.requires.2 quoted in
     let put = (length-of span.before).put_number in
     string-did a.text.now quoted a.start a.end t.want t.index.0 t.next t.at a.out.now own (omega (arith, s.requires.2.short))
-    told.in-Yes.is asked.admits.ensures put.new.d span.copy.new.d _ put.ensures
+    told.in-Yes.is asked.admits.ensures put.new.d span.copy.new.out _ put.ensures
     (omega (arith, own.size), span.copy.ensures)
 
 returns-2 : tie.Need-returns-in-No

@@ -27,9 +27,9 @@ returns c tag k s =
     let a = b.args in
     let t = a.target in
     let e = range fine.before ∙ fine.if-in_range.true in
-    subst (λ res. Puts res a.out.now t.at put.put_bits.result put.put_bits.new.1.1.1.1.0)
-    (whole_in_lem a.width a.v (length a.out-1.now) t.want tag t.index-1.0 t.next t.at e)
-    (put.put_bits.ensures tag k (s ∙ whole-bytes a.width a.v _ bits.bits_of.result (held a.v b.good.0) b.pre.1 e bits.bits_of.ensures))
+    subst (λ res. Puts res a.out.now t.at put.put_bits.result put.put_bits.new.out)
+    (whole_in_lem a.width a.v (length a.out.now) t.want tag t.index.0 t.next t.at e)
+    (put.put_bits.ensures tag k (s ∙ whole-bytes a.width a.v _ bits.bits_of.result (held a.v b.well_formed.0) b.requires.1 e bits.bits_of.ensures))
 
 returns-2 : tie.Need-returns
 returns-2 c tag k s =
