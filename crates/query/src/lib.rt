@@ -1,5 +1,7 @@
 // Rule 9 and demand 3: the numbers of the tags of a table that match a query. One walk in file order hands down from each record to those in
 // it the set of the steps that may come next, and passes over a record in which nothing can match.
+#![tactic(auto)]
+
 ghost use Rattle.std.specs.Prelude.{◌≡◌, ℕ, ◌*◌, ◌≤◌, length};
 ghost use Rattle.form.specs.Answer.{got, record_limit, depth_limit, failed};
 ghost use Rattle.form.specs.Form.{Form, form_no};

@@ -1,7 +1,7 @@
 -- `query::first_deep` meets its contract. The invariant: the answer on the records left is the answer on all; the measure of the loop is how
 -- many records are left. Assumes nothing.
 use borrow.Author.Rules.{rules}
-use Prim.Native.Nat.{ℕ, ◌+◌, ◌-◌, ◌<◌}
+use Prim.Native.Nat.{ℕ, ◌-◌, ◌<◌}
 use mathlib.Core.Bool.{Bool}
 use mathlib.Core.Path.{◌≡◌, sym, ap, ◌∙◌}
 use native.Mathlib.Omega.{arith}
@@ -93,43 +93,35 @@ module _ (t : ℕ) where
       let past = c.word-next.ensures in
       (omega arith, ((at_turn.loop-i.invariant.d, rw past f.inner), omega arith))
 
+  -- The turn, from behind the call of itself.
+  abbrev call-turn : On t lts.After-first_deep → On t lts.In-loop-i
+  call-turn c = turn c.before.before.before
+
   enum-known-n : On t lts.Need-enum_known-n
-  enum-known-n c = c.match.keys1
+  enum-known-n c = c.in-TooDeep-1.keys1
 
   returns-2 : On t lts.Need-returns-in-TooDeep
   returns-2 c =
-      let at_n = c.before in
-      let at_call = at_n.before.before in
-      let at_test = at_call.before.before.before in
-      let at-word = at_test.before.before in
-      let at_turn = at-word.before in
-      let l = at_turn.loop-i.invariant in
-      let f = here at_turn in
+      let l = c.loop-i.invariant in
+      let f = here (call-turn c.before) in
       let past = c.word-next.ensures in
       let some = c.if-left-eq0.false in
       let inside = c.first_deep.ensures l.d (rw past f.inner) in
       λ d g. sym (l.goes d g ∙ deep-inside _ _ _ _ _ l.here f (omega arith) c.first_deep.result _ inside c.in-TooDeep.is)
 
   enum_told : On t lts.Need-enum_told-1
-  enum_told c = c.match.keys2
+  enum_told c = c.in-Fine-1.keys2
 
   loop-less : On t lts.Need-loop-i-smaller-in-Fine
   loop-less c =
-      let at_call = c.before.before in
-      let at_test = at_call.before.before.before in
-      let at-word = at_test.before.before in
-      let on = (here at-word).on in
+      let on = (here (call-turn c.before)).on in
       let past = c.word-next.ensures in
       omega arith
 
   loop-again : On t lts.Need-loop-i-preserved-in-Fine
   loop-again c =
-      let at_call = c.before.before in
-      let at_test = at_call.before.before.before in
-      let at-word = at_test.before.before in
-      let at_turn = at-word in
-      let l = at_turn.loop-i.invariant in
-      let f = here at_turn in
+      let l = c.loop-i.invariant in
+      let f = here (call-turn c.before) in
       let past = c.word-next.ensures in
       let some = c.if-left-eq0.false in
       let inside = c.first_deep.ensures l.d (rw past f.inner) in

@@ -2,7 +2,6 @@
 -- measure of the loop is how many records are left, and that of the recursion how many levels the records in record n have, which is at
 -- most the depth limit. Assumes nothing.
 use Prim.Native.Nat.{ℕ, ◌-◌, ◌<◌}
-use mathlib.Core.Logic.{⊎_elim}
 use native.Mathlib.Omega.{arith}
 use borrow.Fn.Kinds.{In, Out}
 use borrow.Fn.PlainCycle.{Measures, is, falls, and}
@@ -25,6 +24,7 @@ use Rattle.query.proofs.Walking.{
 use Rattle.query.proofs.visit_all.Reads as visit-all
 use Rattle.query.proofs.visit_all.Kinds as kinds
 use Rattle.query.proofs.+visit_all.Lts-visit_all as lts
+use Rattle.query.proofs.+visit_all.Lts-visit_all.{then-goes_in, else-goes_in}
 use Rattle.query.proofs.goes_in.Reads as goes-in-reads
 use Rattle.query.proofs.note.Reads as note-reads
 use Rattle.query_reach.proofs.next.Reads as next-reads
@@ -166,10 +166,11 @@ module _ (t : ℕ) where
       let s = at-loop.loop-i.invariant in
       rw at-word2.word-next.ensures
       (going_next w s (left turn) at_next.next-own.ensures at-note.note-more.ensures
-      (⊎_elim
-      (λ went. done-as went.2.ensures went.5 went.6)
-      (λ over. done-as (going-over w s (left turn) at_next.next-own.ensures at-note.note-more.ensures at-word2.word-next.ensures at-goes-in.goes_in.ensures over.0.left) over.1 over.2)
-      c.if-goes_in.branch))
+      (elim c.if-goes_in.branch [
+        | then-goes_in r ↦ done-as r.visit_all-more.ensures r.list-is r.more-is
+        | else-goes_in r ↦
+            done-as (going-over w s (left turn) at_next.next-own.ensures at-note.note-more.ensures at-word2.word-next.ensures at-goes-in.goes_in.ensures r.if-goes_in.false) r.list-is r.more-is
+      ]))
 
   same_length : On t lts.Need-shape_of-list
   same_length c = c.before.loop-i.invariant.long

@@ -2,7 +2,6 @@
 -- Assumes nothing.
 use borrow.Author.Rules.{rules}
 use mathlib.Core.Path.{◌≡◌}
-use mathlib.Core.Logic.{⊎_elim}
 use mathlib.Core.Bool.{true}
 use native.Mathlib.Omega.{arith}
 use lib.ListN.{length}
@@ -14,6 +13,7 @@ use Rattle.form.specs.Tables.{IsTable}
 use Rattle.form.specs.Query.{shallow}
 use Rattle.query.proofs.Finds.{table-side, table-fine, finds-deep, finds-bad, finds-short, room-counted, room-each, finds-full}
 use Rattle.query.proofs.ask.Statement.{statement}
+use Rattle.query.proofs.ask.Lts.{then-list-table+else-list-count, else-list-table}
 use Rattle.query.proofs.ask.Tie as tie
 
 -- The places: where the function begins, and where the query is taken apart.
@@ -90,7 +90,10 @@ returns-4 c =
     let args = (taken_start at-taken).args in
     let taken = at-taken.take_apart-taken in
     λ i. finds-full (form_no args.form) args.doc.now args.q.now args.table.now i (fine at-taken i) taken.result taken.ensures (ok at_Ok) _
-    (⊎_elim (λ few. room-counted (few.2.ensures (form_no args.form) i) few.4.left) (λ each. room-each (form_no args.form) args.doc.now _ i _ each.left) at_joined.if-list-table.branch)
+    (elim at_joined.if-list-table.branch [
+      | then-list-table+else-list-count w ↦ room-counted (w.walk-count.ensures (form_no args.form) i) w.if-list-count.false
+      | else-list-table w ↦ room-each (form_no args.form) args.doc.now _ i _ w.if-list-table.false
+    ])
     (at-walk2.walk.ensures _ i)
 
 pub ask_spec : {M : Type 1} → statement M

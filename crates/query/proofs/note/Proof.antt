@@ -2,27 +2,18 @@
 -- Assumes nothing.
 use borrow.Author.Rules.{rules}
 use mathlib.Core.Path.{sym, ◌∙◌}
-use borrow.Author.Tests.{not-true, not-false}
 use Rattle.query.proofs.Walking.{walks-none, walks-put, walks-full}
 use Rattle.query.proofs.note.Statement.{statement}
 use Rattle.query.proofs.note.Tie as tie
 
 returns : tie.Need-returns-then-not-has
-returns c =
-    let at_has = c.before in
-    rw (sym at_has.has.ensures ∙ not-true at_has.has.result c.if-not-has.true) (walks-none _ _)
+returns c = rw (sym c.has.ensures ∙ c.if-not-has.true) (walks-none _ _)
 
 returns-2 : tie.Need-returns-then-count-list
-returns-2 c =
-    let at-else1 = c.before in
-    let at_has = at-else1.before in
-    rw (sym at_has.has.ensures ∙ not-false at_has.has.result at-else1.if-not-has.false) (walks-put _ _ _ c.if-count-list.true)
+returns-2 c = rw (sym c.has.ensures ∙ c.if-not-has.false) (walks-put _ _ _ c.if-count-list.true)
 
 returns-3 : tie.Need-returns
-returns-3 c =
-    let at-else1 = c.before in
-    let at_has = at-else1.before in
-    rw (sym at_has.has.ensures ∙ not-false at_has.has.result at-else1.if-not-has.false) (walks-full _ _ _ c.if-count-list.false)
+returns-3 c = rw (sym c.has.ensures ∙ c.if-not-has.false) (walks-full _ _ _ c.if-count-list.false)
 
 pub note_spec : {M : Type 1} → statement M
 note_spec =
