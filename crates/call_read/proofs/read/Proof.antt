@@ -5,19 +5,13 @@ use Rattle.call_read.proofs.Words.{read-accepted, read-refused}
 use Rattle.call_read.proofs.read.Statement.{statement}
 use Rattle.call_read.proofs.read.Tie as tie
 
-returns : tie.Need-returns
+returns : tie.Need-returns-in-Accepted
 returns c =
-    let at-answer = c.before.before in
-    let at_told = at-answer.before.before in
-    let at_read = at_told.before.before in
-    read-accepted _ _ _ _ at-answer.consumed.given.1 at_read.read.ensures
+    read-accepted _ _ _ _ c.in-Accepted.is c.read.ensures
 
-returns-2 : tie.Need-returns-2
+returns-2 : tie.Need-returns-in-Refused
 returns-2 c =
-    let at-answer = c.before.before in
-    let at_told = at-answer.before.before in
-    let at_read = at_told.before.before in
-    read-refused _ _ _ _ at-answer.number.given.1 at_read.read.ensures
+    read-refused _ _ _ _ c.in-Refused.is c.read.ensures
 
 pub read_spec : {M : Type 1} → statement M
 read_spec =
