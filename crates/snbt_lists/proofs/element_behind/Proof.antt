@@ -12,8 +12,8 @@ use Rattle.snbt_lists.proofs.element_behind.Tie as tie
 abbrev start_of : tie.After-following → tie.Start
 start_of c = c.before.before
 
-pub element-behind-spec : {M : Type 1} → statement M
-element-behind-spec =
+pub element_behind_spec : {M : Type 1} → statement M
+element_behind_spec =
     tie.close
     (tie.spec
     (λ c κs. (omega arith, inl refl))
@@ -21,14 +21,14 @@ element-behind-spec =
     (λ c. search rules)
     (λ c. search rules)
     (λ c.
-    let at = c.before.before.before in
+    let at = c.before in
     let a = (start_of at).args in
-    element-next a.text.now a.place _ _ (rw c.before.next.given.1 at at.following.ensures))
+    element-next a.text.now a.place _ _ (rw c.in-Comma.is at at.following.ensures))
     (λ c.
-    let at = c.before.before.before in
+    let at = c.before in
     let a = (start_of at).args in
-    element-end a.text.now a.place _ _ (rw c.before.next2.given.1 at at.following.ensures))
+    element-end a.text.now a.place _ _ (rw c.in-Close.is at at.following.ensures))
     (λ c.
-    let at = c.before.before.before in
+    let at = c.before in
     let a = (start_of at).args in
-    element-no a.text.now a.place _ _ (rw c.before.number.given.1 at at.following.ensures)))
+    element-no a.text.now a.place _ _ (rw c.in-No.is at at.following.ensures)))

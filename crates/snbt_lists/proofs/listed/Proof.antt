@@ -9,8 +9,8 @@ use Rattle.snbt_lists.proofs.Squares.{no-close, list-empty, list-first}
 use Rattle.snbt_lists.proofs.listed.Statement.{statement}
 use Rattle.snbt_lists.proofs.listed.Tie as tie
 
-pub listed-spec : {M : Type 1} → statement M
-listed-spec =
+pub listed_spec : {M : Type 1} → statement M
+listed_spec =
     tie.close
     (tie.spec
     (λ c κs. search rules)
@@ -18,19 +18,19 @@ listed-spec =
     (λ c. search rules)
     (λ c. search rules)
     (λ c.
-    let at = c.before.before.before in
-    let a = at.before.args in
-    λ t val. (rw c.before.number.given.1 at at.list-admitted.ensures) t val a.brace.0 (found (data_is a.td) a.next))
+    let at = c.before.before in
+    let a = c.args in
+    λ t val. (rw c.in-No.is at c.list_admitted.ensures) t val a.brace.0 (found (data_is a.td) a.next))
     (λ c.
     let told = c.before.before in
-    let at = told.before.before in
-    let a = at.before.args in
-    let yes = rw told.enum_told.given.1 at at.list-admitted.ensures in
-    list-empty a.left a.room a.at a.brace.0 yes (data_is a.td) a.next (ap (λ k. sign_of (token_is k)) c.enum-told2.given.1))
+    let at = told.before in
+    let a = c.args in
+    let yes = rw c.in-Yes.is at c.list_admitted.ensures in
+    list-empty a.left a.room a.at a.brace.0 yes (data_is a.td) a.next (ap (λ k. sign_of (token_is k)) c.in-ClosedSquare.is))
     (λ c.
     let told = c.before in
     let at = told.before.before in
-    let a = at.before.args in
-    let yes = rw told.enum_told.given.1 at at.list-admitted.ensures in
+    let a = c.args in
+    let yes = rw c.in-Yes.is at c.list_admitted.ensures in
     list-first a.left a.room a.at a.brace.0 yes (data_is a.td) a.next
     (no-close a.td.token c.match2.keys2)))

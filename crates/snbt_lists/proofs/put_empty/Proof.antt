@@ -8,11 +8,11 @@ use Rattle.snbt_lists.proofs.put_empty.Statement.{statement}
 use Rattle.snbt_lists.proofs.put_empty.Tie as tie
 
 -- the beginning
-abbrev start_of : tie.After-put-head → tie.Start
+abbrev start_of : tie.After-put_head → tie.Start
 start_of c = c.before.before.before
 
-pub put-empty-spec : {M : Type 1} → statement M
-put-empty-spec =
+pub put_empty_spec : {M : Type 1} → statement M
+put_empty_spec =
     tie.close
     (tie.spec
     (λ c κs. search rules)
@@ -21,4 +21,4 @@ put-empty-spec =
     (λ c.
     let put = c.before.before in
     let a = (start_of put).args in
-    (empty-did a.out.now _ a.at a.next (omega arith) put.put-head.ensures, refl)))
+    (empty-did a.out.now _ a.at a.next (omega arith) put.put_head.ensures, refl)))

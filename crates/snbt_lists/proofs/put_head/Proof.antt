@@ -9,11 +9,11 @@ use Rattle.snbt_lists.proofs.put_head.Statement.{statement}
 use Rattle.snbt_lists.proofs.put_head.Tie as tie
 
 -- the beginning
-abbrev start_of : tie.After-put-number → tie.Start
+abbrev start_of : tie.After-put_number → tie.Start
 start_of c = c.before.before.before
 
-pub put-head-spec : {M : Type 1} → statement M
-put-head-spec =
+pub put_head_spec : {M : Type 1} → statement M
+put_head_spec =
     tie.close
     (tie.spec
     (λ c. search rules)
@@ -22,8 +22,8 @@ put-head-spec =
     (λ c.
     let put = c.before.before in
     let a = (start_of put).args in
-    put.put-number.auto.0 ∙ length-set a.out.now a.at a.kind)
+    put.put_number.auto.d ∙ length-set a.out.now a.at a.kind)
     (λ c.
     let put = c.before.before in
     let a = (start_of put).args in
-    head-over a.out.now _ a.at a.kind _ (omega arith) put.put-number.ensures))
+    head-over a.out.now _ a.at a.kind _ (omega arith) put.put_number.ensures))

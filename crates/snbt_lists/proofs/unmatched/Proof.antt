@@ -6,18 +6,18 @@ use Rattle.snbt_lists.proofs.Squares.{list-ended}
 use Rattle.snbt_lists.proofs.unmatched.Statement.{statement}
 use Rattle.snbt_lists.proofs.unmatched.Tie as tie
 
-pub unmatched-spec : {M : Type 1} → statement M
-unmatched-spec =
+pub unmatched_spec : {M : Type 1} → statement M
+unmatched_spec =
     tie.close
     (tie.spec
     (λ c κs. search rules)
     (λ c. search rules)
     (λ c. search rules)
     (λ c.
-    let at = c.before.before.before in
-    let a = at.before.args in
-    λ t val p. (rw c.before.number.given.1 at at.list-admitted.ensures) t val a.brace.0 (ended p))
+    let at = c.before.before in
+    let a = c.args in
+    λ t val p. (rw c.in-No.is at c.list_admitted.ensures) t val a.brace.0 (ended p))
     (λ c.
     let at = c.before.before in
-    let a = at.before.args in
-    list-ended a.left a.room a.at a.brace.0 (rw c.enum_told.given.1 at at.list-admitted.ensures)))
+    let a = c.args in
+    list-ended a.left a.room a.at a.brace.0 (rw c.in-Yes.is at c.list_admitted.ensures)))
