@@ -3,19 +3,18 @@
 use Prim.Native.Nat.{ℕ, ◌+◌, ◌≤◌, ◌<◌}
 use mathlib.Core.Path.{◌≡◌, refl, ap, ◌∙◌}
 use mathlib.Core.Bool.{false}
-use mathlib.Core.List.{List, [], ◌∷◌}
+use mathlib.Core.List.{List}
 use native.Mathlib.Omega.{arith}
 use borrow.Author.Tests.{lt-ltb, le-ltb, le-leb, lt-leb, eq-eqb}
 use lib.Dec.{eqb}
 use lib.ListN.{length}
-use types.Run.{OneOf}
 use Rattle.form.specs.Answer.{got, no, too_deep, output_full, unmatched_brace}
 use Rattle.snbt_form.specs.Lexing.{first, default, TokenData, found, ended, token_at}
 use Rattle.snbt_form.specs.Text.{Reads, sign_of, letter_width, opened_by, square_at, list_at, list_from, array_at}
 use Rattle.snbt_form.proofs.Moves.{token-moves}
 use Rattle.snbt_tokens.specs.declared.Token.{Token}
 use Rattle.snbt_tokens.specs.Answers.{token_is}
-use Rattle.snbt_tokens.proofs.Rests.{tag_of, other_sign}
+use Rattle.snbt_tokens.specs.declared.Token.TheVariants.{OpenCurly, ClosedCurly, OpenSquare, ClosedSquare, Comma, Colon, Semicolon, Str, Byte, Short, Int, Long, Float, Double}
 use Rattle.snbt_placing.specs.Done.{Wide, bytes, ints, longs}
 use Rattle.snbt_placing.specs.declared.Admitted.{Admitted}
 use Rattle.snbt_due.proofs.Reading.{from_found}
@@ -26,18 +25,38 @@ use Rattle.snbt_lists.specs.Lists.{LetterIs, ListAdmitted, ListedIs, UnmatchedIs
 -- ---- what a rest arm leaves
 
 -- The arm of a `]` leaves tokens that are none.
-abbrev pub all_but_closed : List ℕ
-all_but_closed = 0 ∷ 1 ∷ 2 ∷ 4 ∷ 5 ∷ 6 ∷ 7 ∷ 8 ∷ 9 ∷ 10 ∷ 11 ∷ 12 ∷ 13 ∷ []
-
-pub no-close : (k : Token) → OneOf all_but_closed (tag_of k) → eqb (sign_of (token_is k)) 93 ≡ false
-no-close k = other_sign 93 k all_but_closed (search refl)
+pub no-close : (k : Token) → (k ≡ ClosedSquare → ⊥) → eqb (sign_of (token_is k)) 93 ≡ false
+no-close OpenCurly o = refl
+no-close ClosedCurly o = refl
+no-close OpenSquare o = refl
+no-close ClosedSquare o = absurd (o refl)
+no-close Comma o = refl
+no-close Colon o = refl
+no-close Semicolon o = refl
+no-close (Str q a e) o = refl
+no-close (Byte z) o = refl
+no-close (Short z) o = refl
+no-close (Int z) o = refl
+no-close (Long z) o = refl
+no-close (Float x) o = refl
+no-close (Double x) o = refl
 
 -- The arm of a `;` leaves tokens that are none.
-abbrev pub all_but_semicolon : List ℕ
-all_but_semicolon = 0 ∷ 1 ∷ 2 ∷ 3 ∷ 4 ∷ 5 ∷ 7 ∷ 8 ∷ 9 ∷ 10 ∷ 11 ∷ 12 ∷ 13 ∷ []
-
-pub no-semicolon : (k : Token) → OneOf all_but_semicolon (tag_of k) → eqb (sign_of (token_is k)) 59 ≡ false
-no-semicolon k = other_sign 59 k all_but_semicolon (search refl)
+pub no-semicolon : (k : Token) → (k ≡ Semicolon → ⊥) → eqb (sign_of (token_is k)) 59 ≡ false
+no-semicolon OpenCurly o = refl
+no-semicolon ClosedCurly o = refl
+no-semicolon OpenSquare o = refl
+no-semicolon ClosedSquare o = refl
+no-semicolon Comma o = refl
+no-semicolon Colon o = refl
+no-semicolon Semicolon o = absurd (o refl)
+no-semicolon (Str q a e) o = refl
+no-semicolon (Byte z) o = refl
+no-semicolon (Short z) o = refl
+no-semicolon (Int z) o = refl
+no-semicolon (Long z) o = refl
+no-semicolon (Float x) o = refl
+no-semicolon (Double x) o = refl
 
 -- ---- a list, by its head and its first token
 

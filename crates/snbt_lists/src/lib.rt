@@ -1,4 +1,6 @@
 // Lists up to their elements (rules 14 and 15): what a `[` opens, what stands behind an element, and a list's head in the output.
+#![tactic(auto)]
+
 ghost use Rattle.std.specs.Prelude.{◌≡◌, ◌∷◌, ◌+◌, ◌≤◌, length};
 ghost use Rattle.form.specs.Answer.{got};
 ghost use Rattle.form.specs.Numbers.{bytes_of};

@@ -10,7 +10,7 @@ pub list_admitted_spec : {M : Type 1} → statement M
 list_admitted_spec =
     tie.close
     (tie.spec
-    (λ c. let a = c.before.args in list-deep a.left a.room a.at c.if-left-eq0.true)
+    (λ c. let a = c.args in list-deep a.left a.room a.at c.if-left-eq0.true)
     (λ c. search rules)
-    (λ c. let a = c.before.before.args in list_full a.left a.room a.at (omega arith) c.if-room-at.true)
+    (λ c. let a = c.args in list_full a.left a.room a.at (omega arith) c.if-room-at.true)
     (λ c. (omega arith, omega arith)))

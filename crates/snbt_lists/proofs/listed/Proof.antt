@@ -18,19 +18,14 @@ listed_spec =
     (λ c. search rules)
     (λ c. search rules)
     (λ c.
-    let at = c.before.before in
     let a = c.args in
     λ t val. (rw c.in-No.is at c.list_admitted.ensures) t val a.brace.0 (found (data_is a.td) a.next))
     (λ c.
-    let told = c.before.before in
-    let at = told.before in
     let a = c.args in
     let yes = rw c.in-Yes.is at c.list_admitted.ensures in
     list-empty a.left a.room a.at a.brace.0 yes (data_is a.td) a.next (ap (λ k. sign_of (token_is k)) c.in-ClosedSquare.is))
     (λ c.
-    let told = c.before in
-    let at = told.before.before in
     let a = c.args in
     let yes = rw c.in-Yes.is at c.list_admitted.ensures in
     list-first a.left a.room a.at a.brace.0 yes (data_is a.td) a.next
-    (no-close a.td.token c.match2.keys2)))
+    (no-close a.td.token c.in_default.not-ClosedSquare)))

@@ -7,10 +7,6 @@ use Rattle.snbt_lists.proofs.Heads.{empty-did}
 use Rattle.snbt_lists.proofs.put_empty.Statement.{statement}
 use Rattle.snbt_lists.proofs.put_empty.Tie as tie
 
--- the beginning
-abbrev start_of : tie.After-put_head → tie.Start
-start_of c = c.before.before.before
-
 pub put_empty_spec : {M : Type 1} → statement M
 put_empty_spec =
     tie.close
@@ -19,6 +15,5 @@ put_empty_spec =
     (λ c. search rules)
     (λ c. search rules)
     (λ c.
-    let put = c.before.before in
-    let a = (start_of put).args in
-    (empty-did a.out.now _ a.at a.next (omega arith) put.put_head.ensures, refl)))
+    let a = c.args in
+    (empty-did a.out.now _ a.at a.next (omega arith) c.put_head.ensures, refl)))

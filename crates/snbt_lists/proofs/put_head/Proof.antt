@@ -8,10 +8,6 @@ use Rattle.snbt_lists.proofs.Heads.{head-over}
 use Rattle.snbt_lists.proofs.put_head.Statement.{statement}
 use Rattle.snbt_lists.proofs.put_head.Tie as tie
 
--- the beginning
-abbrev start_of : tie.After-put_number → tie.Start
-start_of c = c.before.before.before
-
 pub put_head_spec : {M : Type 1} → statement M
 put_head_spec =
     tie.close
@@ -20,10 +16,8 @@ put_head_spec =
     (λ c. search rules)
     (λ c κs. (omega arith, simp length-set (omega arith)))
     (λ c.
-    let put = c.before.before in
-    let a = (start_of put).args in
-    put.put_number.auto.d ∙ length-set a.out.now a.at a.kind)
+    let a = c.args in
+    c.put_number.auto.d ∙ length-set a.out.now a.at a.kind)
     (λ c.
-    let put = c.before.before in
-    let a = (start_of put).args in
-    head-over a.out.now _ a.at a.kind _ (omega arith) put.put_number.ensures))
+    let a = c.args in
+    head-over a.out.now _ a.at a.kind _ (omega arith) c.put_number.ensures))

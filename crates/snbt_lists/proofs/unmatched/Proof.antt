@@ -14,10 +14,8 @@ unmatched_spec =
     (λ c. search rules)
     (λ c. search rules)
     (λ c.
-    let at = c.before.before in
     let a = c.args in
     λ t val p. (rw c.in-No.is at c.list_admitted.ensures) t val a.brace.0 (ended p))
     (λ c.
-    let at = c.before.before in
     let a = c.args in
     list-ended a.left a.room a.at a.brace.0 (rw c.in-Yes.is at c.list_admitted.ensures)))
