@@ -10,14 +10,14 @@ use Rattle.snbt_entries.proofs.behind_key.Statement.{statement}
 use Rattle.snbt_entries.proofs.behind_key.Tie as tie
 
 -- what was looked at, and the beginning
-abbrev peek-of : tie.After-struct-known → tie.After-peek-at
+abbrev peek-of : tie.After-struct_known-1 → tie.After-peek_at-peeked
 peek-of c = c.before.before
 
-abbrev start_of : tie.After-peek-at → tie.Start
+abbrev start_of : tie.After-peek_at-peeked → tie.Start
 start_of c = c.before.before
 
-pub behind-key-spec : {M : Type 1} → statement M
-behind-key-spec =
+pub behind_key_spec : {M : Type 1} → statement M
+behind_key_spec =
     tie.close
     (tie.spec
     (λ c κs. search rules)
@@ -25,23 +25,23 @@ behind-key-spec =
     let at-if = c.before in
     let p = peek-of at-if.before in
     let s = start_of p in
-    omega (arith, sign-within s.args.text.now s.args.place p.peek-at.result p.peek-at.ensures s.pre colon (omega arith) at-if.if1.true))
+    omega (arith, sign-within s.args.text.now s.args.place p.peek_at-peeked.result p.peek_at-peeked.ensures s.requires colon (omega arith) c.if-peeked-eq58.true))
     (λ c.
     let at-if = c.before in
     let p = peek-of at-if.before in
     let s = start_of p in
-    front-colon s.args.text.now s.args.place p.peek-at.result p.peek-at.ensures s.pre s.args.brace.0 at-if.if1.true)
+    front-colon s.args.text.now s.args.place p.peek_at-peeked.result p.peek_at-peeked.ensures s.requires s.args.brace.0 c.if-peeked-eq58.true)
     (λ c κs. search rules)
     (λ c. search rules)
     (λ c. search rules)
     (λ c.
     let at-due = c.before.before in
     let at-else = at-due.before in
-    let p = peek-of at-else.before in
+    let p = peek-of at-else in
     let s = start_of p in
-    front-none s.args.text.now s.args.place p.peek-at.result p.peek-at.ensures s.pre s.args.brace.0
-    at-else.if1.false _ _ (rw c.enum_told.given.1 at at-due.due-at.ensures))
+    front-none s.args.text.now s.args.place p.peek_at-peeked.result p.peek_at-peeked.ensures s.requires s.args.brace.0
+    c.if-peeked-eq58.false _ _ (rw c.in-Is.is at c.due_at.ensures))
     (λ c.
     let at-due = c.before.before.before in
-    let a = (start_of (peek-of at-due.before.before)).args in
-    λ room. colon-no a.text.now room a.brace.0 a.place _ _ ((rw c.before.number.given.1 at at-due.due-at.ensures) room)))
+    let a = (start_of (peek-of at-due)).args in
+    λ room. colon-no a.text.now room a.brace.0 a.place _ _ ((rw c.in-No.is at c.due_at.ensures) room)))

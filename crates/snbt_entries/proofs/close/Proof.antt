@@ -15,11 +15,11 @@ close_spec =
     tie.close
     (tie.spec
     (λ c. search rules)
-    (λ c. let a = c.before.args in λ t. close-full t _ a.index.0 a.next a.used (omega (arith, c.if1.true)))
+    (λ c. let a = c.before.args in λ t. close-full t _ a.index.0 a.next a.used (omega (arith, c.if-out-used.true)))
     (λ c. search rules)
     (λ c. search rules)
     (λ c. search rules)
     (λ c.
     let a = c.before.args in
-    let fits : a.used + 1 ≤ length a.out.now = omega (arith, c.if1.false) in
+    let fits : a.used + 1 ≤ length a.out.now = omega (arith, c.if-out-used.false) in
     ((λ t. close-fits t _ a.index.0 a.next a.used fits), refl, refl, refl, fits, set-over-one a.out.now a.used 0 (omega (arith, fits)))))

@@ -8,18 +8,18 @@ use Rattle.snbt_entries.proofs.key_at.Statement.{statement}
 use Rattle.snbt_entries.proofs.key_at.Tie as tie
 
 -- the word that was asked for, and the beginning
-abbrev word_of : tie.After-known-told → tie.After-word-key
-word_of c = c.before.before.before
+abbrev word_of : tie.In-To → tie.After-word_key
+word_of c = c.before
 
-abbrev start_of : tie.After-word-key → tie.Start
+abbrev start_of : tie.After-word_key → tie.Start
 start_of c = let at-keys = c.before.before.before in at-keys.before.before.before
 
 -- It is one.
-word : (c : tie.After-known-told) → let at-word = word_of c in Worded (start_of at-word).args.text.now at-word.before.skip-blank.result c.before.end.given.0.0
-word c = word-found c.before.end.given.1 (word_of c).word-key.ensures
+word : (c : tie.In-To) → let at-word = word_of c in Worded (start_of at-word).args.text.now at-word.before.skip_blank-i.result c.in-To.end
+word c = word-found c.in-To.is (word_of c).word_key.ensures
 
-pub key-at-spec : {M : Type 1} → statement M
-key-at-spec =
+pub key_at_spec : {M : Type 1} → statement M
+key_at_spec =
     tie.close
     (tie.spec
     (λ c κs. search rules)
@@ -35,7 +35,7 @@ key-at-spec =
     let at-word = word_of told in
     let s = start_of at-word in
     let a = s.args in
-    let i = at-word.before.skip-blank in
+    let i = at-word.before.skip_blank-i in
     keyed-word a.text.now i.result _ (word told) a.place i.ensures s.pre.0 a.block.brace.0 (last_is a.last)
     a.out.now a.keys.now a.block.base a.top _ at-worded.worded.result (at-worded.worded.ensures a.block.brace.0))
     (λ c. search rules)

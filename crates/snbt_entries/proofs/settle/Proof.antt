@@ -22,8 +22,8 @@ add-of c = c.before.before.before
 wrote : (c : tie.After-add-arg2) → let a = (start_of c).args in set a.out.now a.at a.kind ≡ over a.out.now a.at (a.kind ∷ [])
 wrote c = let s = start_of c in set-over-one s.args.out.now s.args.at s.args.kind (omega (arith, s.pre.1))
 
-pub settle-spec : {M : Type 1} → statement M
-settle-spec =
+pub settle_spec : {M : Type 1} → statement M
+settle_spec =
     tie.close
     (tie.spec
     (λ c. search rules)
@@ -39,18 +39,18 @@ settle-spec =
     (λ c.
     let at_next = c.before.before.before in
     let put = add-of at_next in
-    let f = rw c.before.index.given.1 at at_next.following.ensures in
+    let f = rw c.before.in-Comma.is at at_next.following.ensures in
     ((f.0, f.1, f.2, refl), (wrote put.before, put.add.ensures.0)))
     (λ c. search rules)
     (λ c. search rules)
     (λ c.
     let at_next = c.before.before.before in
     let put = add-of at_next in
-    let f = rw c.before.index2.given.1 at at_next.following.ensures in
+    let f = rw c.before.in-Close.is at at_next.following.ensures in
     ((f.0, f.1, f.2, refl), (wrote put.before, put.add.ensures.0)))
     (λ c. search rules)
     (λ c. search rules)
     (λ c.
     let at_next = c.before.before.before in
     let put = add-of at_next in
-    (rw c.before.number.given.1 at at_next.following.ensures, (wrote put.before, put.add.ensures.0))))
+    (rw c.before.in-No.is at at_next.following.ensures, (wrote put.before, put.add.ensures.0))))

@@ -10,17 +10,17 @@ use Rattle.snbt_entries.proofs.word_key.Statement.{statement}
 use Rattle.snbt_entries.proofs.word_key.Tie as tie
 
 -- the beginning
-abbrev start_of : tie.After-run-end → tie.Start
+abbrev start_of : tie.After-run_end-end → tie.Start
 start_of c = let begun = c.before.before.before in begun.before.before
 
 -- The run from the key's first character on.
-run : (c : tie.After-run-end) → let a = (start_of c).args in Run a.text.now a.i c.run-end.result
+run : (c : tie.After-run_end-end) → let a = (start_of c).args in Run a.text.now a.i c.run_end-end.result
 run c =
     let a = (start_of c).args in
-    subst (λ (j : ℕ). Run a.text.now a.i j) (sym c.run-end.ensures) (run_is a.text.now a.i (omega arith))
+    subst (λ (j : ℕ). Run a.text.now a.i j) (sym c.run_end-end.ensures) (run_is a.text.now a.i (omega arith))
 
-pub word-key-spec : {M : Type 1} → statement M
-word-key-spec =
+pub word_key_spec : {M : Type 1} → statement M
+word_key_spec =
     tie.close
     (tie.spec
     (λ c. tt)
@@ -36,4 +36,4 @@ word-key-spec =
     let inside = c.before.before.before in
     let ran = inside.before in
     let a = (start_of ran).args in
-    word-ends a.text.now a.i ran.run-end.result ran.before.if2.false (run ran) inside.if3.false c.before.if4.false c.if5.false))
+    word-ends a.text.now a.i ran.run_end-end.result ran.before.if-text-i-lt60.false (run ran) inside.if-text-end.false c.before.if-text-end-ne58.false c.if-end-i-gt-STRING.false))

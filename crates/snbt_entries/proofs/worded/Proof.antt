@@ -11,25 +11,25 @@ use Rattle.snbt_entries.proofs.worded.Statement.{statement}
 use Rattle.snbt_entries.proofs.worded.Tie as tie
 
 -- the beginning, from the copy; and the copy, from where the key is looked up
-abbrev start_of : tie.After-copy-arg → tie.Start
+abbrev start_of : tie.After-copy-arg-1 → tie.Start
 start_of c = let at-text = c.before.before.before in at-text.before.before
 
-abbrev copy_of : tie.After-spot-of-arg → tie.After-copy
+abbrev copy_of : tie.After-spot_of-arg → tie.After-copy
 copy_of c = c.before.before.before
 
 -- The buffer has room for the word.
-room : (c : tie.After-copy-arg) → let a = (start_of c).args in a.j - a.i ≤ length a.buffer.now
-room c = let s = start_of c in word_room s.args.text.now s.args.i s.args.j s.pre.0 s.pre.2
+room : (c : tie.After-copy-arg-1) → let a = (start_of c).args in a.j - a.i ≤ length a.buffer.now
+room c = let s = start_of c in word_room s.args.text.now s.args.i s.args.j s.requires.0 s.requires.2
 
 -- It stands at the buffer's start.
-stood : (c : tie.After-copy) → let a = (start_of c.before).args in take (a.j - a.i) c.copy.new.1.1.1.0 ≡ part a.text.now a.i (a.j - a.i)
+stood : (c : tie.After-copy) → let a = (start_of c.before).args in take (a.j - a.i) c.copy.new.out ≡ part a.text.now a.i (a.j - a.i)
 stood c =
     let s = start_of c.before in
     let a = s.args in
-    word_stands a.text.now a.i a.j s.pre.0 a.buffer.now _ (room c.before) c.copy.ensures
+    word_stands a.text.now a.i a.j s.requires.0 a.buffer.now _ (room c.before) c.copy.ensures
 
-pub worded-spec : {M : Type 1} → statement M
-worded-spec =
+pub worded_spec : {M : Type 1} → statement M
+worded_spec =
     tie.close
     (tie.spec
     (λ c. search rules)
@@ -46,11 +46,11 @@ worded-spec =
     let at_copy = copy_of at-spot.before in
     let s = start_of at_copy.before in
     let a = s.args in
-    word-twice a.text.now a.i a.j s.pre.0 a.out.now a.keys.now a.base a.top _ (stood at_copy) (rw c.enum_told.given.1 at at-spot.spot_of.ensures))
+    word-twice a.text.now a.i a.j s.requires.0 a.out.now a.keys.now a.base a.top _ (stood at_copy) (rw c.in-Taken.is at at-spot.spot_of.ensures))
     (λ c. search rules)
     (λ c.
     let at-spot = c.before.before.before in
     let at_copy = copy_of at-spot.before in
     let s = start_of at_copy.before in
     let a = s.args in
-    word-named a.text.now a.i a.j s.pre.0 a.out.now a.keys.now a.base a.top _ (stood at_copy) _ (rw c.before.spot.given.1 at at-spot.spot_of.ensures)))
+    word-named a.text.now a.i a.j s.requires.0 a.out.now a.keys.now a.base a.top _ (stood at_copy) _ (rw c.before.in-Free.is at at-spot.spot_of.ensures)))
