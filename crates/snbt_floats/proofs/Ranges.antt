@@ -71,7 +71,9 @@ abbrev answer : Bool → ℕ → ℕ
 answer s b = to_bits binary32 (to_single (of_bits binary64 (cond s (2 ^ 63) 0 + b)))
 
 from_fields : (s : Bool) (b a : ℕ) → b < 2 ^ 63 → HasValue (of_fields binary64 s (F b) (D b)) s a (2 ^ 1074) → answer s b ≡ single s a
-from_fields s b a h v = ap (λ (x : Float). to_bits binary32 (to_single x)) (fields binary64 s b h) ∙ ap (to_bits binary32) (single-value (of_fields binary64 s (F b) (D b)) s a (2 ^ 1074) (pow_pos 1074) v)
+from_fields s b a h v =
+    ap (λ (x : Float). to_bits binary32 (to_single x)) (fields binary64 s b h)
+    ∙ ap (to_bits binary32) (single-value (of_fields binary64 s (F b) (D b)) s a (2 ^ 1074) (pow_pos 1074) v)
 
 digits_lt : (b : ℕ) → D b < 2 ^ 52
 digits_lt b = mod-lt b (pow_pos 52)
