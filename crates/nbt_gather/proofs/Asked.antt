@@ -13,7 +13,7 @@ use Rattle.form.specs.Form.{Form}
 use Rattle.form.specs.Answer.{Out, got, no, pick, depth_limit}
 use Rattle.form.specs.Spans.{over}
 use Rattle.form.specs.Table.{holds}
-use Rattle.form.specs.Reading.{Span, Run, ListHead, one, list_head_at, inside_at, room_of, string_at, reading}
+use Rattle.form.specs.Reading.{Span, Run, ListHead, list_head_at, inside_at, room_of, string_at, reading}
 use Rattle.form.specs.Cut.{Kept, begun_at}
 use Rattle.form.proofs.Fields.{list-head-within, number-no, string-no, string-within}
 use Rattle.form.proofs.Payloads.{payload-no, room-le, room_fits, inside-list, list-head-no}

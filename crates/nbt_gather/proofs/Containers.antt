@@ -13,7 +13,7 @@ use lib.Dec.{ltb, eqb}
 use Rattle.form.specs.Form.{Form}
 use Rattle.form.specs.Answer.{Out, got, no, ◌>>=◌, pick, depth_limit}
 use Rattle.form.specs.Spans.{over}
-use Rattle.form.specs.Table.{none, size, width, holds}
+use Rattle.form.specs.Table.{none, width, holds}
 use Rattle.form.specs.Tables.{first_kind}
 use Rattle.form.specs.Reading.{Span, One, Run, Inside, ListHead, Reader, one, held_one, leaf_at, leaf_one, list_head_at, elements, entries, payload_by, inside_at}
 use Rattle.form.specs.Cut.{Kept, Line, nothing, whole, opened, open_head, kept_elements, kept_entries, begun_at, line_words}

@@ -2,6 +2,8 @@
 // its open containers. The functions are those of `nbt_reader`, and their contracts cite the definitions that they meet, in
 // form/specs/Reading.antt where a tag is whole and in form/specs/Cut.antt where it is not. Since the read was refused with 1 and nothing
 // else, names, room and depth are not asked again.
+#![tactic(auto)]
+
 ghost use Rattle.std.specs.Prelude.{◌≡◌, [], ◌∷◌, ◌+◌, ◌-◌, ◌*◌, ◌≤◌, ◌<◌, ◌^◌, length, eqb};
 ghost use Rattle.form.specs.Answer.{pick};
 ghost use Rattle.form.specs.Form.{Form, form_no};

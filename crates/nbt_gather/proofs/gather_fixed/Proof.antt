@@ -9,20 +9,20 @@ use Rattle.nbt_reader.proofs.Steps.{fixed-got, fixed_no}
 use Rattle.nbt_gather.proofs.gather_fixed.Statement.{statement}
 use Rattle.nbt_gather.proofs.gather_fixed.Tie as tie
 
-abbrev start_of : tie.After-width-of → tie.Start
+abbrev start_of : tie.After-width_of-width → tie.Start
 start_of c = c.before.before.before
 
-returns : tie.Need-returns
+returns : tie.Need-returns-then-doc-at
 returns c form =
     let at_width = c.before in
     let asked = (start_of at_width).requires in (
-      (_, _, leaf-one-no form _ _ _ _ _ (fixed_no form _ _ _ _ asked.2 at_width.width-of.ensures.0 (omega (arith, c.if1.true, asked.0.ready.at_le)))),
+      (_, _, leaf-one-no form _ _ _ _ _ (fixed_no form _ _ _ _ asked.2 at_width.width_of-width.ensures.0 (omega (arith, c.if-doc-at.true, asked.0.ready.at_le)))),
       refl,
       refl,
       refl,
     )
 
-returns-2 : tie.Need-returns-2
+returns-2 : tie.Need-returns
 returns-2 c form =
     let at-put = c.before.before in
     let at_leaf = at-put.before in
@@ -33,17 +33,17 @@ returns-2 c form =
     let ready = asked.0.ready in
     record {
       x = _;
-      is = leaf-one-got form _ _ _ _ _ (fixed-got form _ _ _ _ asked.2 at_width.width-of.ensures.0 (omega (arith, at-else.if1.false, ready.at_le)));
+      is = leaf-one-got form _ _ _ _ _ (fixed-got form _ _ _ _ asked.2 at_width.width_of-width.ensures.0 (omega (arith, at-else.if-doc-at.false, ready.at_le)));
       at_is = refl;
       n_is = omega (arith, size_none);
       table = at-put.put.ensures ∙ rw (at_leaf.leaf.ensures, at_wide.wide.ensures) (wrote-leaf _ _ _ _ (omega (arith, ready, asked.1)));
       on = omega arith;
-      at_le = omega (arith, at-else.if1.false, ready.at_le);
+      at_le = omega (arith, at-else.if-doc-at.false, ready.at_le);
       n_le = omega (arith, asked.1);
     }
 
-pub gather-fixed-spec : {M : Type 1} → statement M
-gather-fixed-spec =
+pub gather_fixed_spec : {M : Type 1} → statement M
+gather_fixed_spec =
     tie.close
     (tie.spec
     (λ c κs. search rules)

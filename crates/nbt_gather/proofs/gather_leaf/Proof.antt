@@ -13,18 +13,18 @@ use Rattle.nbt_fields.specs.Answers.{part_out}
 use Rattle.nbt_gather.proofs.gather_leaf.Statement.{statement}
 use Rattle.nbt_gather.proofs.gather_leaf.Tie as tie
 
-abbrev payload-of : tie.After-known-told → tie.After-leaf-at
-payload-of c = c.before.before.before
+abbrev payload-of : tie.In-Is → tie.After-leaf_at
+payload-of c = c.before
 
-abbrev start_of : tie.After-known-told → tie.Start
+abbrev start_of : tie.In-Is → tie.Start
 start_of c = let at-payload = payload-of c in at-payload.before.before.before
 
 -- the span that was read
-abbrev span : tie.After-known-told → Span
-span c = let g = c.before.start.given.0 in record { start = g.0; size = g.1.0; count = g.1.1.0; next = g.1.1.1.0 }
+abbrev span : tie.In-Is → Span
+span c = let g = c.in-Is in record { start = g.start; size = g.size; count = g.count; next = g.next }
 
-is : (c : tie.After-known-told) → leaf_at (form_no (start_of c).args.form) (start_of c).args.doc.now (start_of c).args.kind (start_of c).args.at ≡ got (span c)
-is c = sym (payload-of c).leaf-at.ensures ∙ ap part_out c.before.start.given.1
+is : (c : tie.In-Is) → leaf_at (form_no (start_of c).args.form) (start_of c).args.doc.now (start_of c).args.kind (start_of c).args.at ≡ got (span c)
+is c = sym (payload-of c).leaf_at.ensures ∙ ap part_out c.in-Is.is
 
 leaf-requires : tie.Need-leaf-requires
 leaf-requires c κs =
@@ -33,10 +33,10 @@ leaf-requires c κs =
     let l = leaf-within _ _ _ _ (is told) in
     omega (arith, l, asked.0, asked.0.ready, asked.1)
 
-returns : tie.Need-returns
-returns c = ((_, _, leaf-one-no _ _ _ _ _ _ (sym c.before.before.leaf-at.ensures ∙ ap part_out c.enum_told.given.1)), refl, refl, refl)
+returns : tie.Need-returns-in-No
+returns c = ((_, _, leaf-one-no _ _ _ _ _ _ (sym c.before.leaf_at.ensures ∙ ap part_out c.in-No.is)), refl, refl, refl)
 
-returns-2 : tie.Need-returns-2
+returns-2 : tie.Need-returns-in-Is
 returns-2 c =
     let at-put = c.before.before in
     let at_wide = at-put.before.before in
@@ -54,8 +54,8 @@ returns-2 c =
       n_le = omega (arith, asked.1);
     }
 
-pub gather-leaf-spec : {M : Type 1} → statement M
-gather-leaf-spec =
+pub gather_leaf_spec : {M : Type 1} → statement M
+gather_leaf_spec =
     tie.close
     (tie.spec
     (λ c κs. search rules)

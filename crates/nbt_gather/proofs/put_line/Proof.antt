@@ -12,8 +12,8 @@ returns c =
     let args = c.args in
     line-put args.lines.now args.level args.n args.promised args.kept c.requires.0
 
-pub put-line-spec : {M : Type 1} → statement M
-put-line-spec =
+pub put_line_spec : {M : Type 1} → statement M
+put_line_spec =
     tie.close
     (tie.spec
     (λ c. search rules)

@@ -6,11 +6,11 @@ use mathlib.Core.Path.{refl}
 use Rattle.nbt_gather.proofs.with_open.Statement.{statement}
 use Rattle.nbt_gather.proofs.with_open.Tie as tie
 
-returns : tie.Need-returns
-returns c = rw (eq-eqb c.before.args.«open» 0 c.if1.true) refl
+returns : tie.Need-returns-then-open-eq0
+returns c = rw (eq-eqb c.before.args.«open» 0 c.if-open-eq0.true) refl
 
-returns-2 : tie.Need-returns-2
-returns-2 c = rw (ne_eqb c.before.args.«open» 0 c.if1.false) refl
+returns-2 : tie.Need-returns-else-open-eq0
+returns-2 c = rw (ne_eqb c.before.args.«open» 0 c.if-open-eq0.false) refl
 
-pub with-open-spec : {M : Type 1} → statement M
-with-open-spec = tie.close (tie.spec (λ c. search rules) returns returns-2)
+pub with_open_spec : {M : Type 1} → statement M
+with_open_spec = tie.close (tie.spec (λ c. search rules) returns returns-2)
