@@ -1,4 +1,6 @@
 // A query under the promise of its C name: it fills eight words that the caller lends (include/tikfazrul.h).
+#![tactic(auto)]
+
 ghost use Rattle.calls.specs.Calls.{QueryCalled};
 ghost use Rattle.form.specs.Form.{form_no};
 

@@ -5,22 +5,16 @@ use Rattle.call_query.proofs.Words.{query-matched, query-refused}
 use Rattle.call_query.proofs.query.Statement.{statement}
 use Rattle.call_query.proofs.query.Tie as tie
 
-returns : tie.Need-returns
+returns : tie.Need-returns-in-Matches
 returns c =
-    let at-answer = c.before.before in
-    let at_told = at-answer.before.before in
-    let at-query = at_told.before.before in
-    query-matched _ _ _ _ _ _ at-answer.count.given.1 at-query.query.ensures
+    query-matched _ _ _ _ _ _ c.in-Matches.is c.query.ensures
 
-returns-2 : tie.Need-returns-2
+returns-2 : tie.Need-returns-in-Refused
 returns-2 c =
-    let at-answer = c.before.before in
-    let at_told = at-answer.before.before in
-    let at-query = at_told.before.before in
-    query-refused _ _ _ _ _ _ at-answer.refused.given.1 at-query.query.ensures
+    query-refused _ _ _ _ _ _ c.in-Refused.is c.query.ensures
 
-pub query-spec : {M : Type 1} → statement M
-query-spec =
+pub query_spec : {M : Type 1} → statement M
+query_spec =
     tie.close
     (tie.spec
     (λ c κs. search rules)
