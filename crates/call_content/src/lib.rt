@@ -1,4 +1,6 @@
 // A token's content under the promise of its C name: it fills eight words that the caller lends (include/tikfazrul.h).
+#![tactic(auto)]
+
 ghost use Rattle.calls.specs.Calls.{ContentCalled};
 
 use snbt_contents::Contents;

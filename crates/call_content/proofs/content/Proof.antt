@@ -5,8 +5,8 @@ use Rattle.call_content.proofs.Words.{content-is, content-refused}
 use Rattle.call_content.proofs.content.Statement.{statement}
 use Rattle.call_content.proofs.content.Tie as tie
 
-pub content-spec : {M : Type 1} → statement M
-content-spec =
+pub content_spec : {M : Type 1} → statement M
+content_spec =
     tie.close
     (tie.spec
     (λ c κs. search rules)
@@ -17,9 +17,9 @@ content-spec =
     (λ c.
     let d = c.before.before in
     let r = d.before.before in
-    content-is _ _ _ _ _ _ r.before.before.content.ensures d.bytes.given.1)
+    content-is _ _ _ _ _ _ c.content.ensures c.in-Is.is)
     (λ c. search rules)
     (λ c.
     let d = c.before.before in
     let r = d.before.before in
-    content-refused _ _ _ _ _ _ r.before.before.content.ensures d.refusal.given.1))
+    content-refused _ _ _ _ _ _ c.content.ensures c.in-Refused.is))
