@@ -51,7 +51,9 @@ returns-4 c =
     let at-word2 = c.before.before in
     let at-then3 = at-word2.before in
     let a = (start_of at-then3.before.before).args in
-    rw c.wide-then-kind-eq-INDEX.ensures (takes-index a.doc.now a.table.now _ _ a.parent a.c a.index at-then3.if-kind-eq-INDEX.true (λ e. c.before.if-word-eq-COMPOUND-2.false (at-word2.word-then-kind-eq-INDEX.ensures ∙ e)))
+    rw c.wide-then-kind-eq-INDEX.ensures
+    (takes-index a.doc.now a.table.now _ _ a.parent a.c a.index at-then3.if-kind-eq-INDEX.true
+    (λ e. c.before.if-word-eq-COMPOUND-2.false (at-word2.word-then-kind-eq-INDEX.ensures ∙ e)))
 
 returns-5 : tie.Need-returns
 returns-5 c =
