@@ -7,8 +7,8 @@ use Rattle.call_token.proofs.Words.{bits-kept}
 use Rattle.call_token.proofs.carried_first.Statement.{statement}
 use Rattle.call_token.proofs.carried_first.Tie as tie
 
-pub carried-first-spec : {M : Type 1} → statement M
-carried-first-spec =
+pub carried_first_spec : {M : Type 1} → statement M
+carried_first_spec =
     tie.close
     (tie.spec
     (λ c. search rules)
@@ -28,28 +28,28 @@ carried-first-spec =
     (λ c. search rules)
     (λ c κs. search rules)
     (λ c. search rules)
-    (λ c. subst Quiet c.before.token6.given.1 c.before.before.before.requires)
+    (λ c. subst Quiet c.in-Float.is c.requires)
     (λ c. search rules)
-    (λ c. subst Quiet c.before.token7.given.1 c.before.before.before.requires)
-    (λ c. search rules)
-    (λ c. search rules)
+    (λ c. subst Quiet c.in-Double.is c.requires)
     (λ c. search rules)
     (λ c. search rules)
     (λ c. search rules)
     (λ c. search rules)
     (λ c. search rules)
-    (λ c. rw c.before.token.given.1 refl)
+    (λ c. search rules)
+    (λ c. search rules)
+    (λ c. rw c.in-Str.is refl)
     (λ c.
     let m = c.before.before in
-    rw m.token2.given.1 (c.bits_of.ensures ∙ bits-kept m.token2.given.0.0 (record { sfits = c.before.known-told2.given.0.1 })))
+    rw c.in-Byte.is (c.bits_of.ensures ∙ bits-kept c.in-Byte.z (record { sfits = c.known_told-in-Byte-1.given.0.1 })))
     (λ c.
     let m = c.before.before in
-    rw m.token3.given.1 (c.bits-of2.ensures ∙ bits-kept m.token3.given.0.0 (record { sfits = c.before.known-told3.given.0.1 })))
+    rw c.in-Short.is (c.bits_of-in-Short.ensures ∙ bits-kept c.in-Short.z (record { sfits = c.known_told-in-Short-1.given.0.1 })))
     (λ c.
     let m = c.before.before in
-    rw m.token4.given.1 (c.bits-of3.ensures ∙ bits-kept m.token4.given.0.0 (record { sfits = c.before.known-told4.given.0.1 })))
+    rw c.in-Int.is (c.bits_of-in-Int.ensures ∙ bits-kept c.in-Int.z (record { sfits = c.known_told-in-Int-1.given.0.1 })))
     (λ c.
     let m = c.before.before in
-    rw m.token5.given.1 (c.bits-of4.ensures ∙ bits-kept m.token5.given.0.0 (record { sfits = c.before.known-told5.given.0.1 })))
-    (λ c. rw c.before.token6.given.1 refl)
-    (λ c. rw c.before.token7.given.1 refl))
+    rw c.in-Long.is (c.bits_of-in-Long.ensures ∙ bits-kept c.in-Long.z (record { sfits = c.known_told-in-Long-1.given.0.1 })))
+    (λ c. rw c.in-Float.is refl)
+    (λ c. rw c.in-Double.is refl))

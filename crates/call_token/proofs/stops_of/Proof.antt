@@ -5,8 +5,8 @@ use borrow.Author.Tests.{eq-eqb, ne_eqb}
 use Rattle.call_token.proofs.stops_of.Statement.{statement}
 use Rattle.call_token.proofs.stops_of.Tie as tie
 
-pub stops-of-spec : {M : Type 1} → statement M
-stops-of-spec =
+pub stops_of_spec : {M : Type 1} → statement M
+stops_of_spec =
     tie.close
     (tie.spec
     (λ c. let n = c.before.args.n in simp (eq-eqb n 1 (omega arith)))

@@ -6,8 +6,8 @@ use Rattle.call_token.proofs.Words.{token-found, token-ended, token-refused}
 use Rattle.call_token.proofs.token.Statement.{statement}
 use Rattle.call_token.proofs.token.Tie as tie
 
-pub token-spec : {M : Type 1} → statement M
-token-spec =
+pub token_spec : {M : Type 1} → statement M
+token_spec =
     tie.close
     (tie.spec
     (λ c κs. search rules)
@@ -27,13 +27,13 @@ token-spec =
     let w = k.before.before in
     let d = w.before.before in
     let l = d.before.before in
-    token-found _ _ l.before.before.before.args.stops _ l.token.ensures l.before.stops-of.ensures d.«data».given.1
-    k.token-kind.ensures c.before.before.Carried-first.ensures c.before.carried-second.ensures)
+    token-found _ _ l.before.before.before.args.stops _ l.token.ensures l.before.stops_of.ensures d.«data».given.1
+    k.token_kind.ensures c.before.before.Carried-first.ensures c.before.carried_second.ensures)
     (λ c.
     let d = c.before.before in
     let l = d.before.before in
-    token-ended _ _ l.before.before.before.args.stops _ l.token.ensures l.before.stops-of.ensures d.place.given.1)
+    token-ended _ _ l.before.before.before.args.stops _ l.token.ensures l.before.stops_of.ensures d.in-Ended.is)
     (λ c.
     let d = c.before.before in
     let l = d.before.before in
-    token-refused _ _ l.before.before.before.args.stops _ l.token.ensures l.before.stops-of.ensures d.refusal.given.1))
+    token-refused _ _ l.before.before.before.args.stops _ l.token.ensures l.before.stops_of.ensures d.in-Refused.is))
