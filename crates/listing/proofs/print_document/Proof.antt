@@ -6,14 +6,14 @@ use lib.Seq.{length-take-le}
 use Rattle.listing.proofs.print_document.Statement.{statement}
 use Rattle.listing.proofs.print_document.Tie as tie
 
-slice-aggregate-read : tie.Need-slice-aggregate-read
-slice-aggregate-read c = sym (length-take-le _ _ (search rules))
+slice_aggregate-read : tie.Need-slice_bounds-read-end
+slice_aggregate-read c = sym (length-take-le _ _ (search rules))
 
-pub print-document-spec : {M : Type 1} → statement M
-print-document-spec =
+pub print_document_spec : {M : Type 1} → statement M
+print_document_spec =
     tie.close
     (tie.spec
-    slice-aggregate-read
+    slice_aggregate-read
     (λ c κs. search rules)
     (λ c κs. search rules)
     (λ c. search rules)
