@@ -7,17 +7,17 @@ use lib.Seq.{length-take-le}
 use Rattle.replay_depths.proofs.print_document.Statement.{statement}
 use Rattle.replay_depths.proofs.print_document.Tie as tie
 
-slice-aggregate-read : tie.Need-slice-aggregate-read
-slice-aggregate-read c =
+slice_aggregate-read : tie.Need-slice_bounds-read-end
+slice_aggregate-read c =
     let fitting = c.before.before in
-    let a = fitting.before.before.args in
+    let a = fitting.before.args in
     sym (length-take-le a.n a.doc.now (omega arith))
 
-pub print-document-spec : {M : Type 1} → statement M
-print-document-spec =
+pub print_document_spec : {M : Type 1} → statement M
+print_document_spec =
     tie.close
     (tie.spec
-    slice-aggregate-read
+    slice_aggregate-read
     (λ c κs. search rules)
     (λ c κs. search rules)
     (λ c. search rules)

@@ -6,15 +6,15 @@ use lib.ListN.{length}
 use Rattle.replay_depths.proofs.replay.Statement.{statement}
 use Rattle.replay_depths.proofs.replay.Tie as tie
 
-abbrev invariant-loop : tie.invariant-loop
-invariant-loop chunk₀ line₀ doc₀ table₀ input₀ turns₀ t10 chunk line doc table input turns =
+abbrev invariant-loop : tie.invariant-loop-turns
+invariant-loop chunk₀ line₀ doc₀ table₀ input₀ turns₀ chunk line doc table input turns =
     (length chunk ≡ length chunk₀) × (length line ≡ length line₀) × (length doc ≡ length doc₀) × (length table ≡ length table₀)
 
-abbrev decreases-loop : tie.decreases-loop
-decreases-loop chunk₀ line₀ doc₀ table₀ input₀ turns₀ t10 chunk line doc table input turns = turns
+abbrev decreases-loop : tie.decreases-loop-turns
+decreases-loop chunk₀ line₀ doc₀ table₀ input₀ turns₀ chunk line doc table input turns = turns
 
-pub replay-spec : {M : Type 1} → statement M
-replay-spec =
+pub replay_spec : {M : Type 1} → statement M
+replay_spec =
     tie.close
     (tie.spec
     invariant-loop
