@@ -1,5 +1,7 @@
 // Entries of a compound around their values (rule 15): keys, the colon behind them, what follows a value, and the compound's end.
 // A key's bytes go through a lent buffer, and its place in the output stands among the keys of the open compounds.
+#![tactic(auto)]
+
 ghost use Rattle.std.specs.Prelude.{◌≡◌, [], ◌∷◌, ℕ, ◌+◌, ◌≤◌, length, take};
 ghost use Rattle.form.specs.Spans.{over};
 ghost use Rattle.form.specs.Layout.{string_bytes};
