@@ -1,4 +1,6 @@
 // A token under the promise of its C name: it fills eight words that the caller lends (include/tikfazrul.h).
+#![tactic(auto)]
+
 ghost use Rattle.std.specs.Prelude.{◌≡◌};
 ghost use Rattle.snbt_tokens.specs.Answers.{token_is, stops_is};
 ghost use Rattle.snbt_tokens.specs.Quiet.{Quiet};

@@ -40,16 +40,12 @@ carried_first_spec =
     (λ c. search rules)
     (λ c. rw c.in-Str.is refl)
     (λ c.
-    let m = c.before.before in
-    rw c.in-Byte.is (c.bits_of.ensures ∙ bits-kept c.in-Byte.z (record { sfits = c.known_told-in-Byte-1.given.0.1 })))
+    rw c.in-Byte.is (c.bits_of.ensures ∙ bits-kept c.in-Byte.z (record { sfits = c.in-Byte.known_told-in-Byte-1-own.given.0.1 })))
     (λ c.
-    let m = c.before.before in
-    rw c.in-Short.is (c.bits_of-in-Short.ensures ∙ bits-kept c.in-Short.z (record { sfits = c.known_told-in-Short-1.given.0.1 })))
+    rw c.in-Short.is (c.bits_of-in-Short.ensures ∙ bits-kept c.in-Short.z (record { sfits = c.in-Short.known_told-in-Short-1-own.given.0.1 })))
     (λ c.
-    let m = c.before.before in
-    rw c.in-Int.is (c.bits_of-in-Int.ensures ∙ bits-kept c.in-Int.z (record { sfits = c.known_told-in-Int-1.given.0.1 })))
+    rw c.in-Int.is (c.bits_of-in-Int.ensures ∙ bits-kept c.in-Int.z (record { sfits = c.in-Int.known_told-in-Int-1-own.given.0.1 })))
     (λ c.
-    let m = c.before.before in
-    rw c.in-Long.is (c.bits_of-in-Long.ensures ∙ bits-kept c.in-Long.z (record { sfits = c.known_told-in-Long-1.given.0.1 })))
+    rw c.in-Long.is (c.bits_of-in-Long.ensures ∙ bits-kept c.in-Long.z (record { sfits = c.in-Long.known_told-in-Long-1-own.given.0.1 })))
     (λ c. rw c.in-Float.is refl)
     (λ c. rw c.in-Double.is refl))

@@ -15,25 +15,13 @@ token_spec =
     (λ c. search rules)
     (λ c κs. search rules)
     (λ c κs.
-    let k = c.before.before in
-    let d = k.before.before in
-    found-quiet _ _ _ _ _ _ d.«data».given.1 d.before.before.token.ensures)
+    found-quiet _ _ _ _ _ _ c.in-Found.is c.token.ensures)
     (λ c κs. search rules)
     (λ c. search rules)
     (λ c. search rules)
     (λ c. search rules)
     (λ c.
-    let k = c.before.before.before in
-    let w = k.before.before in
-    let d = w.before.before in
-    let l = d.before.before in
-    token-found _ _ l.before.before.before.args.stops _ l.token.ensures l.before.stops_of.ensures d.«data».given.1
-    k.token_kind.ensures c.before.before.Carried-first.ensures c.before.carried_second.ensures)
-    (λ c.
-    let d = c.before.before in
-    let l = d.before.before in
-    token-ended _ _ l.before.before.before.args.stops _ l.token.ensures l.before.stops_of.ensures d.in-Ended.is)
-    (λ c.
-    let d = c.before.before in
-    let l = d.before.before in
-    token-refused _ _ l.before.before.before.args.stops _ l.token.ensures l.before.stops_of.ensures d.in-Refused.is))
+    token-found _ _ c.args.stops _ c.token.ensures c.stops_of.ensures c.in-Found.is
+    c.token_kind.ensures c.carried_first.ensures c.carried_second.ensures)
+    (λ c. token-ended _ _ c.args.stops _ c.token.ensures c.stops_of.ensures c.in-Ended.is)
+    (λ c. token-refused _ _ c.args.stops _ c.token.ensures c.stops_of.ensures c.in-Refused.is))
