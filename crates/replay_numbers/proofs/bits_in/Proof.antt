@@ -5,51 +5,51 @@ use native.Mathlib.Omega.{arith}
 use Rattle.replay_numbers.proofs.bits_in.Statement.{statement}
 use Rattle.replay_numbers.proofs.bits_in.Tie as tie
 
-abbrev invariant-loop : tie.invariant-loop
+abbrev invariant-loop : tie.invariant-loop-at
 invariant-loop line from to bits₀ at₀ bits at = Unit {0}
 
-abbrev decreases-loop : tie.decreases-loop
+abbrev decreases-loop : tie.decreases-loop-at
 decreases-loop line from to bits₀ at₀ bits at = to - at
 
-loop-holds : tie.Need-loop-init invariant-loop decreases-loop
+loop-holds : tie.Need-loop-at-init invariant-loop decreases-loop
 loop-holds c = tt
 
-mul-bits : tie.Need-overflow-mul-bits invariant-loop decreases-loop
+mul-bits : tie.Need-overflow_mul-bits invariant-loop decreases-loop
 mul-bits c = omega arith
 
-shared-slice-read-digit : tie.Need-shared-slice-read-digit invariant-loop decreases-loop
-shared-slice-read-digit c = omega arith
+shared_slice_read-digit : tie.Need-bounds-line-at invariant-loop decreases-loop
+shared_slice_read-digit c = omega arith
 
 digit-requires : tie.Need-digit-requires invariant-loop decreases-loop
 digit-requires c κs = tt
 
-cast-bits : tie.Need-overflow-cast-bits invariant-loop decreases-loop
+cast-bits : tie.Need-overflow_cast-bits invariant-loop decreases-loop
 cast-bits c = omega arith
 
-add-bits : tie.Need-overflow-add-bits invariant-loop decreases-loop
+add-bits : tie.Need-overflow_add-bits invariant-loop decreases-loop
 add-bits c = omega arith
 
-add_at : tie.Need-overflow-add-at invariant-loop decreases-loop
+add_at : tie.Need-overflow_add-at invariant-loop decreases-loop
 add_at c = omega arith
 
-loop-less : tie.Need-loop-smaller invariant-loop decreases-loop
+loop-less : tie.Need-loop-at-smaller invariant-loop decreases-loop
 loop-less c = omega arith
 
-loop-again : tie.Need-loop-preserved invariant-loop decreases-loop
+loop-again : tie.Need-loop-at-preserved invariant-loop decreases-loop
 loop-again c = tt
 
 returns : tie.Need-returns invariant-loop decreases-loop
 returns c = tt
 
-pub bits-in-spec : {M : Type 1} → statement M
-bits-in-spec =
+pub bits_in_spec : {M : Type 1} → statement M
+bits_in_spec =
     tie.close
     (tie.spec
     invariant-loop
     decreases-loop
     loop-holds
     mul-bits
-    shared-slice-read-digit
+    shared_slice_read-digit
     digit-requires
     cast-bits
     add-bits

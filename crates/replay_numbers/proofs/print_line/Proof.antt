@@ -5,59 +5,59 @@ use borrow.Author.Rules.{rules}
 use Rattle.replay_numbers.proofs.print_line.Statement.{statement}
 use Rattle.replay_numbers.proofs.print_line.Tie as tie
 
-slice-aggregate-write-all : tie.Need-slice-aggregate-write-all
-slice-aggregate-write-all c = search rules
+slice-aggregate-write_all : tie.Need-slice-aggregate-write_all
+slice-aggregate-write_all c = search rules
 
-write-all-requires : tie.Need-write-all-requires
-write-all-requires c κs = search rules
+write_all-requires : tie.Need-write_all-requires
+write_all-requires c κs = search rules
 
-returns : tie.Need-returns
+returns : tie.Need-returns-then-len-lt2
 returns c = search rules
 
-slice-aggregate-write-all-2 : tie.Need-slice-aggregate-write-all-2
-slice-aggregate-write-all-2 c = search rules
+slice-aggregate-write_all-2 : tie.Need-slice-aggregate-write_all-2
+slice-aggregate-write_all-2 c = search rules
 
-write-all-requires-2 : tie.Need-write-all-requires-2
-write-all-requires-2 c κs = search rules
+write_all-requires-2 : tie.Need-write_all-requires-then-line-len
+write_all-requires-2 c κs = search rules
 
-returns-2 : tie.Need-returns-2
+returns-2 : tie.Need-returns-then-line-len
 returns-2 c = search rules
 
-shared-slice-read-if3 : tie.Need-shared-slice-read-if3
-shared-slice-read-if3 c = search rules
+shared_slice_read-if3 : tie.Need-bounds-line-0
+shared_slice_read-if3 c = search rules
 
-bits-in-requires : tie.Need-bits-in-requires
-bits-in-requires c κs = search rules
+bits_in-requires : tie.Need-bits_in-requires
+bits_in-requires c κs = search rules
 
-print-single-requires : tie.Need-print-single-requires
-print-single-requires c κs = search rules
+print_single-requires : tie.Need-print_single-requires
+print_single-requires c κs = search rules
 
-returns-3 : tie.Need-returns-3
+returns-3 : tie.Need-returns-then-line-eq115
 returns-3 c = search rules
 
-number-at-requires : tie.Need-number-at-requires
-number-at-requires c κs = search rules
+number_at-requires : tie.Need-number_at-requires
+number_at-requires c κs = search rules
 
-print-number-requires : tie.Need-print-number-requires
-print-number-requires c κs = number-quiet c.number_at.result _ 2 c.number_at.ensures
+print_number-requires : tie.Need-print_number-requires
+print_number-requires c κs = number-quiet c.number_at.result _ 2 c.number_at.ensures
 
-returns-4 : tie.Need-returns-4
+returns-4 : tie.Need-returns
 returns-4 c = search rules
 
-pub print-line-spec : {M : Type 1} → statement M
-print-line-spec =
+pub print_line_spec : {M : Type 1} → statement M
+print_line_spec =
     tie.close
     (tie.spec
-    slice-aggregate-write-all
-    write-all-requires
+    slice-aggregate-write_all
+    write_all-requires
     returns
-    slice-aggregate-write-all-2
-    write-all-requires-2
+    slice-aggregate-write_all-2
+    write_all-requires-2
     returns-2
-    shared-slice-read-if3
-    bits-in-requires
-    print-single-requires
+    shared_slice_read-if3
+    bits_in-requires
+    print_single-requires
     returns-3
-    number-at-requires
-    print-number-requires
+    number_at-requires
+    print_number-requires
     returns-4)

@@ -15,47 +15,47 @@ use Rattle.replay_numbers.proofs.print_single.Tie as tie
 some_number : (n : ℕ) → n % 2 ^ 63 ≤ 0x7ff0_0000_0000_0000 → T (not (nan_bits binary64 n))
 some_number n h = subst (λ (b : Bool). T (not b)) (sym (nan_bits_above binary64 n)) (le→nltb 0x7ff0_0000_0000_0000 (n % 2 ^ 63) h)
 
-slice-aggregate-write-all : tie.Need-slice-aggregate-write-all
-slice-aggregate-write-all c = search rules
+slice-aggregate-write_all : tie.Need-slice-aggregate-write_all
+slice-aggregate-write_all c = search rules
 
-write-all-requires : tie.Need-write-all-requires
-write-all-requires c κs = search rules
+write_all-requires : tie.Need-write_all-requires
+write_all-requires c κs = search rules
 
-returns : tie.Need-returns
+returns : tie.Need-returns-then-bits-gt9218868437227405312
 returns c = search rules
 
-float-from-bits-f32-bits : tie.Need-float-from-bits-f32-bits
-float-from-bits-f32-bits c = some_number c.before.args.bits c.if1.false
+float_from_bits-f32_bits : tie.Need-float_from_bits-bits
+float_from_bits-f32_bits c = some_number c.before.args.bits c.if-bits-gt9218868437227405312.false
 
-f32-bits-requires : tie.Need-f32-bits-requires
-f32-bits-requires c κs = subst (λ (b : Bool). T (not b)) (nan_bits_is binary64 c.before.args.bits) (some_number c.before.args.bits c.if1.false)
+f32_bits-requires : tie.Need-f32_bits-requires
+f32_bits-requires c κs = subst (λ (b : Bool). T (not b)) (nan_bits_is binary64 c.before.args.bits) (some_number c.before.args.bits c.if-bits-gt9218868437227405312.false)
 
-cast-print-hex : tie.Need-overflow-cast-print-hex
-cast-print-hex c = search rules
+cast-print_hex : tie.Need-overflow_cast-f32_bits
+cast-print_hex c = search rules
 
-print-hex-requires : tie.Need-print-hex-requires
-print-hex-requires c κs = search rules
+print_hex-requires : tie.Need-print_hex-requires
+print_hex-requires c κs = search rules
 
-slice-aggregate-write-all-2 : tie.Need-slice-aggregate-write-all-2
-slice-aggregate-write-all-2 c = search rules
+slice-aggregate-write_all-2 : tie.Need-slice-aggregate-write_all-2
+slice-aggregate-write_all-2 c = search rules
 
-write-all-requires-2 : tie.Need-write-all-requires-2
-write-all-requires-2 c κs = search rules
+write_all-requires-2 : tie.Need-write_all-requires-2
+write_all-requires-2 c κs = search rules
 
-returns-2 : tie.Need-returns-2
+returns-2 : tie.Need-returns
 returns-2 c = search rules
 
-pub print-single-spec : {M : Type 1} → statement M
-print-single-spec =
+pub print_single_spec : {M : Type 1} → statement M
+print_single_spec =
     tie.close
     (tie.spec
-    slice-aggregate-write-all
-    write-all-requires
+    slice-aggregate-write_all
+    write_all-requires
     returns
-    float-from-bits-f32-bits
-    f32-bits-requires
-    cast-print-hex
-    print-hex-requires
-    slice-aggregate-write-all-2
-    write-all-requires-2
+    float_from_bits-f32_bits
+    f32_bits-requires
+    cast-print_hex
+    print_hex-requires
+    slice-aggregate-write_all-2
+    write_all-requires-2
     returns-2)
