@@ -3,6 +3,8 @@
 // decimal. For each line it prints whether the words form a table; the writer's answer, of a refusal its number, its place and the record
 // beside it (02, [3]); the whole output after the write, which was filled with AA before; and whether the table's words changed. The answers
 // in stdout are of a second check and a second writer: tests/replay/tables.py made them.
+#![tactic(auto)]
+
 ghost use Rattle.std.specs.Prelude.{◌≡◌, length};
 
 use form::forms::JAVA;
