@@ -1,5 +1,7 @@
 // The listing program of document 01: reads hexadecimal lines, one document a line, and lists the records of each, or its refusal. A
 // document has at most 4,096 bytes and 512 records.
+#![tactic(auto)]
+
 use lines::{Hex, Line};
 use nbt_reader::Answer;
 

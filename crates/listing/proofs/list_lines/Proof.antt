@@ -1,7 +1,6 @@
 -- `listing::list_lines` is safe and ends: the turns fall.
 -- Assumes nothing.
 use borrow.Author.Rules.{rules}
-use Prim.Native.Nat.{◌-◌}
 use mathlib.Core.Path.{◌≡◌, refl}
 use lib.ListN.{length}
 use Rattle.listing.proofs.list_lines.Statement.{statement}
@@ -49,9 +48,6 @@ enum_known-rest c = search rules
 
 print_place-requires : tie.Need-print_place-requires invariant-loop decreases-loop
 print_place-requires c κs = search rules
-
-slice-aggregate-write_all : tie.Need-slice-aggregate-write_all invariant-loop decreases-loop
-slice-aggregate-write_all c = search rules
 
 write_all-requires : tie.Need-write_all-requires invariant-loop decreases-loop
 write_all-requires c κs = search rules
@@ -110,7 +106,6 @@ list_lines_spec =
     returns
     enum_known-rest
     print_place-requires
-    slice-aggregate-write_all
     write_all-requires
     loop-less
     loop-again
