@@ -1,6 +1,8 @@
 // Replays recorded answers on documents up to the limit of depth and past it: depth 512 passes, 513 is refusal 7. A line of input is a
 // document in hexadecimal digits, of at most 8,192 bytes; there is room for 1,100 records. For each line it prints what the listing program
 // prints first. The answers in stdout are of a second reader: tests/replay/depths.py made them.
+#![tactic(auto)]
+
 use lines::{Hex, Line};
 use nbt_reader::Answer;
 
