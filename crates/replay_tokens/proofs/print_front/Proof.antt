@@ -6,8 +6,8 @@ use lib.Seq.{length-take-le}
 use Rattle.replay_tokens.proofs.print_front.Statement.{statement}
 use Rattle.replay_tokens.proofs.print_front.Tie as tie
 
-pub print-front-spec : {M : Type 1} → statement M
-print-front-spec =
+pub print_front_spec : {M : Type 1} → statement M
+print_front_spec =
     tie.close
     (tie.spec
     (λ c. search rules)

@@ -5,19 +5,19 @@ use Rattle.snbt_lexer.proofs.Answered.{found-quiet}
 use Rattle.replay_tokens.proofs.print_lexed.Statement.{statement}
 use Rattle.replay_tokens.proofs.print_lexed.Tie as tie
 
-print-token-requires : tie.Need-print-token-requires
-print-token-requires c κs =
+print_token-requires : tie.Need-print_token-requires
+print_token-requires c κs =
     let told = c.before.before.before in
     let found = told.before in
-    found-quiet _ _ _ _ _ _ found.«data».given.1 found.before.before.token.ensures
+    found-quiet _ _ _ _ _ _ found.«data».given.1 c.token.ensures
 
-pub print-lexed-spec : {M : Type 1} → statement M
-print-lexed-spec =
+pub print_lexed_spec : {M : Type 1} → statement M
+print_lexed_spec =
     tie.close
     (tie.spec
     (λ c κs. search rules)
     (λ c. search rules)
-    print-token-requires
+    print_token-requires
     (λ c. search rules)
     (λ c. search rules)
     (λ c κs. search rules)

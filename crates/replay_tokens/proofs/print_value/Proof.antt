@@ -6,11 +6,11 @@ use Rattle.snbt_tokens.specs.Quiet.{Quiet}
 use Rattle.replay_tokens.proofs.print_value.Statement.{statement}
 use Rattle.replay_tokens.proofs.print_value.Tie as tie
 
-abbrev start_of : tie.After-slice-known → tie.Start
+abbrev start_of : tie.After-slice_known-1 → tie.Start
 start_of c = c.before.before
 
-pub print-value-spec : {M : Type 1} → statement M
-print-value-spec =
+pub print_value_spec : {M : Type 1} → statement M
+print_value_spec =
     tie.close
     (tie.spec
     (λ c. search rules)
@@ -35,9 +35,9 @@ print-value-spec =
     (λ c κs. search rules)
     (λ c κs. search rules)
     (λ c. search rules)
-    (λ c κs. subst Quiet c.before.token6.given.1 (start_of c.before.before.before).requires)
+    (λ c κs. subst Quiet c.before.in-Float.is (start_of c.before.before.before).requires)
     (λ c. search rules)
-    (λ c κs. subst Quiet c.before.token7.given.1 (start_of c.before.before.before).requires)
+    (λ c κs. subst Quiet c.before.in-Double.is (start_of c.before.before.before).requires)
     (λ c. search rules)
     (λ c. search rules)
     (λ c. search rules)
