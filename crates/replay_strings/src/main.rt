@@ -1,5 +1,7 @@
 // Replays recorded answers on strings: for each line of hexadecimal digits it prints what modified UTF-8 and UTF-8 make of the bytes, and
 // the bytes from UTF-8 to modified UTF-8. The answers in stdout are the JDK's: tests/replay/Strings.java made them.
+#![tactic(auto)]
+
 use chars::{Front, Put};
 use lines::{Hex, Line};
 use mutf8::Checked;
