@@ -2,6 +2,8 @@
 // the table's words, of eight hexadecimal digits each; a query's bytes in hexadecimal digits; and the room of the list in words, decimal. For
 // each line it prints the answer and every word of the list, which was filled with AAAAAAAA before. The answers in stdout are of a second
 // reading of rule 9, on trees: tests/replay/queries.py made them.
+#![tactic(auto)]
+
 use lines::Line;
 use query::Found;
 

@@ -6,14 +6,14 @@ use lib.ListN.{length}
 use Rattle.replay_queries.proofs.print_words.Statement.{statement}
 use Rattle.replay_queries.proofs.print_words.Tie as tie
 
-abbrev invariant-loop : tie.invariant-loop
+abbrev invariant-loop : tie.invariant-loop-i
 invariant-loop words i₀ i = i ≤ length words
 
-abbrev decreases-loop : tie.decreases-loop
+abbrev decreases-loop : tie.decreases-loop-i
 decreases-loop words i₀ i = length words - i
 
-pub print-words-spec : {M : Type 1} → statement M
-print-words-spec =
+pub print_words_spec : {M : Type 1} → statement M
+print_words_spec =
     tie.close
     (tie.spec
     invariant-loop
