@@ -1,4 +1,6 @@
 // Request [11]: of a document that is cut in transfer a whole one is written, with every tag that was completely read before the cut.
+#![tactic(auto)]
+
 ghost use Rattle.std.specs.Prelude.{◌≡◌, length};
 ghost use Rattle.form.specs.Answer.{no};
 ghost use Rattle.form.specs.Form.{form_no};

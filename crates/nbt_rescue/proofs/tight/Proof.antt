@@ -8,43 +8,21 @@ use Rattle.nbt_rescue.proofs.Cuts.{read_again, tight-full, tight-saved}
 use Rattle.nbt_rescue.proofs.tight.Statement.{statement}
 use Rattle.nbt_rescue.proofs.tight.Tie as tie
 
--- The places that the ways to an answer go by: the call of `lay`, the start.
-abbrev lay-of : tie.After-slice_known-5-1 → tie.After-lay
-lay-of c = let at_table = c.before.before in at_table.before.before
-
-abbrev start_of : tie.After-lay → tie.Start
-start_of c =
-    let at-changes = c.before.before.before in
-    let at-doc = at-changes.before.before.before in
-    at-doc.before
-
 -- The layout leaves the table as long as it was.
 gather-requires : tie.Need-gather-requires
 gather-requires c κs =
-    let at-bytes = c.before.before.before in
-    let at-lay = lay-of at-bytes in
-    let start = start_of at-lay in
-    ((_, read_again _ _ start.args.table.now at-lay.lay.new.1.0 at-lay.lay.kept.1.0 start.requires.cut.1), omega arith)
+    ((_, read_again _ _ c.args.table.now c.lay.new.table c.lay.auto.table c.requires.cut.1), omega arith)
 
 -- 13.
 returns : tie.Need-returns-in-Refused
 returns c =
-    let at-number = c.before in
-    let at-lay = lay-of at-number in
-    let start = start_of at-lay in
-    tight-full _ _ _ _ _ _ _ start.requires _ _ at-lay.lay.ensures _ _ _ (ap answer_out c.in-Refused.is)
+    tight-full _ _ _ _ _ _ _ c.requires _ _ c.lay.ensures _ _ _ (ap answer_out c.in-Refused.is)
 
 -- The document is written, and the lines are put when all is gathered once more.
 returns-2 : tie.Need-returns-in-Written
 returns-2 c =
-    let at_table = c.before.before in
-    let at-gather = at_table.before.before in
-    let at_arg = at-gather.before in
-    let at-bytes = at_arg.before.before.before in
-    let at-lay = lay-of at-bytes in
-    let start = start_of at-lay in
-    tight-saved _ _ _ _ _ _ _ start.requires _ _ at-lay.lay.ensures _ (ap answer_out c.in-Written.is)
-    at-lay.lay.new.1.0 _ _ at-lay.lay.kept.1.0 c.gather.result c.gather.ensures
+    tight-saved _ _ _ _ _ _ _ c.requires _ _ c.lay.ensures _ (ap answer_out c.in-Written.is)
+    c.lay.new.table _ _ c.lay.auto.table c.gather.result c.gather.ensures
 
 pub tight_spec : {M : Type 1} → statement M
 tight_spec =
