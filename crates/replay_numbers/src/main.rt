@@ -1,5 +1,7 @@
 // Replays recorded numbers: for each token of a line it prints the tag's kind and the 64 bits, of a float the single's 32 bits
 // too, or the refusal; for each double's bits the single's. The answers in stdout are Python's: tests/replay/numbers.py made them.
+#![tactic(auto)]
+
 ghost use Rattle.snbt_numbers.specs.Answers.{quiet};
 ghost use Rattle.std.specs.Prelude.{not, ◌≤◌, T, length};
 ghost use Rattle.std.specs.Float.Ieee.{is_nan};

@@ -5,17 +5,11 @@ use borrow.Author.Rules.{rules}
 use Rattle.replay_numbers.proofs.print_line.Statement.{statement}
 use Rattle.replay_numbers.proofs.print_line.Tie as tie
 
-slice-aggregate-write_all : tie.Need-slice-aggregate-write_all
-slice-aggregate-write_all c = search rules
-
 write_all-requires : tie.Need-write_all-requires
 write_all-requires c κs = search rules
 
 returns : tie.Need-returns-then-len-lt2
 returns c = search rules
-
-slice-aggregate-write_all-2 : tie.Need-slice-aggregate-write_all-2
-slice-aggregate-write_all-2 c = search rules
 
 write_all-requires-2 : tie.Need-write_all-requires-then-line-len
 write_all-requires-2 c κs = search rules
@@ -48,10 +42,8 @@ pub print_line_spec : {M : Type 1} → statement M
 print_line_spec =
     tie.close
     (tie.spec
-    slice-aggregate-write_all
     write_all-requires
     returns
-    slice-aggregate-write_all-2
     write_all-requires-2
     returns-2
     shared_slice_read-if3

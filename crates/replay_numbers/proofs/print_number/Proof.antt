@@ -34,13 +34,13 @@ enum_known-n-5 : tie.Need-enum_known-n-in-Float-1
 enum_known-n-5 c = search rules
 
 print_float-requires : tie.Need-print_float-requires
-print_float-requires c κs = let a = c.before in subst quiet c.in-Float.is a.requires
+print_float-requires c κs = subst quiet c.in-Float.is c.requires
 
 enum_known-n-6 : tie.Need-enum_known-n-in-Double-1
 enum_known-n-6 c = search rules
 
 print_double-requires : tie.Need-print_double-requires
-print_double-requires c κs = let a = c.before in subst quiet c.in-Double.is a.requires
+print_double-requires c κs = subst quiet c.in-Double.is c.requires
 
 enum_known-n-7 : tie.Need-enum_known-n-in-Refused-1
 enum_known-n-7 c = search rules

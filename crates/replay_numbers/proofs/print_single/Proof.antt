@@ -15,9 +15,6 @@ use Rattle.replay_numbers.proofs.print_single.Tie as tie
 some_number : (n : ℕ) → n % 2 ^ 63 ≤ 0x7ff0_0000_0000_0000 → T (not (nan_bits binary64 n))
 some_number n h = subst (λ (b : Bool). T (not b)) (sym (nan_bits_above binary64 n)) (le→nltb 0x7ff0_0000_0000_0000 (n % 2 ^ 63) h)
 
-slice-aggregate-write_all : tie.Need-slice-aggregate-write_all
-slice-aggregate-write_all c = search rules
-
 write_all-requires : tie.Need-write_all-requires
 write_all-requires c κs = search rules
 
@@ -25,19 +22,16 @@ returns : tie.Need-returns-then-bits-gt9218868437227405312
 returns c = search rules
 
 float_from_bits-f32_bits : tie.Need-float_from_bits-bits
-float_from_bits-f32_bits c = some_number c.before.args.bits c.if-bits-gt9218868437227405312.false
+float_from_bits-f32_bits c = some_number c.args.bits c.if-bits-gt9218868437227405312.false
 
 f32_bits-requires : tie.Need-f32_bits-requires
-f32_bits-requires c κs = subst (λ (b : Bool). T (not b)) (nan_bits_is binary64 c.before.args.bits) (some_number c.before.args.bits c.if-bits-gt9218868437227405312.false)
+f32_bits-requires c κs = subst (λ (b : Bool). T (not b)) (nan_bits_is binary64 c.args.bits) (some_number c.args.bits c.if-bits-gt9218868437227405312.false)
 
 cast-print_hex : tie.Need-overflow_cast-f32_bits
 cast-print_hex c = search rules
 
 print_hex-requires : tie.Need-print_hex-requires
 print_hex-requires c κs = search rules
-
-slice-aggregate-write_all-2 : tie.Need-slice-aggregate-write_all-2
-slice-aggregate-write_all-2 c = search rules
 
 write_all-requires-2 : tie.Need-write_all-requires-2
 write_all-requires-2 c κs = search rules
@@ -49,13 +43,11 @@ pub print_single_spec : {M : Type 1} → statement M
 print_single_spec =
     tie.close
     (tie.spec
-    slice-aggregate-write_all
     write_all-requires
     returns
     float_from_bits-f32_bits
     f32_bits-requires
     cast-print_hex
     print_hex-requires
-    slice-aggregate-write_all-2
     write_all-requires-2
     returns-2)

@@ -39,9 +39,6 @@ returns c = search rules
 enum_known-rest : tie.Need-enum_known-rest invariant-loop decreases-loop
 enum_known-rest c = search rules
 
-slice-aggregate-write_all : tie.Need-slice-aggregate-write_all invariant-loop decreases-loop
-slice-aggregate-write_all c = search rules
-
 write_all-requires : tie.Need-write_all-requires invariant-loop decreases-loop
 write_all-requires c κs = search rules
 
@@ -87,7 +84,6 @@ replay_spec =
     same_length-2
     returns
     enum_known-rest
-    slice-aggregate-write_all
     write_all-requires
     loop-less
     loop-again
