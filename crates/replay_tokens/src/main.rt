@@ -2,6 +2,8 @@
 // 2 value, 3 first element, 4 later element), a start in decimal and a text in hexadecimal digits. For each line it prints the token's number
 // (1 to 15, as in include/tikfazrul.h), index, width, next place, and the bits of a number or the content of a string; the end and its place;
 // or a refusal. The answers in stdout are quartz_nbt's: tests/replay/tokens.py recorded them.
+#![tactic(auto)]
+
 ghost use Rattle.snbt_tokens.specs.Quiet.{Quiet};
 ghost use Rattle.std.specs.Prelude.{not, T};
 ghost use Rattle.std.specs.Float.Ieee.{is_nan};

@@ -12,7 +12,6 @@ print_case_spec =
     (tie.spec
     (λ c. sym (length-take-le _ _ (search rules)))
     (λ c κs. search rules)
-    (λ c. search rules)
     (λ c κs. search rules)
     (λ c κs. search rules)
     (λ c. search rules)

@@ -10,7 +10,6 @@ pub print_front_spec : {M : Type 1} → statement M
 print_front_spec =
     tie.close
     (tie.spec
-    (λ c. search rules)
     (λ c κs. search rules)
     (λ c. sym (length-take-le _ _ (search rules)))
     (λ c κs. search rules)

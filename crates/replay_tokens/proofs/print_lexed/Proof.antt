@@ -6,10 +6,7 @@ use Rattle.replay_tokens.proofs.print_lexed.Statement.{statement}
 use Rattle.replay_tokens.proofs.print_lexed.Tie as tie
 
 print_token-requires : tie.Need-print_token-requires
-print_token-requires c κs =
-    let told = c.before.before.before in
-    let found = told.before in
-    found-quiet _ _ _ _ _ _ found.«data».given.1 c.token.ensures
+print_token-requires c κs = found-quiet _ _ _ _ _ _ c.in-Found.is c.token.ensures
 
 pub print_lexed_spec : {M : Type 1} → statement M
 print_lexed_spec =
@@ -18,7 +15,6 @@ print_lexed_spec =
     (λ c κs. search rules)
     (λ c. search rules)
     print_token-requires
-    (λ c. search rules)
     (λ c. search rules)
     (λ c κs. search rules)
     (λ c κs. search rules)

@@ -6,9 +6,6 @@ use Rattle.snbt_tokens.specs.Quiet.{Quiet}
 use Rattle.replay_tokens.proofs.print_value.Statement.{statement}
 use Rattle.replay_tokens.proofs.print_value.Tie as tie
 
-abbrev start_of : tie.After-slice_known-1 → tie.Start
-start_of c = c.before.before
-
 pub print_value_spec : {M : Type 1} → statement M
 print_value_spec =
     tie.close
@@ -35,9 +32,9 @@ print_value_spec =
     (λ c κs. search rules)
     (λ c κs. search rules)
     (λ c. search rules)
-    (λ c κs. subst Quiet c.before.in-Float.is (start_of c.before.before.before).requires)
+    (λ c κs. subst Quiet c.in-Float.is c.requires)
     (λ c. search rules)
-    (λ c κs. subst Quiet c.before.in-Double.is (start_of c.before.before.before).requires)
+    (λ c κs. subst Quiet c.in-Double.is c.requires)
     (λ c. search rules)
     (λ c. search rules)
     (λ c. search rules)
