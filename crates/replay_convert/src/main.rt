@@ -4,6 +4,8 @@
 // the output in bytes, decimal. For each line it prints whether the words form a table; the answer, of a refusal its number, its place and
 // the record beside it (02, [3]); the whole output after the call, which was filled with AA before; and whether the table's words changed.
 // The answers in stdout are of a second conversion: tests/replay/convert.py made them.
+#![tactic(auto)]
+
 use lines::Line;
 use nbt_writer::Answer;
 use table::Verdict;

@@ -6,16 +6,16 @@ use lib.ListN.{length}
 use Rattle.replay_convert.proofs.replay.Statement.{statement}
 use Rattle.replay_convert.proofs.replay.Tie as tie
 
-abbrev invariant-loop : tie.invariant-loop
+abbrev invariant-loop : tie.invariant-loop-turns
 invariant-loop chunk₀ line₀ field₀ bytes₀ doc₀ table₀ out₀ input₀ turns₀ chunk line field bytes doc table out input turns =
     (length chunk ≡ length chunk₀) × (length line ≡ length line₀) × (length field ≡ length field₀) × (length bytes ≡ length bytes₀)
     × (length doc ≡ length doc₀) × (length table ≡ length table₀) × (length out ≡ length out₀)
 
-abbrev decreases-loop : tie.decreases-loop
+abbrev decreases-loop : tie.decreases-loop-turns
 decreases-loop chunk₀ line₀ field₀ bytes₀ doc₀ table₀ out₀ input₀ turns₀ chunk line field bytes doc table out input turns = turns
 
-pub replay-spec : {M : Type 1} → statement M
-replay-spec =
+pub replay_spec : {M : Type 1} → statement M
+replay_spec =
     tie.close
     (tie.spec
     invariant-loop
