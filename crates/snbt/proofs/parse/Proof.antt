@@ -10,24 +10,24 @@ use Rattle.snbt.proofs.parse.Tie as tie
 abbrev start_of : tie.After-judged → tie.Start
 start_of c = let b = c.before.before in b.before.before
 
-returns : tie.Need-returns
+returns : tie.Need-returns-in-No
 returns c =
     let k = c.before.before in
     let n = k.before.before.before in
     let m = n.before.before in
-    let j = m.before.before in
+    let j = m in
     let a = (start_of j).args in
-    parse-refused a.text.now a.out.now _ _ _ (rw n.number.given.1 at j.judged.ensures) (k.clear.ensures ∙ ap (λ n. replicate n 0) j.judged.auto.1.0)
+    parse-refused a.text.now a.out.now _ _ _ (rw c.in-No.is at c.judged.ensures) (c.clear.ensures ∙ ap (λ n. replicate n 0) c.judged.auto.out)
 
-returns-2 : tie.Need-returns-2
+returns-2 : tie.Need-returns-in-To
 returns-2 c =
     let m = c.before.before.before in
-    let j = m.before.before in
+    let j = m in
     let a = (start_of j).args in
-    parse-read a.text.now a.out.now _ _ _ (rw c.before.next.given.1 at j.judged.ensures)
+    parse-read a.text.now a.out.now _ _ _ (rw c.in-To.is at j.judged.ensures)
 
-pub parse-spec : {M : Type 1} → statement M
-parse-spec =
+pub parse_spec : {M : Type 1} → statement M
+parse_spec =
     tie.close
     (tie.spec
     (λ c κs. search rules)

@@ -41,8 +41,8 @@ claims t = (
   large.Learnt,
 )
 
-pub +stepped-spec : {M : Type 1} → statement M
-+stepped-spec =
+pub +stepped_spec : {M : Type 1} → statement M
++stepped_spec =
     close μ-stepped λ t.
     lts.spec (claims t) (stepped-at t) stepped.Post
     (λ c. omega arith)

@@ -7,8 +7,8 @@ use borrow.Author.Rules.{rules}
 use Rattle.snbt.proofs.scratch.big.Statement.{statement}
 use Rattle.snbt.proofs.scratch.big.Tie as tie
 
-pub big-spec : {M : Type 1} → statement M
-big-spec =
+pub big_spec : {M : Type 1} → statement M
+big_spec =
     tie.close
     (tie.spec
     (λ c. search rules)

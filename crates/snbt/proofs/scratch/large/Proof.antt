@@ -7,8 +7,8 @@ use borrow.Author.Rules.{rules}
 use Rattle.snbt.proofs.scratch.large.Statement.{statement}
 use Rattle.snbt.proofs.scratch.large.Tie as tie
 
-pub large-spec : {M : Type 1} → statement M
-large-spec =
+pub large_spec : {M : Type 1} → statement M
+large_spec =
     tie.close
     (tie.spec
     (λ c. search rules)

@@ -7,8 +7,8 @@ use borrow.Author.Rules.{rules}
 use Rattle.snbt.proofs.scratch.middle.Statement.{statement}
 use Rattle.snbt.proofs.scratch.middle.Tie as tie
 
-pub middle-spec : {M : Type 1} → statement M
-middle-spec =
+pub middle_spec : {M : Type 1} → statement M
+middle_spec =
     tie.close
     (tie.spec
     (λ c. search rules)

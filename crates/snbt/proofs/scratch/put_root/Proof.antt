@@ -9,8 +9,8 @@ use Rattle.form.proofs.Table.{sets_over}
 use Rattle.snbt.proofs.scratch.put_root.Statement.{statement}
 use Rattle.snbt.proofs.scratch.put_root.Tie as tie
 
-pub put-root-spec : {M : Type 1} → statement M
-put-root-spec =
+pub put_root_spec : {M : Type 1} → statement M
+put_root_spec =
     tie.close
     (tie.spec
     (λ c. search rules)

@@ -14,53 +14,53 @@ use Rattle.snbt.proofs.Tops.{not-curly, root-no, root-other, root_in, root-as}
 use Rattle.snbt.proofs.scratch.root.Statement.{statement}
 use Rattle.snbt.proofs.scratch.root.Tie as tie
 
-abbrev start_of : tie.After-slice-known3 → tie.Start
+abbrev start_of : tie.After-slice_known-3-1 → tie.Start
 start_of c = let b = c.before.before in b.before.before
 
-returns : tie.Need-returns
+returns : tie.Need-returns-in-No
 returns c =
     let d = c.before.before.before in
     let a = (start_of d.before).args in
-    root-no a.text.now (length a.out.now) _ _ ((rw c.before.number.given.1 at d.due-at.ensures) (length a.out.now))
+    root-no a.text.now (length a.out-1.now) _ _ ((rw c.before.in-No.is at d.due_at.ensures) (length a.out-1.now))
 
 -- the token that was found
-abbrev begun : tie.After-td → tie.Start
-begun c = start_of c.before.before.before
+abbrev begun : tie.In-Is → tie.Start
+begun c = start_of c.before.before
 
-is : (c : tie.After-td) → token_at default (begun c).args.text.now 0 ≡ got (found (data_is c.td.given.0.0) c.td.given.0.1.0)
-is c = rw c.td.given.1 at c.before.before.due-at.ensures
+is : (c : tie.In-Is) → token_at default (begun c).args.text.now 0 ≡ got (found (data_is c.in-Is.td) c.in-Is.next)
+is c = rw c.in-Is.is at c.before.due_at.ensures
 
-abbrev curly-of : tie.After-enum-told → tie.After-td
-curly-of c = let i = c.before.before in i.before.before
+abbrev curly-of : tie.In-OpenCurly → tie.In-Is
+curly-of c = let i = c.before.before in i
 
 rooted-requires : tie.Need-rooted-requires
 rooted-requires c κs =
     let d = curly-of c.before.before.before in
     let z = token-moves default _ 0 _ _ (is d) (omega arith) in
-    ((begun d).pre, z.2, omega (arith, z.1))
+    ((begun d).requires, z.2, omega (arith, z.1))
 
 -- the call that read it
-abbrev rooted-of : tie.After-slice-known6 → tie.After-rooted
+abbrev rooted-of : tie.After-slice_known-in-OpenCurly-3-1 → tie.After-rooted
 rooted-of c = let k = c.before.before.before in k.before.before.before
 
-returns-2 : tie.Need-returns-2
+returns-2 : tie.Need-returns-in-OpenCurly
 returns-2 c =
     let k = rooted-of c in
     let g = k.before.before in
     let e = g.before.before in
     let d = curly-of e in
     let a = (begun d).args in
-    root-as a.out.now k.rooted.result k.rooted.last.1.1.1.0
-    (root_in a.text.now (length a.out.now) _ _ (is d) (ap (λ x. sign_of (token_is x)) e.enum_told.given.1)) k.rooted.ensures
+    root-as a.out.now k.rooted.result k.rooted.new.1.1.1.0
+    (root_in a.text.now (length a.out-1.now) _ _ (is d) (ap (λ x. sign_of (token_is x)) e.in-OpenCurly.is)) k.rooted.ensures
 
-returns-3 : tie.Need-returns-3
+returns-3 : tie.Need-returns-in_default
 returns-3 c =
-    let d = c.before.before.before in
+    let d = c.before.before in
     let a = (begun d).args in
-    root-other a.text.now (length a.out.now) _ _ (is d) (not-curly d.td.given.0.0.token c.match2.keys2)
+    root-other a.text.now (length a.out.now) _ _ (is d) (not-curly c.in-Is.td.token c.match2.keys2)
 
-pub root-spec : {M : Type 1} → statement M
-root-spec =
+pub root_spec : {M : Type 1} → statement M
+root_spec =
     tie.close
     (tie.spec
     (λ c κs. search rules)

@@ -7,8 +7,8 @@ use borrow.Author.Rules.{rules}
 use Rattle.snbt.proofs.scratch.tiny.Statement.{statement}
 use Rattle.snbt.proofs.scratch.tiny.Tie as tie
 
-pub tiny-spec : {M : Type 1} → statement M
-tiny-spec =
+pub tiny_spec : {M : Type 1} → statement M
+tiny_spec =
     tie.close
     (tie.spec
     (λ c. search rules)

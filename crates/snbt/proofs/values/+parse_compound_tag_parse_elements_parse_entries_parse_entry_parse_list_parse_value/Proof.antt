@@ -29,8 +29,8 @@ use Common.{μ-compound-tag, μ-elements, μ-entries, μ-entry, μ-list, μ-valu
 use Common.{compound-tag-at, elements-at, entries_at, entry-at, list_at, value-at}
 use Common.{entries_below, entry-below, value-below}
 
-pub +parse-compound-tag-parse-elements-parse-entries-parse-entry-parse-list-parse-value-spec : {M : Type 1} → statement M
-+parse-compound-tag-parse-elements-parse-entries-parse-entry-parse-list-parse-value-spec =
+pub +parse_compound_tag_parse_elements_parse_entries_parse_entry_parse_list_parse_value_spec : {M : Type 1} → statement M
++parse_compound_tag_parse_elements_parse_entries_parse_entry_parse_list_parse_value_spec =
     close μ-compound-tag μ-elements μ-entries μ-entry μ-list μ-value
     (λ t. compound-tag-lts.spec (entries_below t, entries.Post) (compound-tag-at t) compound-tag.Post
     (Compound.returns t)
