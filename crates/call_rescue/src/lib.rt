@@ -1,4 +1,6 @@
 // A rescue under the promise of its C name: it fills eight words that the caller lends (include/tikfazrul.h).
+#![tactic(auto)]
+
 ghost use Rattle.calls.specs.Calls.{RescueCalled};
 ghost use Rattle.form.specs.Form.{form_no};
 

@@ -6,23 +6,23 @@ use Rattle.call_rescue.proofs.rescue.Statement.{statement}
 use Rattle.call_rescue.proofs.rescue.Tie as tie
 
 -- The place that both ways to an answer go by.
-abbrev rescue-of : tie.After-slice-known6 → tie.After-rescue
+abbrev rescue-of : tie.After-slice_known-6-1 → tie.After-rescue
 rescue-of c = let at_arg = c.before.before.before in at_arg.before.before.before
 
-returns : tie.Need-returns
+returns : tie.Need-returns-in-Saved
 returns c =
     let at-answer = c.before.before in
-    let at-rescue = rescue-of at-answer.before.before in
-    rescue-saved _ _ _ _ _ _ _ _ at-answer.bytes.given.1 at-rescue.rescue.ensures
+    let at-rescue = rescue-of at-answer in
+    rescue-saved _ _ _ _ _ _ _ _ c.in-Saved.is at-rescue.rescue.ensures
 
-returns-2 : tie.Need-returns-2
+returns-2 : tie.Need-returns-in-Refused
 returns-2 c =
     let at-answer = c.before.before in
-    let at-rescue = rescue-of at-answer.before.before in
-    rescue-refused _ _ _ _ _ _ _ _ at-answer.refusal.given.1 at-rescue.rescue.ensures
+    let at-rescue = rescue-of at-answer in
+    rescue-refused _ _ _ _ _ _ _ _ c.in-Refused.is at-rescue.rescue.ensures
 
-pub rescue-spec : {M : Type 1} → statement M
-rescue-spec =
+pub rescue_spec : {M : Type 1} → statement M
+rescue_spec =
     tie.close
     (tie.spec
     (λ c κs. search rules)
