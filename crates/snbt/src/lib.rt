@@ -1,5 +1,7 @@
 // Rules 14 and 15: a text read into a document. Each function names the definition of snbt_form/specs/Text.antt that it meets.
 // The cycle of values stands in values.rt; `scratch` lends it the least memory that a text needs.
+#![tactic(auto)]
+
 mod scratch;
 mod values;
 

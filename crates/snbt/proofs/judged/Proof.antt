@@ -12,23 +12,17 @@ use Rattle.snbt.proofs.judged.Statement.{statement}
 use Rattle.snbt.proofs.judged.Tie as tie
 
 returns : tie.Need-returns-in-Refused
-returns c =
-    let a = c.args in
-    parsed-no a.text.now (length a.out.now) _ _ (sym c.judged_text.ensures ∙ ap text_out c.in-Refused.is)
+returns c = parsed-no c.args.text.now (length c.args.out.now) _ _ (sym c.judged_text.ensures ∙ ap text_out c.in-Refused.is)
 
 -- nothing was refused
-abbrev start_of : tie.In_default → tie.Start
-start_of c = let j = c.before in j.before.before.before
-
-sound : (c : tie.In_default) → judged_text (start_of c).args.text.now ≡ got tt
-sound c = sym c.before.judged_text.ensures ∙ ap text_out c.in_default.is
+sound : (c : tie.In_default) → judged_text c.args.text.now ≡ got tt
+sound c = sym c.judged_text.ensures ∙ ap text_out c.in_default.is
 
 returns-2 : tie.Need-returns
 returns-2 c =
-    let s = c.before.before in
-    let e = s.before.before in
-    let a = (start_of e).args in
-    root-as a.out.now s.stepped.result s.stepped.new.out (parsed-on a.text.now (length a.out.now) (sound e)) s.stepped.ensures
+    let a = c.args in
+    let r = c.stepped in
+    root-as a.out.now r.result r.new.out (parsed-on a.text.now (length a.out.now) (sound c.before.before.before.before)) r.ensures
 
 pub judged_spec : {M : Type 1} → statement M
 judged_spec =
@@ -38,6 +32,6 @@ judged_spec =
     (λ c. search rules)
     returns
     (λ c. search rules)
-    (λ c κs. (judged-within (start_of c.before).args.text.now (sound c.before), omega arith))
+    (λ c κs. (judged-within c.args.text.now (sound c.before), omega arith))
     (λ c. search rules)
     returns-2)

@@ -7,24 +7,13 @@ use Rattle.snbt.proofs.Tops.{parse-refused, parse-read}
 use Rattle.snbt.proofs.parse.Statement.{statement}
 use Rattle.snbt.proofs.parse.Tie as tie
 
-abbrev start_of : tie.After-judged → tie.Start
-start_of c = let b = c.before.before in b.before.before
-
 returns : tie.Need-returns-in-No
 returns c =
-    let k = c.before.before in
-    let n = k.before.before.before in
-    let m = n.before.before in
-    let j = m in
-    let a = (start_of j).args in
-    parse-refused a.text.now a.out.now _ _ _ (rw c.in-No.is at c.judged.ensures) (c.clear.ensures ∙ ap (λ n. replicate n 0) c.judged.auto.out)
+    let a = c.args in
+    parse-refused a.text.now a.out.now _ _ _ c.in-No.ensures (c.clear.ensures ∙ ap (λ n. replicate n 0) c.judged.auto.out)
 
 returns-2 : tie.Need-returns-in-To
-returns-2 c =
-    let m = c.before.before.before in
-    let j = m in
-    let a = (start_of j).args in
-    parse-read a.text.now a.out.now _ _ _ (rw c.in-To.is at j.judged.ensures)
+returns-2 c = let a = c.args in parse-read a.text.now a.out.now _ _ _ c.in-To.ensures
 
 pub parse_spec : {M : Type 1} → statement M
 parse_spec =

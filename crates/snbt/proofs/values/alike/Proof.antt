@@ -12,6 +12,6 @@ alike_spec =
     (λ c. search rules)
     (λ c. search rules)
     (λ c κs. search rules)
-    (λ c. rw (c.before.before.in-To.is, ← c.before.is_alike.ensures, c.if-is_alike.true) refl)
+    (λ c. rw (c.in-To.is, ← c.is_alike.ensures, c.if-is_alike.true) refl)
     (λ c. rw c.in-No.is refl)
-    (λ c. rw (c.before.before.in-To.is, ← c.before.is_alike.ensures, c.if-is_alike.false) refl))
+    (λ c. rw (c.in-To.is, ← c.is_alike.ensures, c.if-is_alike.false) refl))

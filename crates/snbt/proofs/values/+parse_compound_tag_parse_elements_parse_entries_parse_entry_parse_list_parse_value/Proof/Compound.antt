@@ -1,6 +1,6 @@
 -- What `parse_compound_tag` leaves to show: with a container left and room, it is the entries.
 -- Assumes nothing.
-use Prim.Native.Nat.{ℕ, ◌-◌}
+use Prim.Native.Nat.{ℕ}
 use mathlib.Core.Path.{ap}
 use native.Mathlib.Omega.{arith}
 use borrow.Fn.Kinds.{In, Out}
@@ -18,37 +18,25 @@ abbrev On : ℕ → (lts.Claims → In 4 kinds.ps → Out 4 kinds.ps kinds.r →
 On t F = F (entries_below t, entries.Post) (compound-tag-at t) compound-tag.Post
 
 module _ (t : ℕ) where
-  abbrev start_of : On t lts.After-slice_known-3-1 → On t lts.Start
-  start_of c = let b = c.before.before in b.before.before
-
   pub returns : On t lts.Need-returns-then-left-eq0
   returns c =
-      let a = (start_of c.before).args in
+      let a = c.args in
       ap block_value (compound-deep a.text.now (length a.out.now) a.left (inner a.text.now (length a.out.now) a.left) a.brace.0 a.next a.at c.if-left-eq0.true)
 
   pub returns-2 : On t lts.Need-returns-then-out-at
   returns-2 c =
-      let a = (start_of c.before.before).args in
+      let a = c.args in
       let val = inner a.text.now (length a.out.now) a.left in
-      ap block_value (compound-full a.text.now (length a.out.now) a.left val a.brace.0 a.next a.at c.before.if-left-eq0.false c.if-out-at.true)
-
-  -- the two tests that were left
-  abbrev tests-of : On t lts.After-parse_entries-arg-3-1 → On t lts.Else-out-at
-  tests-of c = c.before.before.before
+      ap block_value (compound-full a.text.now (length a.out.now) a.left val a.brace.0 a.next a.at c.if-left-eq0.false c.if-out-at.true)
 
   pub parse-entries-requires : On t lts.Need-parse_entries-requires
   parse-entries-requires c κs =
-      let e = tests-of c in
-      let s = start_of e.before.before in
-      let p = s.requires.1 in
-      (omega (arith, s.requires.0, e.before.if-left-eq0.false), (p.0, p.1, omega (arith, e.if-out-at.false), p.2, p.3))
+      let p = c.requires.1 in
+      (omega (arith, c.requires.0, c.if-left-eq0.false), (p.0, p.1, omega (arith, c.if-out-at.false), p.2, p.3))
 
   pub returns-3 : On t lts.Need-returns
   returns-3 c =
-      let b = c.before.before.before in
-      let k = b.before.before.before in
-      let e = tests-of k.before in
-      let a = (start_of e.before.before).args in
+      let a = c.args in
+      let r = c.parse_entries in
       compound-entries a.text.now a.out.now a.keys.now (record { brace = a.brace; base = a.top }) a.next a.at a.left
-      k.parse_entries.result k.parse_entries.new.1.1.1.0 k.parse_entries.new.1.1.1.1.1.0
-      e.before.if-left-eq0.left (omega (arith, e.if-out-at.left)) k.parse_entries.ensures
+      r.result r.new.out r.new.keys c.if-left-eq0.false (omega (arith, c.if-out-at.false)) r.ensures
