@@ -3,6 +3,8 @@
 // the answer, the whole output after the rescue, which was filled with AA before, every word of the list of changes, which was filled with
 // AAAAAAAA before, as the table was, and every word of the table, or that each is 0. The answers in stdout are of a second rescue, which
 // goes forward with a stack of what is open: tests/replay/rescue.py made them.
+#![tactic(auto)]
+
 use lines::Line;
 use nbt_rescue::Answer;
 
