@@ -7,6 +7,8 @@
 //   s   a string's check: the string
 // For each line it prints the answer and all that the call left in lent memory: bytes were filled with AA before, words with AAAAAAAA, for
 // which a dash stands. The answers in stdout are of a second reading of the paper: tests/replay/pocket.py made them.
+#![tactic(auto)]
+
 use form::forms::POCKET;
 use lines::Line;
 use mutf8::Checked;

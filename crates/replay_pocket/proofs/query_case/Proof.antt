@@ -6,8 +6,8 @@ use lib.Seq.{length-take-le}
 use Rattle.replay_pocket.proofs.query_case.Statement.{statement}
 use Rattle.replay_pocket.proofs.query_case.Tie as tie
 
-pub query-case-spec : {M : Type 1} → statement M
-query-case-spec =
+pub query_case_spec : {M : Type 1} → statement M
+query_case_spec =
     tie.close
     (tie.spec
     (λ c. sym (length-take-le _ _ (search rules)))

@@ -6,8 +6,8 @@ use lib.Seq.{length-take-le}
 use Rattle.replay_pocket.proofs.read_case.Statement.{statement}
 use Rattle.replay_pocket.proofs.read_case.Tie as tie
 
-pub read-case-spec : {M : Type 1} → statement M
-read-case-spec =
+pub read_case_spec : {M : Type 1} → statement M
+read_case_spec =
     tie.close
     (tie.spec
     (λ c. sym (length-take-le _ _ (search rules)))

@@ -6,8 +6,8 @@ use lib.Seq.{length-take-le}
 use Rattle.replay_pocket.proofs.rescue_case.Statement.{statement}
 use Rattle.replay_pocket.proofs.rescue_case.Tie as tie
 
-pub rescue-case-spec : {M : Type 1} → statement M
-rescue-case-spec =
+pub rescue_case_spec : {M : Type 1} → statement M
+rescue_case_spec =
     tie.close
     (tie.spec
     (λ c. sym (length-take-le _ _ (search rules)))

@@ -6,8 +6,8 @@ use lib.Seq.{length-take-le}
 use Rattle.replay_pocket.proofs.string_case.Statement.{statement}
 use Rattle.replay_pocket.proofs.string_case.Tie as tie
 
-pub string-case-spec : {M : Type 1} → statement M
-string-case-spec =
+pub string_case_spec : {M : Type 1} → statement M
+string_case_spec =
     tie.close
     (tie.spec
     (λ c. sym (length-take-le _ _ (search rules)))

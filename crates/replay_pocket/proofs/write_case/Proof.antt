@@ -6,8 +6,8 @@ use lib.Seq.{length-take-le}
 use Rattle.replay_pocket.proofs.write_case.Statement.{statement}
 use Rattle.replay_pocket.proofs.write_case.Tie as tie
 
-pub write-case-spec : {M : Type 1} → statement M
-write-case-spec =
+pub write_case_spec : {M : Type 1} → statement M
+write_case_spec =
     tie.close
     (tie.spec
     (λ c. sym (length-take-le _ _ (search rules)))
