@@ -5,8 +5,8 @@ use Rattle.call_parse.proofs.Words.{parse-is, parse-refused}
 use Rattle.call_parse.proofs.parse.Statement.{statement}
 use Rattle.call_parse.proofs.parse.Tie as tie
 
-pub parse-spec : {M : Type 1} → statement M
-parse-spec =
+pub parse_spec : {M : Type 1} → statement M
+parse_spec =
     tie.close
     (tie.spec
     (λ c κs. search rules)
@@ -14,6 +14,6 @@ parse-spec =
     (λ c. search rules)
     (λ c. search rules)
     (λ c. search rules)
-    (λ c. let d = c.before.before in let r = d.before.before in parse-is _ _ _ r.before.before.parse.ensures d.consumed.given.1)
+    (λ c. let d = c.before.before in let r = d.before.before in parse-is _ _ _ c.parse.ensures c.in-Document.is)
     (λ c. search rules)
-    (λ c. let d = c.before.before in let r = d.before.before in parse-refused _ _ _ r.before.before.parse.ensures d.refusal.given.1))
+    (λ c. let d = c.before.before in let r = d.before.before in parse-refused _ _ _ c.parse.ensures c.in-Refused.is))
