@@ -2,6 +2,8 @@
 // both in decimal, and what stands before and behind these in the text, in hexadecimal digits. For each line it prints the bytes consumed and
 // the whole output, which was filled with AA before; or the refusal, and whether the output is zero. The answers in stdout are
 // quartz_nbt's where document 01 and it agree, and worked out from 01 elsewhere: tests/replay/texts.py made them.
+#![tactic(auto)]
+
 use lines::Line;
 use snbt::Parsed;
 

@@ -7,14 +7,14 @@ use lib.ListN.{length}
 use Rattle.replay_texts.proofs.append.Statement.{statement}
 use Rattle.replay_texts.proofs.append.Tie as tie
 
-abbrev invariant-loop : tie.invariant-loop
+abbrev invariant-loop : tie.invariant-loop-i
 invariant-loop text₀ at more n i₀ text i = length text ≡ length text₀
 
-abbrev decreases-loop : tie.decreases-loop
+abbrev decreases-loop : tie.decreases-loop-i
 decreases-loop text₀ at more n i₀ text i = n - i
 
-pub append-spec : {M : Type 1} → statement M
-append-spec =
+pub append_spec : {M : Type 1} → statement M
+append_spec =
     tie.close
     (tie.spec
     invariant-loop

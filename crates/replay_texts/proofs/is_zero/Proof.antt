@@ -6,14 +6,14 @@ use lib.ListN.{length}
 use Rattle.replay_texts.proofs.is_zero.Statement.{statement}
 use Rattle.replay_texts.proofs.is_zero.Tie as tie
 
-abbrev invariant-loop : tie.invariant-loop
+abbrev invariant-loop : tie.invariant-loop-i
 invariant-loop bytes i₀ i = Unit {0}
 
-abbrev decreases-loop : tie.decreases-loop
+abbrev decreases-loop : tie.decreases-loop-i
 decreases-loop bytes i₀ i = length bytes - i
 
-pub is-zero-spec : {M : Type 1} → statement M
-is-zero-spec =
+pub is_zero_spec : {M : Type 1} → statement M
+is_zero_spec =
     tie.close
     (tie.spec
     invariant-loop

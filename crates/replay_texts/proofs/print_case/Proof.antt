@@ -6,8 +6,8 @@ use lib.Seq.{length-take-le}
 use Rattle.replay_texts.proofs.print_case.Statement.{statement}
 use Rattle.replay_texts.proofs.print_case.Tie as tie
 
-pub print-case-spec : {M : Type 1} → statement M
-print-case-spec =
+pub print_case_spec : {M : Type 1} → statement M
+print_case_spec =
     tie.close
     (tie.spec
     (λ c. sym (length-take-le _ _ (search rules)))
