@@ -1,4 +1,6 @@
 // Rule 7's check under the promise of its C name: it fills eight words that the caller lends (include/tikfazrul.h).
+#![tactic(auto)]
+
 ghost use Rattle.calls.specs.Calls.{TableCalled};
 
 use table::Verdict;

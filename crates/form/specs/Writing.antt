@@ -4,7 +4,7 @@
 -- itself is `stays java`: a string that is written as it is can't be too long for its second 12.
 -- Assumes nothing.
 use Rattle.std.specs.Prelude.{ℕ, ◌+◌, ◌-◌, ◌≡◌, List, Bool, true, false, not, ◌||◌, length, ltb, leb, eqb}
-use Rattle.form.specs.Answer.{Out, got, no, ◌>>=◌, ◌>>◌, guard, pick, Count, counted, failed, bad_string, name_twice, too_deep, over_limit, no_table, mixed_list, long_string, output_full, depth_limit, string_limit}
+use Rattle.form.specs.Answer.{Out, got, no, ◌>>◌, guard, pick, Count, counted, failed, bad_string, name_twice, too_deep, over_limit, no_table, mixed_list, long_string, output_full, depth_limit, string_limit}
 use Rattle.form.specs.Form.{Way}
 use Rattle.form.specs.Spans.{part, over}
 use Rattle.form.specs.Decoding.{good, bad, verdict_in, well_formed_in}

@@ -1,5 +1,7 @@
 // The paper in definitions: specs/ has what a reader must believe, proofs/ the laws about it. The code is
 // what every layer shares: the limits of document 01, its refusals and its kinds by name, and the form that a document is written in.
+#![tactic(auto)]
+
 pub mod forms;
 pub mod kinds;
 pub mod ways;

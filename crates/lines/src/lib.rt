@@ -1,5 +1,7 @@
 // Lines from standard input, their fields, and hexadecimal digits as bytes and words: what the listing and the replay programs share. What
 // is read and printed is tested by running; all else is promised.
+#![tactic(auto)]
+
 ghost use Rattle.std.specs.Prelude.{◌≡◌, true, ◌+◌, ◌*◌, ◌≤◌, ◌<◌, min, length, take, set};
 ghost use Rattle.form.specs.Spans.{over};
 ghost use Rattle.lines.specs.Buffers.{firsts, Front, with_byte};

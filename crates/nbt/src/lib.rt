@@ -1,5 +1,7 @@
 // The library to link: every entry point under its C name, each one line over a call that keeps the same promise. include/tikfazrul.h says
 // what each word of an answer is, crates/calls/specs defines it.
+#![tactic(auto)]
+
 ghost use Rattle.form.specs.Moved.{eight, nine};
 ghost use Rattle.form.specs.Answer.{bad_string, bad_text};
 ghost use Rattle.form.specs.Form.{modified, utf8, java, form_no, way_from, stays};

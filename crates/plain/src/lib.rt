@@ -1,5 +1,7 @@
 // Runs of plain bytes, 1 to 127 but for two that the caller names: in both codings each is a value by itself (rule 2), and in a token and its
 // content it stands for itself where neither is a backslash or the quote (rule 12). Many are told at a time, with no branch for each.
+#![tactic(auto)]
+
 ghost use Rattle.std.specs.Prelude.{◌≡◌, ◌+◌, ◌-◌, ◌≤◌, length, nat_lt};
 ghost use Rattle.form.specs.Answer.{pick};
 ghost use Rattle.plain.specs.Runs.{plain_byte, mark, plain_in, short_plain, Plain};

@@ -1,6 +1,8 @@
 // Numbers in bytes, as rule 1 has them: two's complement, floats as their bits, the highest byte first or, in the pocket edition's form
 // (02, [2]), the lowest. They are read from a slice at a place and written to one; byte order is in `place_of` alone, and the width is a
 // parameter.
+#![tactic(auto)]
+
 ghost use Rattle.std.specs.Prelude.{◌≡◌, ◌+◌, ◌^◌, ◌<◌, ◌≤◌, length};
 ghost use Rattle.std.specs.Int.Signed.{mag};
 ghost use Rattle.form.specs.Form.{order_in};

@@ -1,4 +1,6 @@
 // Bytes copied and cleared, for every layer that writes to lent memory.
+#![tactic(auto)]
+
 ghost use Rattle.std.specs.Prelude.{◌≡◌, ◌+◌, ◌≤◌, length, replicate};
 ghost use Rattle.form.specs.Spans.{part, over};
 

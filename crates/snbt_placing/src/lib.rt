@@ -1,5 +1,7 @@
 // What is asked of a value before it is written (rule 15): its range, then its kind, then its room; and the answer that values share.
 // A place may lie past the output's end: there is no room there, and nothing overflows.
+#![tactic(auto)]
+
 ghost use Rattle.std.specs.Prelude.{◌≡◌, ◌||◌, ◌+◌, ◌≤◌, ◌<◌, leb, eqb};
 ghost use Rattle.snbt_form.specs.Text.{in_range};
 ghost use Rattle.snbt_placing.specs.Done.{AdmittedIs};

@@ -1,5 +1,7 @@
 // A record's words (rule 6, and 02 [7] for the ninth): the one place that knows how many there are and which is which. Reader, writer
 // and query go through these functions. Then rule 7: whether words form a table.
+#![tactic(auto)]
+
 pub mod kinds;
 
 ghost use Rattle.std.specs.Prelude.{◌≡◌, true, ℕ, ◌+◌, ◌*◌, ◌≤◌, ◌<◌, ◌^◌, length, replicate};
