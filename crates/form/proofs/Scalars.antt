@@ -1,4 +1,4 @@
--- Laws of scalar values in modified UTF-8 (rule 2): `scalarOf` reads what `scalarBytes` writes, and nothing else.
+-- Laws of scalar values in modified UTF-8 (rule 2): `scalar_of` reads what `scalar_bytes` writes, and nothing else.
 -- Assumes nothing.
 use Prim.Native.Nat.{ℕ, ◌+◌, ◌-◌, ◌*◌, ◌/◌, ◌%◌, ◌≤◌, ◌<◌}
 use mathlib.Core.Path.{◌≡◌, refl, ◌∙◌}

@@ -1,4 +1,4 @@
--- Laws of 16-bit units (rule 2): `unit_of` reads what `unitBytes` writes, and nothing else.
+-- Laws of 16-bit units (rule 2): `unit_of` reads what `unit_bytes` writes, and nothing else.
 -- Assumes nothing.
 use Prim.Native.Nat.{ℕ, ◌+◌, ◌/◌, ◌%◌, ◌≤◌, ◌<◌}
 use mathlib.Core.Path.{◌≡◌, refl, ap}

@@ -1,4 +1,4 @@
--- Laws of scalar values in UTF-8: `utf8Of` reads what `utf8Bytes` writes, and nothing else.
+-- Laws of scalar values in UTF-8: `utf8_of` reads what `utf8_bytes` writes, and nothing else.
 -- Assumes nothing.
 use Prim.Native.Nat.{ℕ, ◌+◌, ◌-◌, ◌*◌, ◌/◌, ◌%◌, ◌≤◌, ◌<◌}
 use mathlib.Core.Path.{◌≡◌, refl, sym, ap, ◌∙◌}

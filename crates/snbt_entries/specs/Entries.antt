@@ -32,7 +32,7 @@ module _ (t : List ℕ) (room : ℕ) where
     s ← following t room 125 e.1.next unmatched_brace brace
     got (enters e.0 e.1 s)
 
-  -- One turn of `entriesBy`.
+  -- One turn of `entries_by`.
   unfoldable pub entry_turn : Reads → ℕ → List (List ℕ) → Last → ℕ → ℕ → Out Entered
   entry_turn val brace earlier last p u = do
     x ← due t room key p unmatched_brace brace

@@ -7,7 +7,7 @@ use Rattle.form.specs.Tree.{Tag, kind_of}
 use Rattle.form.specs.Layout.{payload}
 use Rattle.snbt_form.specs.Text.{Value, ranged, string_of}
 
--- What is left to ask of a scalar whose tag is known, as `scalarValue` asks it: its kind (11), then its room (13).
+-- What is left to ask of a scalar whose tag is known, as `scalar_value` asks it: its kind (11), then its room (13).
 unfoldable pub placed : ℕ → ℕ → Tag → ℕ → ℕ → ℕ → Out Value
 placed room want tag p n u = do
   guard (eqb want 0 || eqb (kind_of tag) want) mixed_list p

@@ -45,5 +45,5 @@ four_spec =
     (λ c κs. omega (arith, mask_lt (d-of c.before).args.a 3, c.join.ensures))
     (λ c κs. omega (arith, mask_lt (d-of c.before.before).args.a 3, c.before.join.ensures, c.join-2.ensures))
     (λ c. rw (joined c.before) (simp (lt-ltb _ _ c.if-u-lt65536.true)))
-    (λ c. rw (joined c.before.before) (simp (le-ltb _ _ c.before.if-u-lt65536.false, le-leb _ _ c.if-u-ge1114112.true)))
-    (λ c. rw (joined c.before.before) (simp (le-ltb _ _ c.before.if-u-lt65536.false, lt-leb _ _ c.if-u-ge1114112.false))))
+    (λ c. rw (joined c.before.before) (simp (le-ltb _ _ c.before.if-u-lt65536.false, le-leb 1114112 c.join-u.result (omega arith))))
+    (λ c. rw (joined c.before.before) (simp (le-ltb _ _ c.before.if-u-lt65536.false, lt-leb 1114112 c.join-u.result (omega arith)))))

@@ -25,5 +25,5 @@ is_plain_spec =
     (λ c κs. search rules)  -- both-plain-requires-3
     (λ c. let eight = c.before.before.before in short eight.before.before _ (omega arith) c.both_plain-then-size-lt32.ensures)  -- returns-4
     (λ c κs. search rules)  -- both-plain-requires-4
-    (λ c. let eight = c.before.before.before in short eight.before.before.before _ (omega arith) c.both_plain-then-size-lt64.ensures)  -- returns-5
-    (λ c. simp (le-ltb _ 64 c.if-size-lt64.false)))  -- returns-6
+    (λ c. let eight = c.before.before.before in short eight.before.before.before _ (omega arith) (search rules))  -- returns-5
+    (λ c. simp (le-ltb (length c.args.text.now) 64 (omega arith))))  -- returns-6

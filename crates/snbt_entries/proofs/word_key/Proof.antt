@@ -36,4 +36,4 @@ word_key_spec =
     let inside = c.before.before.before in
     let ran = inside.before in
     let a = (start_of ran).args in
-    word-ends a.text.now a.i ran.run_end-end.result ran.before.if-text-i-lt60.false (run ran) inside.if-text-end.false c.before.if-text-end-ne58.false c.if-end-i-gt-STRING.false))
+    word-ends a.text.now a.i ran.run_end-end.result ran.before.if-text-i-lt60.false (run ran) inside.if-text-end.false c.before.if-text-end-ne58.false (omega arith)))
