@@ -15,11 +15,11 @@ following_spec =
     (λ c κs. search rules)
     (λ c.
     let p = c.peek_at-peeked in
-    omega (arith, sign-within c.args.text.now c.args.place p.result p.ensures c.requires.0 comma (omega arith) c.if-b-eq44.true))
+    omega (arith, sign-within c.args.text.now c.args.place p.result p.ensures c.requires.0 comma (omega arith) (omega arith)))
     (λ c.
     let p = c.peek_at-peeked in
     let a = c.args in
-    front-comma a.text.now a.place p.result p.ensures c.requires.0 a.closing a.number a.end c.if-b-eq44.true)
+    front-comma a.text.now a.place p.result p.ensures c.requires.0 a.closing a.number a.end (omega arith))
     (λ c.
     let p = c.peek_at-peeked in
     let a = c.args in
@@ -35,7 +35,7 @@ following_spec =
     let p = c.peek_at-peeked in
     let a = c.args in
     front-other a.text.now a.place p.result p.ensures c.requires.0 a.closing a.number a.end c.requires.1
-    c.if-b-eq44.false c.if-b-closing.false _ _ (rw c.in-Is.is at c.due_at.ensures))
+    (λ e. omega (arith, e)) c.if-b-closing.false _ _ (rw c.in-Is.is at c.due_at.ensures))
     (λ c.
     let a = c.args in
     λ room. following-no a.text.now room a.closing a.place a.number a.end _ _ ((rw c.in-No.is at c.due_at.ensures) room)))

@@ -14,16 +14,16 @@ add_spec =
     (λ c κs. search rules)
     (λ c κs. search rules)
     (λ c. search rules)
-    (λ c κs. (full-whole c.requires _ c.put_in.ensures c.joint-mid.ensures c.if-top-mid-eq511.true, omega arith))
+    (λ c κs. (full-whole c.requires _ c.put_in.ensures c.joint-mid.ensures (omega arith), omega arith))
     (λ c. search rules)
     (λ c. (
-      full-merged c.requires _ c.put_in.ensures c.joint-mid.ensures c.if-top-mid-eq511.true _ _ c.merge.ensures c.merge.auto.keys,
-      λ h. absurd (h (omega (arith, c.if-top-mid-eq511.true, c.joint-mid.ensures))),
+      full-merged c.requires _ c.put_in.ensures c.joint-mid.ensures (omega arith) _ _ c.merge.ensures c.merge.auto.keys,
+      λ h. absurd (h (omega (arith, c.joint-mid.ensures))),
     ))
     (λ c. search rules)
     (λ c.
     let k = c.requires.kept in
     let near = joint-near c.args.base c.args.top (omega (arith, k.first.low, k.second.low)) in (
-      added-stays c.requires _ c.put_in.ensures (omega (arith, k.first.low, k.second.low, c.joint-mid.ensures, c.if-top-mid-eq511.false, near)),
+      added-stays c.requires _ c.put_in.ensures (omega (arith, k.first.low, k.second.low, c.joint-mid.ensures, near)),
       λ h. c.put_in.ensures,
     )))

@@ -48,11 +48,11 @@ order_bytes_spec =
     (λ c.
     let l = c.before.before in
     let asked = (start_of l.before).requires in
-    left-short _ _ _ _ _ _ asked.0 asked.1 l.loop-i.invariant.1 (omega arith) c.if-n-size.true)
+    left-short _ _ _ _ _ _ asked.0 asked.1 l.loop-i.invariant.1 (omega arith) (omega arith))
     (λ c.
     let l = c.before.before.before in
     let asked = (start_of l.before).requires in
-    left-long _ _ _ _ _ _ asked.0 asked.1 l.loop-i.invariant.1 (omega arith) c.if-size-n.true)
+    left-long _ _ _ _ _ _ asked.0 asked.1 l.loop-i.invariant.1 (omega arith) (omega arith))
     (λ c.
     let l = c.before.before.before in
     let asked = (start_of l.before).requires in

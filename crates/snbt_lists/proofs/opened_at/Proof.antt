@@ -9,6 +9,7 @@ use Rattle.snbt_form.specs.Lexing.{first, default, found, token_at}
 use Rattle.snbt_form.specs.Text.{sign_of}
 use Rattle.snbt_form.proofs.Moves.{token-moves}
 use Rattle.snbt_tokens.specs.Answers.{token_is, data_is, lexed_out}
+use Rattle.snbt_tokens.specs.declared.Token.TheVariants.{Semicolon}
 use Rattle.snbt_due.proofs.Spanning.{token-spanned}
 use Rattle.snbt_lists.specs.declared.Letter.{Letter}
 use Rattle.snbt_lists.specs.Lists.{LetterIs}
@@ -76,9 +77,10 @@ opened_at_spec =
     (sym c.token_at-in-Found.ensures ∙ ap lexed_out c.in-Ended-token_at.is) c.listed-in-Ended-token_at.result c.listed-in-Ended-token_at.ensures)
     (λ c.
     let a = c.args in
+    let semicolon : c.in-Found-token_at.d.token ≡ Semicolon = search rules in
     letter-semicolon a.text.now a.room a.left a.brace.0 a.place a.at _ _ (front c.before.before.before.before.before) c.requires.0 _ (letter-is c.before.before.before) _ _ (second c.before)
-    (ap (λ k. sign_of (token_is k)) c.in-Semicolon.is))
+    (ap (λ k. sign_of (token_is k)) semicolon))
     (λ c.
     let a = c.args in
     letter-other a.text.now a.room a.left a.brace.0 a.place a.at _ _ (front c.before.before.before.before.before.before) c.requires.0 _ (letter-is c.before.before.before.before) _ _
-    (second c.before.before) (no-semicolon c.in-Found-token_at.d.token c.in_default-token.not-Semicolon) c.listed-in_default-token.result c.listed-in_default-token.ensures))
+    (second c.before.before) (no-semicolon c.in-Found-token_at.d.token (search rules)) c.listed-in_default-token.result c.listed-in_default-token.ensures))

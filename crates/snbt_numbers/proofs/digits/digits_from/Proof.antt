@@ -42,13 +42,13 @@ digits_from_spec =
     (λ c. (omega arith, omega arith, refl))
     (λ c. omega arith)
     (λ c. broken c.before.before (below-digits _ c.if-b-lt48.true))
-    (λ c. broken c.before.before.before (above-digits _ c.if-b-gt57.true))
+    (λ c. broken c.before.before.before (above-digits (get_or c.args.text.now c.loop-i.i 0) (omega arith)))
     (λ c κs. (omega arith, omega arith))
     (λ c. omega arith)
     (λ c. omega arith)
     (λ c.
     let b = get_or c.args.text.now c.loop-i.i 0 in
-    (omega arith, omega arith, digits_more c.loop-i.n c.next-n.result b _ (is_digit_lem b c.if-b-lt48.false c.if-b-gt57.false) c.next-n.ensures ∙ byte-first c.before.before.before.before))
+    (omega arith, omega arith, digits_more c.loop-i.n c.next-n.result b _ (is_digit_lem b (omega arith) (omega arith)) c.next-n.ensures ∙ byte-first c.before.before.before.before))
     (λ c.
     let l = c.loop-i in
     let a = c.args in

@@ -38,17 +38,17 @@ stopped c e =
     met c.before (row-stops c.args.text.now c.args.at c.args.to _ v.0 c.loop-i-test.true c.requires.1 v.2 e)
 
 -- one digit more keeps below 18 digits
-bound : (c : tie.Else-b-gt57 Inv μ) → let a = c.args in let l = c.loop-i in
-    l.n * 10 + (get_or a.text.now l.i 0 - 48) < 10 ^ (18 - (a.to - (l.i + 1)))
-bound c =
+bound : (c : tie.In-loop-i Inv μ) → let a = c.args in let l = c.loop-i in
+    get_or a.text.now l.i 0 ≤ 57 → l.n * 10 + (get_or a.text.now l.i 0 - 48) < 10 ^ (18 - (a.to - (l.i + 1)))
+bound c h =
     let l = c.loop-i in
-    grown l.n (get_or c.args.text.now l.i 0 - 48) c.args.at c.args.to l.i l.invariant.0 c.loop-i-test.true c.requires.2 l.invariant.4 (omega (arith, c.if-b-gt57.false))
+    grown l.n (get_or c.args.text.now l.i 0 - 48) c.args.at c.args.to l.i l.invariant.0 c.loop-i-test.true c.requires.2 l.invariant.4 (omega arith)
 
-most : (c : tie.Else-b-gt57 Inv μ) → let l = c.loop-i in l.n * 10 + (get_or c.args.text.now l.i 0 - 48) < 10 ^ 18
-most c =
+most : (c : tie.In-loop-i Inv μ) → let l = c.loop-i in get_or c.args.text.now l.i 0 ≤ 57 → l.n * 10 + (get_or c.args.text.now l.i 0 - 48) < 10 ^ 18
+most c h =
     let a = c.args in
     let l = c.loop-i in
-    ten-most (l.n * 10 + (get_or a.text.now l.i 0 - 48)) (18 - (a.to - (l.i + 1))) (bound c) (omega arith)
+    ten-most (l.n * 10 + (get_or a.text.now l.i 0 - 48)) (18 - (a.to - (l.i + 1))) (bound c h) (omega arith)
 
 pub run_from_spec : {M : Type 1} → statement M
 run_from_spec =
@@ -59,18 +59,18 @@ run_from_spec =
     (λ c. let w = row-none c.args.first c.args.at c.args.text.now in (omega arith, c.requires.0, w.0, w.1, c.requires.3))
     (λ c. omega arith)
     (λ c. stopped c.before.before (below-digits _ c.if-b-lt48.true))
-    (λ c. stopped c.before.before.before (above-digits _ c.if-b-gt57.true))
-    (λ c. omega (arith, most c))
-    (λ c. omega (arith, c.if-b-gt57.false))
-    (λ c. omega (arith, most c))
+    (λ c. stopped c.before.before.before (above-digits (get_or c.args.text.now c.loop-i.i 0) (omega arith)))
+    (λ c. omega (arith, most c.before.before.before (omega arith)))
+    (λ c. omega arith)
+    (λ c. omega (arith, most c.before.before.before (omega arith)))
     (λ c. omega arith)
     (λ c. omega arith)
     (λ c.
     let a = c.args in
     let l = c.loop-i in
-    let d = is_digit_lem (get_or a.text.now l.i 0) c.if-b-lt48.false c.if-b-gt57.false in
+    let d = is_digit_lem (get_or a.text.now l.i 0) (omega arith) (omega arith) in
     let w = row_more a.first a.at l.i l.n a.text.now l.invariant.0 (omega arith) d l.invariant.2 l.invariant.3 in
-    (omega arith, omega arith, w.0, w.1, bound c))
+    (omega arith, omega arith, w.0, w.1, bound c.before.before.before (omega arith)))
     (λ c.
     let v = c.loop-i.invariant in
     met c.before (row-whole c.args.text.now c.args.at c.args.to _ v.0 (omega (arith, v.1, c.loop-i-test.false)) c.requires.1 v.2)))

@@ -52,16 +52,16 @@ whole_at_spec =
     (λ c. search rules)
     (λ c. unfold bytes in
     let l = bytes c.args.from c.args.to c.args.text.now in
-    whole-far c.args.negative l (past c.args.negative (worth 0 l) c.in-Value.n (says c.before).1 c.if-n-gt9223372036854775808.true))
+    whole-far c.args.negative l (past c.args.negative (worth 0 l) c.in-Value.n (says c.before).1 (omega arith)))
     (λ c. unfold bytes in
-    let l = c.if-n-gt9223372036854775808.false in
+    let l : c.in-Value.n ≤ 2 ^ 63 = omega arith in
     good c.before.before l (ranged c.before.before c.if-negative.true (le-leb (worth 0 (bytes c.args.from c.args.to c.args.text.now)) (2 ^ 63) (omega (arith, (says c.before.before).1, l)))))
     (λ c. unfold bytes in
-    let l = lt-leb (worth 0 (bytes c.args.from c.args.to c.args.text.now)) (2 ^ 63 - 1) (omega (arith, (says c.before.before.before).1, c.if-n-gt9223372036854775807.true)) in
+    let l = lt-leb (worth 0 (bytes c.args.from c.args.to c.args.text.now)) (2 ^ 63 - 1) (omega (arith, (says c.before.before.before).1)) in
     whole-far c.args.negative (bytes c.args.from c.args.to c.args.text.now) (ranged c.before.before.before c.if-negative.false l))
     (λ c.
     let a = c.args in
     whole-none a.negative _ (bad-says 0 (slice a.from a.to a.text.now) (sym c.in-Bad.is ∙ c.digits_from-d.ensures)))
     (λ c. unfold bytes in
-    let l = le-leb (worth 0 (bytes c.args.from c.args.to c.args.text.now)) (2 ^ 63 - 1) (omega (arith, (says c.before.before.before).1, c.if-n-gt9223372036854775807.false)) in
-    good c.before.before.before c.if-n-gt9223372036854775808.false (ranged c.before.before.before c.if-negative.false l)))
+    let l = le-leb (worth 0 (bytes c.args.from c.args.to c.args.text.now)) (2 ^ 63 - 1) (omega (arith, (says c.before.before.before).1)) in
+    good c.before.before.before (omega arith) (ranged c.before.before.before c.if-negative.false l)))
