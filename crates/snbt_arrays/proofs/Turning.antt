@@ -12,20 +12,15 @@ use lib.ListN.{length}
 use Rattle.form.specs.Answer.{Out, got, no, ◌>>=◌, ◌>>◌, guard, mixed_list, output_full, unmatched_brace}
 use Rattle.form.specs.Spans.{over}
 use Rattle.form.specs.Layout.{int_bytes}
-use Rattle.snbt_form.specs.Numbers.{Number, short, float, double}
-use Rattle.snbt_form.specs.Lexing.{Token, numeral, TokenData, found, ended, later, token_at}
+use Rattle.snbt_form.specs.Lexing.{TokenData, found, ended, later, token_at}
 use Rattle.snbt_form.proofs.Moves.{token-moves}
-use Rattle.snbt_form.specs.Text.{Ints, Last, otherwise, after_comma, no_comma, sign_of, in_range, array_width, whole_in, element_int, due, ints_by}
+use Rattle.snbt_form.specs.Text.{Ints, Last, otherwise, after_comma, no_comma, sign_of, in_range, element_int, due, ints_by}
 use Rattle.snbt_tokens.specs.declared.Index.{Index}
-use Rattle.snbt_tokens.specs.declared.Token as code
-use Rattle.snbt_tokens.specs.declared.Token.TheVariants.{OpenCurly, ClosedCurly, OpenSquare, ClosedSquare, Comma as CommaSign, Colon, Semicolon, Str, Byte, Short, Int, Long, Float, Double}
-use Rattle.snbt_tokens.specs.Answers.{token_is}
-use Rattle.snbt_arrays.specs.declared.elements.Whole.{Whole}
 use Rattle.snbt_arrays.specs.declared.elements.Whole.TheVariants.{Is, Not}
 use Rattle.snbt_arrays.specs.declared.elements.ElementTurn.{ElementTurn}
 use Rattle.snbt_arrays.specs.declared.elements.ElementTurn.TheVariants.{Comma, Element, End, No}
 use Rattle.snbt_placing.specs.Done.{Wide, bytes, ints, longs}
-use Rattle.snbt_arrays.specs.Turns.{FittingIs, WholeIs, element_fits, PutIs, behind_all, ClosedIs, TurnIs}
+use Rattle.snbt_arrays.specs.Turns.{FittingIs, element_fits, PutIs, behind_all, ClosedIs, TurnIs}
 use Rattle.snbt_placing.proofs.Rooms.{range-fits}
 
 -- ---- widths
@@ -54,35 +49,6 @@ module _ (own w : ℕ) (v v' : ℤ) (kept : v' ≡ v) where
 -- Of another width.
 pub fitting-other : (own w : ℕ) (v : ℤ) → (own ≡ w → ⊥) → FittingIs own w v Not
 fitting-other own w v e p = rw (ne_eqb own w e) refl
-
--- A number by its own width and its value.
-pub whole_of : {k : Token} (n : Number) (w own : ℕ) (v : ℤ) (r : Whole) → k ≡ numeral n → array_width n ≡ own → whole_in n ≡ v → FittingIs own w v r → WholeIs w k r
-whole_of n w own v (Is z) e a i f = ((λ p. rw (e, a, i) (f.0 p)), f.1)
-whole_of n w own v Not e a i f = λ p. rw (e, a, i) (f p)
-
--- A number that stands in no array.
-pub none_of : {k : Token} (n : Number) {w : ℕ} → Wide w → k ≡ numeral n → array_width n ≡ 0 → (p : ℕ) → element_int w k p ≡ no mixed_list p
-none_of n bytes e a p = rw (e, a) refl
-none_of n ints e a p = rw (e, a) refl
-none_of n longs e a p = rw (e, a) refl
-
--- Any other token than byte, int or long is none.
-pub no-element : {w : ℕ} → Wide w → (k : code.Token) → ((z : ℤ) → k ≡ Byte z → ⊥) → ((z : ℤ) → k ≡ Int z → ⊥) → ((z : ℤ) → k ≡ Long z → ⊥)
-    → (p : ℕ) → element_int w (token_is k) p ≡ no mixed_list p
-no-element h OpenCurly b i l p = refl
-no-element h ClosedCurly b i l p = refl
-no-element h OpenSquare b i l p = refl
-no-element h ClosedSquare b i l p = refl
-no-element h CommaSign b i l p = refl
-no-element h Colon b i l p = refl
-no-element h Semicolon b i l p = refl
-no-element h (Str q a e) b i l p = refl
-no-element h (Byte z) b i l p = absurd (b z refl)
-no-element h (Short z) b i l p = none_of (short z) h refl refl p
-no-element h (Int z) b i l p = absurd (i z refl)
-no-element h (Long z) b i l p = absurd (l z refl)
-no-element h (Float x) b i l p = none_of (float x) h refl refl p
-no-element h (Double x) b i l p = none_of (double x) h refl refl p
 
 -- ---- an element that is written
 

@@ -1,13 +1,12 @@
 -- One byte of rule 11, from what the code's tests and calls say of it.
 -- Assumes nothing.
-use Prim.Native.Nat.{ℕ, ◌+◌, ◌-◌, ◌≤◌, ◌<◌}
+use Prim.Native.Nat.{ℕ, ◌≤◌, ◌<◌}
 use mathlib.Core.Path.{◌≡◌, refl, sym, ◌∙◌}
 use mathlib.Core.Bool.{Bool, true, false, not, ◌||◌}
 use native.Mathlib.Omega.{arith}
 use borrow.Author.Tests.{eq-eqb, ne_eqb}
-use lib.Dec.{eqb}
 use Rattle.form.specs.Answer.{pick}
-use Rattle.snbt_form.specs.Lexing.{Stops, Scan, among, blank, begins, stop_set, within_quotes, stops, marked, grown, after}
+use Rattle.snbt_form.specs.Lexing.{Stops, Scan, among, stop_set, within_quotes, stops, marked, grown, after}
 
 -- ---- a quote is open, or not
 
@@ -49,17 +48,3 @@ module _ (s : Scan) (b i : ℕ) where
   pub after-other : (s' : Scan) → (b ≡ 92 → ⊥) → (b ≡ 39 → ⊥) → (b ≡ 34 → ⊥) → s' ≡ grown s b i → s' ≡ after s b i
   unfolding after
   after-other s' n m o is = rw (ne_eqb b 92 n, ne_eqb b 39 m, ne_eqb b 34 o) is
-
-  module _ (w k : Bool) (x y : ℕ) (quotes : w ≡ within_quotes s)
-      (curly : x ≡ pick w s.curly (pick (eqb b 123) (s.curly + 1) (pick (eqb b 125) (s.curly - 1) s.curly)))
-      (square : y ≡ pick w s.square (pick (eqb b 91) (s.square + 1) (pick (eqb b 93) (s.square - 1) s.square)))
-      (is : k ≡ blank b) where
-    -- up to an end, of a width
-    abbrev scan : ℕ → ℕ → Scan
-    scan end width = record { curly = x; square = y; single = s.single; double = s.double; escape = false; end = end; width = width }
-
-    pub grown-blank : k ≡ true → scan s.end s.width ≡ grown s b i
-    grown-blank e = rw (curly, square, quotes, sym is ∙ e) refl
-
-    pub grown-more : (n : ℕ) → k ≡ false → n ≡ begins b → scan (i + 1) (s.width + n) ≡ grown s b i
-    grown-more n e f = rw (curly, square, quotes, sym is ∙ e, f) refl

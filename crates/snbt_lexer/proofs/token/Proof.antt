@@ -16,14 +16,14 @@ token_spec =
     (λ c. search rules)
     (λ c. search rules)
     (λ c κs. search rules)
-    (λ c κs. let a = c.args in place-within a.text.now a.start _ c.on_character.ensures c.if-on_character.true)
+    (λ c κs. let a = c.args in place-within a.text.now a.start _ c.on_character.ensures (search rules))
     (λ c.
     let a = c.args in
     on-a-character (stops_is a.set) a.text.now a.start _ c.judged_text.ensures (ap text_out c.in-Fine.is) _ c.on_character.ensures _
-    c.if-on_character.true c.token_at.ensures)
+    (search rules) c.token_at.ensures)
     (λ c.
     let a = c.args in
     text-refused (stops_is a.set) a.text.now a.start _ c.judged_text.ensures _ 0 (ap text_out c.in-Refused.is))
     (λ c.
     let a = c.args in
-    off-character (stops_is a.set) a.text.now a.start _ c.judged_text.ensures (ap text_out c.in-Fine.is) _ c.on_character.ensures c.if-on_character.false))
+    off-character (stops_is a.set) a.text.now a.start _ c.judged_text.ensures (ap text_out c.in-Fine.is) _ c.on_character.ensures (search rules)))
