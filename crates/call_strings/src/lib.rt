@@ -5,32 +5,24 @@ ghost use Rattle.form.specs.Form.{form_no, utf8};
 ghost use Rattle.form.specs.Answer.{bad_string, bad_text};
 ghost use Rattle.calls.specs.Calls.{StringCalled};
 
-use mutf8::Checked;
+use form::refusals::Refusal;
 
 // Whether bytes keep the string rule of a form (rule 2; 02, [2]): 4 at the first sequence that can't be read.
 pub fn check_string(form: u32, bytes: &[u8], answer: &mut [u64; 8])
     ensures { StringCalled (form_no form).strings bad_string bytes.now answer.new }
 {
-    match mutf8::check(bytes, form) {
-        Checked::Good => {
-            *answer = [0, 0, 0, 0, 0, 0, 0, 0];
-        }
-        Checked::Bad(at) => {
-            *answer = [form::BAD_STRING as u64, at as u64, 0, 0, 0, 0, 0, 0];
-        }
-    }
+    *answer = match mutf8::check(bytes, form) {
+        Ok(()) => calls::accepted(),
+        Err(e) => calls::refusal(Refusal::BadString, e.at),
+    };
 }
 
 // Whether bytes are UTF-8, as a text must be: 15 at the first sequence that can't be read.
 pub fn check_utf8(bytes: &[u8], answer: &mut [u64; 8])
     ensures { StringCalled utf8 bad_text bytes.now answer.new }
 {
-    match mutf8::check_utf8(bytes) {
-        Checked::Good => {
-            *answer = [0, 0, 0, 0, 0, 0, 0, 0];
-        }
-        Checked::Bad(at) => {
-            *answer = [form::BAD_TEXT as u64, at as u64, 0, 0, 0, 0, 0, 0];
-        }
-    }
+    *answer = match mutf8::check_utf8(bytes) {
+        Ok(()) => calls::accepted(),
+        Err(e) => calls::refusal(Refusal::BadText, e.at),
+    };
 }

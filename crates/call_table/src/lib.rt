@@ -3,20 +3,16 @@
 
 ghost use Rattle.calls.specs.Calls.{TableCalled};
 
-use table::Verdict;
+use form::refusals::Refusal;
+use table::Unfit;
+
 // Whether words form a table over a document of doc_len bytes (rule 7).
 pub fn is_table(doc_len: usize, table: &[u32], answer: &mut [u64; 8])
     ensures { TableCalled doc_len table.now answer.new }
 {
-    match table::is_table(doc_len, table) {
-        Verdict::OverLimit => {
-            *answer = [form::OVER_LIMIT as u64, 0, 0, 0, 0, 0, 0, 0];
-        }
-        Verdict::NoTable => {
-            *answer = [0, 0, 0, 0, 0, 0, 0, 0];
-        }
-        Verdict::Table => {
-            *answer = [0, 0, 1, 0, 0, 0, 0, 0];
-        }
-    }
+    *answer = match table::is_table(doc_len, table) {
+        Ok(()) => [0, 0, 1, 0, 0, 0, 0, 0],
+        Err(Unfit::NoTable) => calls::accepted(),
+        Err(Unfit::OverLimit) => calls::refusal(Refusal::OverLimit, 0),
+    };
 }

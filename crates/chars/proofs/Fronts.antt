@@ -2,8 +2,9 @@
 -- Assumes nothing.
 use mathlib.Core.Path.{◌≡◌, sym, ap, ◌∙◌}
 use Rattle.form.specs.Decoding.{Sequence}
-use Rattle.chars.specs.declared.Front.{Front}
+use Rattle.std.specs.Prelude.{Option}
+use Rattle.chars.specs.declared.Character.{Character}
 use Rattle.chars.specs.Answers.{sequence_of}
 
-pub told : {r : Front} {x : Sequence} (v : Front) → sequence_of r ≡ x → r ≡ v → x ≡ sequence_of v
+pub told : {r : Option Character} {x : Sequence} (v : Option Character) → sequence_of r ≡ x → r ≡ v → x ≡ sequence_of v
 told v e g = sym e ∙ ap sequence_of g

@@ -12,8 +12,7 @@ use Rattle.form.specs.Strings.{two_bytes, three_bytes, unit_bytes, high_half, lo
 use Rattle.form.proofs.Table.{sets_over, over-over}
 use Rattle.form.proofs.Units.{ub-three}
 use Rattle.form.proofs.Scalars.{sb-high}
-use Rattle.chars.specs.declared.Put.{Put}
-use Rattle.chars.specs.declared.Put.TheVariants.{To, Full}
+use Rattle.std.specs.Prelude.{Option, Some, None}
 use Rattle.chars.specs.Answers.{Wrote}
 
 -- ---- stores
@@ -33,9 +32,9 @@ pub four-put : (o : List ℕ) (at x y z w a b c d : ℕ) → at + 4 ≤ length o
 four-put o at x y z w a b c d h p q r s = rw (p, q, r, s, add-one, add-two, add-three) (sets_over (a ∷ b ∷ c ∷ d ∷ []) o at h)
 
 -- where there is room they were written
-pub wrote-room : (o o' bs : List ℕ) (at : ℕ) (r : Put) → at + length bs ≤ length o → Wrote o at bs r o' → o' ≡ over o at bs
-wrote-room o o' bs at (To n) h w = w.2
-wrote-room o o' bs at Full h w = absurd (omega (arith, w.0))
+pub wrote-room : (o o' bs : List ℕ) (at : ℕ) (r : Option ℕ) → at + length bs ≤ length o → Wrote o at bs r o' → o' ≡ over o at bs
+wrote-room o o' bs at (Some n) h w = w.2
+wrote-room o o' bs at None h w = absurd (omega (arith, w.0))
 
 -- ---- which form a scalar value takes in UTF-8
 

@@ -10,18 +10,11 @@ ghost use Rattle.chars.specs.Answers.{sequence_of, Wrote};
 
 use form::forms::is_pocket;
 
-// What stands at a place: a value and how many bytes it takes, or nothing that can be read.
-#[derive(Drop)]
-pub enum Front {
-    Is(u32, usize),
-    Stuck,
-}
-
-// The place behind what was written, or no room for it.
-#[derive(Drop)]
-pub enum Put {
-    To(usize),
-    Full,
+// What stands at a place: a value, and how many bytes it takes.
+#[derive(Clone, Copy)]
+pub struct Character {
+    pub value: u32,
+    pub size: usize,
 }
 
 // A six-bit group shifted in below what is there.
@@ -33,78 +26,81 @@ fn join(hi: u32, b: u8) -> u32
 }
 
 // A unit in two bytes: C0 80 is 0, and no other below 128 is written so.
-fn two(a: u8, b: u8) -> Front
+fn two(a: u8, b: u8) -> Option<Character>
     ensures { sequence_of result ≡ two_of a b }
 {
     if b < 128 {
-        return Front::Stuck;
+        return None;
     }
     if 192 <= b {
-        return Front::Stuck;
+        return None;
     }
     let u = join((a & 0x1F) as u32, b);
     if u == 0 {
-        return Front::Is(u, 2);
+        return Some(Character { value: u, size: 2 });
     }
     if u < 128 {
-        return Front::Stuck;
+        return None;
     }
-    Front::Is(u, 2)
+    Some(Character { value: u, size: 2 })
 }
 
 // A unit in three bytes: none below 2048.
-fn three(a: u8, b: u8, c: u8) -> Front
+fn three(a: u8, b: u8, c: u8) -> Option<Character>
     ensures { sequence_of result ≡ three_of a b c }
 {
     if b < 128 {
-        return Front::Stuck;
+        return None;
     }
     if 192 <= b {
-        return Front::Stuck;
+        return None;
     }
     if c < 128 {
-        return Front::Stuck;
+        return None;
     }
     if 192 <= c {
-        return Front::Stuck;
+        return None;
     }
     let u = join(join((a & 0x0F) as u32, b), c);
     if u < 2048 {
-        return Front::Stuck;
+        return None;
     }
-    Front::Is(u, 3)
+    Some(Character { value: u, size: 3 })
 }
 
 // The 16-bit unit at a place.
-fn unit_at(s: &[u8], at: usize) -> Front
+fn unit_at(s: &[u8], at: usize) -> Option<Character>
     ensures { sequence_of result ≡ unit_of (drop at s.now) }
 {
     if s.len() <= at {
-        return Front::Stuck;
+        return None;
     }
     let a = s[at];
     if a == 0 {
-        return Front::Stuck;
+        return None;
     }
     if a < 128 {
-        return Front::Is(a as u32, 1);
+        return Some(Character {
+            value: a as u32,
+            size: 1,
+        });
     }
     if a < 192 {
-        return Front::Stuck;
+        return None;
     }
     let left = s.len() - at;
     if left < 2 {
-        return Front::Stuck;
+        return None;
     }
     let b = s[at + 1];
     if a < 224 {
         return two(a, b);
     }
     if 240 <= a {
-        return Front::Stuck;
+        return None;
     }
     if left < 3 {
-        return Front::Stuck;
+        return None;
     }
     let c = s[at + 2];
     three(a, b, c)
@@ -118,104 +114,99 @@ fn pair(hi: u32, lo: u32) -> u32
 }
 
 // The scalar value of modified UTF-8 at a place.
-pub fn scalar_at(s: &[u8], at: usize) -> Front
+pub fn scalar_at(s: &[u8], at: usize) -> Option<Character>
     ensures { sequence_of result ≡ scalar_of (drop at s.now) }
 {
-    match unit_at(s, at) {
-        Front::Is(u, n) => {
-            if u < 0xD800 {
-                return Front::Is(u, n);
+    let first = unit_at(s, at)?;
+    if first.value < 0xD800 {
+        return Some(first);
+    }
+    if 0xE000 <= first.value {
+        return Some(first);
+    }
+    if 0xDC00 <= first.value {
+        return None;
+    }
+    match unit_at(s, at + first.size) {
+        Some(second) => {
+            if second.value < 0xDC00 {
+                return None;
             }
-            if 0xE000 <= u {
-                return Front::Is(u, n);
+            if 0xE000 <= second.value {
+                return None;
             }
-            if 0xDC00 <= u {
-                return Front::Stuck;
-            }
-            match unit_at(s, at + n) {
-                Front::Is(v, m) => {
-                    if v < 0xDC00 {
-                        return Front::Stuck;
-                    }
-                    if 0xE000 <= v {
-                        return Front::Stuck;
-                    }
-                    Front::Is(pair(u, v), n + m)
-                }
-                Front::Stuck => Front::Stuck,
-            }
+            Some(Character {
+                value: pair(first.value, second.value),
+                size: first.size + second.size,
+            })
         }
-        Front::Stuck => Front::Stuck,
+        None => None,
     }
 }
 
 // A scalar value of UTF-8 in four bytes.
-fn four(a: u8, b: u8, c: u8, d: u8) -> Front
+fn four(a: u8, b: u8, c: u8, d: u8) -> Option<Character>
     ensures { sequence_of result ≡ four_of a b c d }
 {
     if b < 128 {
-        return Front::Stuck;
+        return None;
     }
     if 192 <= b {
-        return Front::Stuck;
+        return None;
     }
     if c < 128 {
-        return Front::Stuck;
+        return None;
     }
     if 192 <= c {
-        return Front::Stuck;
+        return None;
     }
     if d < 128 {
-        return Front::Stuck;
+        return None;
     }
     if 192 <= d {
-        return Front::Stuck;
+        return None;
     }
     let u = join(join(join((a & 0x07) as u32, b), c), d);
     if u < 0x10000 {
-        return Front::Stuck;
+        return None;
     }
     if 0x110000 <= u {
-        return Front::Stuck;
+        return None;
     }
-    Front::Is(u, 4)
+    Some(Character { value: u, size: 4 })
 }
 
 // The scalar value of UTF-8 at a place.
-pub fn utf8_at(s: &[u8], at: usize) -> Front
+pub fn utf8_at(s: &[u8], at: usize) -> Option<Character>
     ensures { sequence_of result ≡ utf8_of (drop at s.now) }
 {
     if s.len() <= at {
-        return Front::Stuck;
+        return None;
     }
     let a = s[at];
     if a == 0 {
-        return Front::Is(0, 1);
+        return Some(Character { value: 0, size: 1 });
     }
     if 240 <= a {
         if 248 <= a {
-            return Front::Stuck;
+            return None;
         }
         if s.len() - at < 4 {
-            return Front::Stuck;
+            return None;
         }
         return four(a, s[at + 1], s[at + 2], s[at + 3]);
     }
-    match unit_at(s, at) {
-        Front::Is(u, n) => {
-            if u == 0 {
-                return Front::Stuck;
-            }
-            if u < 0xD800 {
-                return Front::Is(u, n);
-            }
-            if u < 0xE000 {
-                return Front::Stuck;
-            }
-            Front::Is(u, n)
-        }
-        Front::Stuck => Front::Stuck,
+    let unit = unit_at(s, at)?;
+    if unit.value == 0 {
+        return None;
     }
+    if unit.value < 0xD800 {
+        return Some(unit);
+    }
+    if unit.value < 0xE000 {
+        return None;
+    }
+    Some(unit)
 }
 
 // How many bytes a scalar value takes in modified UTF-8.
@@ -283,23 +274,23 @@ fn put_unit(u: u32, out: &mut [u8], at: usize)
     put_three(u, out, at);
 }
 
-// A scalar value in modified UTF-8 at a place: above the basic plane as its two halves.
-pub fn put_scalar(c: u32, out: &mut [u8], at: usize) -> Put
+// A scalar value in modified UTF-8 at a place, above the basic plane as its two halves; the place behind it, or none where there is no room.
+pub fn put_scalar(c: u32, out: &mut [u8], at: usize) -> Option<usize>
     requires { (c < 1114112) × (at ≤ length out.old) }
     ensures { Wrote out.old at (scalar_bytes c) result out.new }
 {
     let size = length_of(c);
     if out.len() - at < size {
-        return Put::Full;
+        return None;
     }
     if c < 0x10000 {
         put_unit(c, out, at);
-        return Put::To(at + size);
+        return Some(at + size);
     }
     let v = c - 0x10000;
     put_unit(0xD800 + (v >> 10), out, at);
     put_unit(0xDC00 + (v & 0x3FF), out, at + 3);
-    Put::To(at + size)
+    Some(at + size)
 }
 
 // How many bytes a scalar value takes in UTF-8.

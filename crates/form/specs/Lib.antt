@@ -19,3 +19,4 @@ pub mod Moved
 pub mod Paths
 pub mod Records
 pub mod Query
+pub mod Refusals

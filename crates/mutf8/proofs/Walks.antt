@@ -1,20 +1,14 @@
 -- Laws of values read one after the other, by any string rule: it reads what was passed, and a walk from 0 on decides the verdict.
 -- Assumes nothing.
 use Prim.Native.Nat.{ℕ, ◌+◌, ◌-◌, ◌≤◌, ◌<◌}
-use mathlib.Core.Path.{◌≡◌, sym, ap, ◌∙◌}
+use mathlib.Core.Path.{◌≡◌, sym}
 use mathlib.Core.List.{List}
 use native.Mathlib.Omega.{arith}
 use lib.ListN.{length, drop, length-drop}
 use Rattle.form.specs.Form.{Rule}
 use Rattle.form.specs.Strings.{enc_of}
-use Rattle.form.specs.Decoding.{Sequence, is, stuck, good, bad, one_of, is_good, well_formed_in, Judged}
+use Rattle.form.specs.Decoding.{Sequence, is, stuck, good, bad, one_of, Judged}
 use Rattle.form.proofs.Walks as W
-use Rattle.chars.specs.declared.Front.{Front}
-use Rattle.chars.specs.declared.Front.TheVariants.{Is}
-use Rattle.chars.specs.Answers.{sequence_of}
-use Rattle.chars.proofs.Fronts.{told}
-use Rattle.mutf8.specs.declared.Checked.{Checked}
-use Rattle.mutf8.specs.Answers.{verdict_of}
 use Rattle.mutf8.specs.Runs.{Walked, none, more, common_of, Passed, Stepped}
 use Rattle.mutf8.proofs.Codings.{alike, coding_of}
 
@@ -38,8 +32,8 @@ module _ (k : Rule) where
   walked_step w p q = walked-join (walked-pass w p) q.walked
 
   -- one value more, by what a call answered
-  pub walked_more : (s : List ℕ) (i j c n : ℕ) (r : Front) → r ≡ Is c n → sequence_of r ≡ one_of k (drop j s) → Walked (one_of k) s i j → Walked (one_of k) s i (j + n)
-  walked_more s i j c n r q p w = walked-join w (more {i = j} {c = c} {n = n} (told (Is c n) p q) none)
+  pub walked_more : (s : List ℕ) (i j c n : ℕ) → is c n ≡ one_of k (drop j s) → Walked (one_of k) s i j → Walked (one_of k) s i (j + n)
+  walked_more s i j c n e w = walked-join w (more {i = j} {c = c} {n = n} (sym e) none)
 
   -- ---- and decide the verdict
 
@@ -57,11 +51,5 @@ module _ (k : Rule) where
   halted-at {s} h e w = W.going-stuck (coding_of k) s _ h e (going w (W.going_start (coding_of k) s))
 
   -- how far a value reaches, by what a call answered
-  pub reach : (s : List ℕ) (i c n : ℕ) (r : Front) → r ≡ Is c n → sequence_of r ≡ one_of k (drop i s) → (0 < n) × (i + n ≤ length s)
-  reach s i c n r q p = let e = told (Is c n) p q in W.reach (coding_of k) s i c n (within s i c n e) e
-
--- ---- a verdict as the test of refusal 4
-
--- where an answer is known by its case, so is what the test says
-pub judged-by : (k : Rule) (s : List ℕ) (r v : Checked) → r ≡ v → Judged (enc_of k) (one_of k) s (verdict_of r) → is_good (verdict_of v) ≡ well_formed_in k s
-judged-by k s r v e j = ap is_good (sym (ap verdict_of e) ∙ j.is)
+  pub reach : (s : List ℕ) (i c n : ℕ) → is c n ≡ one_of k (drop i s) → (0 < n) × (i + n ≤ length s)
+  reach s i c n e = W.reach (coding_of k) s i c n (within s i c n (sym e)) (sym e)

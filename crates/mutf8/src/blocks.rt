@@ -78,13 +78,10 @@ fn all_fit(s: &[u8], at: usize) -> bool
     ensures { result ≡ true → Fitting s.now at (at + 64) }
 {
     let mut top: u8 = 0;
-    let mut k: usize = 0;
-    while k < 64 {
-        let at_k = at + k;
-        top = raise(top, odd(s[at_k - 2], s[at_k - 1], s[at_k]));
-        k = k + 1;
+    for k in at..at + 64 {
+        top = raise(top, odd(s[k - 2], s[k - 1], s[k]));
     }
-    if top == 0 { true } else { false }
+    top == 0
 }
 
 // Whether no sequence that began before a place goes on there.
@@ -121,20 +118,18 @@ fn blocks(s: &[u8], at: usize) -> usize
     ensures { Passed s.now at result }
 {
     let mut i = at;
-    let mut left: usize = 8;
-    while 0 < left {
+    for _ in 0..8 {
         if s.len() - i < 64 {
             return i;
         }
         let next = whole(s, i + 64);
-        if is_edge(s, next) {
-            if all_fit(s, i) {
-                i = next;
-                left = left - 1;
-                continue;
-            }
+        if !is_edge(s, next) {
+            return i;
         }
-        return i;
+        if !all_fit(s, i) {
+            return i;
+        }
+        i = next;
     }
     i
 }
@@ -159,6 +154,7 @@ pub fn pass(s: &[u8], at: usize) -> usize
     ensures { Passed s.now at result }
 {
     let mut i = at;
+    // A `while`: a turn goes on by one block, or by several that are mixed.
     while 64 <= s.len() - i {
         if plain::all_plain(0, 0, s, i, 64) {
             i = i + 64;

@@ -93,10 +93,10 @@ pub marked : (x y : Bool) (top u r : ℕ) → top ≡ mark x → u ≡ mark y �
 marked x y top u r p q e = e ∙ ap₂ (λ (a b : ℕ). pick (ltb a b) b a) p q ∙ raised x y
 
 -- what the mark tells
-pub told : (x : Bool) (top : ℕ) → top ≡ mark x → (top ≡ 0 → true ≡ x) × ((top ≡ 0 → ⊥) → false ≡ x)
+pub told : (x : Bool) (top : ℕ) → top ≡ mark x → eqb top 0 ≡ x
 unfolding mark
-told true top e = (λ _. refl, λ h. absurd (h e))
-told false top e = (λ z. absurd (omega (arith, e, z)), λ _. refl)
+told true top e = rw e refl
+told false top e = rw e refl
 
 pub none_in : (p q : ℕ) (t : List ℕ) (i : ℕ) → 0 ≡ mark (plain_in p q t i 0)
 unfolding plain_in mark

@@ -35,12 +35,10 @@ pub fn all_plain(p: u8, q: u8, text: &[u8], at: usize, n: usize) -> bool
     ensures { result ≡ plain_in p q text.now at n }
 {
     let mut top: u8 = 0;
-    let mut k: usize = 0;
-    while k < n {
+    for k in 0..n {
         top = raise(top, unplain(p, q, text[at + k]));
-        k = k + 1;
     }
-    if top == 0 { true } else { false }
+    top == 0
 }
 
 // How far blocks of plain bytes reach from a place on.
@@ -49,12 +47,9 @@ pub fn plain_blocks(p: u8, q: u8, text: &[u8], at: usize, end: usize) -> usize
     ensures { (at ≤ result) × (result ≤ end) × Plain p q text.now at result }
 {
     let mut i = at;
-    while 16 <= end - i {
-        if all_plain(p, q, text, i, 16) {
-            i = i + 16;
-            continue;
-        }
-        return i;
+    // A `while`: the blocks end where one is not plain or the bytes left are fewer.
+    while 16 <= end - i && all_plain(p, q, text, i, 16) {
+        i += 16;
     }
     i
 }
@@ -64,15 +59,12 @@ fn plain_from(p: u8, q: u8, text: &[u8], at: usize, end: usize) -> usize
     requires { (at ≤ end) × (end ≤ length text.now) }
     ensures { (at ≤ result) × (result ≤ end) × Plain p q text.now at result }
 {
-    let mut i = plain_blocks(p, q, text, at, end);
-    while i < end {
-        if unplain(p, q, text[i]) == 0 {
-            i = i + 1;
-            continue;
+    for i in plain_blocks(p, q, text, at, end)..end {
+        if unplain(p, q, text[i]) != 0 {
+            return i;
         }
-        return i;
     }
-    i
+    end
 }
 
 // The same, with no block tried where the first byte is not plain.

@@ -24,10 +24,8 @@ fn number_by(s: &[u8], at: usize, width: usize, little: bool) -> u64
     ensures { Number (order_in little) (part s.now at width) width result }
 {
     let mut n: u64 = 0;
-    let mut i: usize = 0;
-    while i < width {
+    for i in 0..width {
         n = n * 256 + s[place_of(at, width, i, little)] as u64;
-        i += 1;
     }
     n
 }
@@ -85,10 +83,8 @@ fn put_by(d: &mut [u8], at: usize, width: usize, v: u64, little: bool)
     ensures { d.new ≡ over d.old at (bytes_in (order_in little) width v) }
 {
     let mut rest = v;
-    let mut left = width;
-    while 0 < left {
-        left -= 1;
-        d[place_of(at, width, left, little)] = (rest % 256) as u8;
+    for done in 0..width {
+        d[place_of(at, width, width - 1 - done, little)] = (rest % 256) as u8;
         rest /= 256;
     }
 }

@@ -2,7 +2,7 @@
 -- or a run of plain bytes more, and its end.
 -- Assumes nothing.
 use Prim.Native.Nat.{ℕ, zero, suc, ◌+◌, ◌-◌, ◌/◌, ◌%◌, ◌≤◌, ◌<◌}
-use mathlib.Core.Path.{◌≡◌, refl, ap, ◌∙◌}
+use mathlib.Core.Path.{sym, ◌≡◌, refl, ap, ◌∙◌}
 use mathlib.Core.Bool.{false}
 use mathlib.Core.List.{List, [], ◌∷◌, ◌++◌, append-nil, append_assoc}
 use native.Mathlib.Numerals.{sub-one}
@@ -19,9 +19,6 @@ use Rattle.form.proofs.Units.{ub-one}
 use Rattle.form.proofs.Scalars.{sb-low}
 use Rattle.form.proofs.Coding.{SoundBy}
 use Rattle.form.proofs.Walks as W
-use Rattle.chars.specs.declared.Front.{Front}
-use Rattle.chars.specs.Answers.{sequence_of}
-use Rattle.chars.proofs.Fronts.{told}
 use Rattle.chars.proofs.Puts.{u8-one}
 use Rattle.plain.specs.Runs.{IsPlain, Plain}
 use Rattle.mutf8.proofs.Codings.{coding_of, sound}
@@ -52,9 +49,9 @@ none : (r : Rule) → one_of r [] ≡ stuck
 none r = none-go r (one_of r []) refl
 
 -- What a call read at a place, by the rule of the form that the document has.
-pub front : (way form i : ℕ) (s : List ℕ) (r v : Front) → form ≡ way % 256 → sequence_of r ≡ one_of (form_no form).strings (drop i s) → r ≡ v
-    → one_of (way_no way).from.strings (drop i s) ≡ sequence_of v
-front way form i s r v f e g = told v (e ∙ ap (λ n. one_of (form_no n).strings (drop i s)) f) g
+pub front : (way form i : ℕ) (s : List ℕ) {v : Sequence} → form ≡ way % 256 → v ≡ one_of (form_no form).strings (drop i s)
+    → one_of (way_no way).from.strings (drop i s) ≡ v
+front way form i s f e = sym (e ∙ ap (λ n. one_of (form_no n).strings (drop i s)) f)
 
 -- What a call wrote, by the rule of the form that the document is written in.
 pub wrote : (way form c at r : ℕ) (o o₁ : List ℕ) → form ≡ way / 256
@@ -128,3 +125,10 @@ module _ (way : Way) (s : List ℕ) where
 
   pub come-end : (i : ℕ) (bs : List ℕ) → length s ≤ i → Come i bs → recoded way s ≡ bs
   come-end i bs h g = come-stuck i bs (rw (drop_of_length-le s {i = i} h) (none way.from.strings)) g
+
+-- A character that was read takes a byte at least and no more than there are, and with it the walk has come further.
+pub read : (way i : ℕ) (s bs : List ℕ) (v n : ℕ) → i < length s → one_of (way_no way).from.strings (drop i s) ≡ is v n → Come (way_no way) s i bs
+    → (0 < n) × (i + n ≤ length s) × Come (way_no way) s (i + n) (bs ++ enc_of (way_no way).to.strings v)
+read way i s bs v n h e w =
+    let r = W.reach (coding_of (way_no way).from.strings) s i v n h e in
+    (r.0, r.1, come-more (way_no way) s i v n bs h e w)

@@ -8,7 +8,6 @@ ghost use Rattle.form.specs.Spans.{part, over};
 ghost use Rattle.form.specs.Turned.{recoded};
 ghost use Rattle.recode.specs.Steps.{Puts, number, each_number, numbers};
 
-use chars::Front;
 use form::forms::is_pocket;
 use form::ways;
 
@@ -19,6 +18,7 @@ fn other_length(s: &[u8], way: u32) -> usize
 {
     let mut i: usize = 0;
     let mut total: usize = 0;
+    // A `while`: a turn goes on by a run of plain bytes or by one character.
     while i < s.len() {
         let run = plain::plain_end(0, 0, s, i, s.len());
         if i < run {
@@ -26,13 +26,11 @@ fn other_length(s: &[u8], way: u32) -> usize
             i = run;
             continue;
         }
-        match mutf8::front_at(s, i, ways::source(way)) {
-            Front::Is(c, n) => {
-                total += chars::length_in(c, ways::target(way));
-                i += n;
-            }
-            Front::Stuck => return total,
-        }
+        let Some(front) = mutf8::front_at(s, i, ways::source(way)) else {
+            return total;
+        };
+        total += chars::length_in(front.value, ways::target(way));
+        i += front.size;
     }
     total
 }
@@ -56,6 +54,7 @@ fn put_other(s: &[u8], out: &mut [u8], at: usize, way: u32) -> usize
 {
     let mut i: usize = 0;
     let mut here = at;
+    // A `while`: a turn goes on by a run of plain bytes or by one character.
     while i < s.len() {
         let run = plain::plain_end(0, 0, s, i, s.len());
         if i < run {
@@ -64,13 +63,11 @@ fn put_other(s: &[u8], out: &mut [u8], at: usize, way: u32) -> usize
             i = run;
             continue;
         }
-        match mutf8::front_at(s, i, ways::source(way)) {
-            Front::Is(c, n) => {
-                here = chars::put_in(c, out, here, ways::target(way));
-                i += n;
-            }
-            Front::Stuck => return here,
-        }
+        let Some(front) = mutf8::front_at(s, i, ways::source(way)) else {
+            return here;
+        };
+        here = chars::put_in(front.value, out, here, ways::target(way));
+        i += front.size;
     }
     here
 }
@@ -117,11 +114,9 @@ fn put_turned(
     requires { (width ≤ 8) × (start + count * width ≤ length doc.now) × (at + count * width ≤ length out.old) }
     ensures { Puts (each_number (way_no way) width count (part doc.now start (count * width))) out.old at out.new result }
 {
-    let mut i: usize = 0;
-    while i < count {
+    for i in 0..count {
         let k = i * width;
         put_number(doc, start + k, width, out, at + k, way);
-        i += 1;
     }
     at + count * width
 }

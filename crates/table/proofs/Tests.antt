@@ -12,7 +12,7 @@ use Rattle.form.specs.Rows.{Chain, LeafRow, list_kind_at, ContainerRow, RowIs}
 use Rattle.form.proofs.Rows.{chain-le, chain-one}
 use Rattle.form.proofs.Leaves.{fits-held}
 use Rattle.table.specs.Check.{Says, HopsAre}
-use Rattle.table.specs.declared.Hops.{Hops}
+use Rattle.std.specs.Prelude.{Option, Some, None}
 
 -- Two answers differ.
 pub apart : (b : Bool) → b ≡ true → b ≡ false → ⊥
@@ -42,18 +42,18 @@ says-leb a b f g = record { yes = λ e. f (leb-true a b e); no = λ e p. let l =
 
 module _ (get : ℕ → ℕ → ℕ) (up : Bool) (n i : ℕ) where
   -- The hops through record i's children, by its kind and its end.
-  hops-here : (k e : ℕ) → k ≡ get i 0 → e ≡ get i 7 → (h r : Hops) → HopsAre get up (eqb k 9) i e (i + 1) h → h ≡ r
+  hops-here : (k e : ℕ) → k ≡ get i 0 → e ≡ get i 7 → (h r : Option ℕ) → HopsAre get up (eqb k 9) i e (i + 1) h → h ≡ r
       → HopsAre get up (eqb (get i 0) 9) i (get i 7) (i + 1) r
   hops-here k e p q h r hops o =
-      subst (λ (y : Hops). HopsAre get up (eqb (get i 0) 9) i (get i 7) (i + 1) y) o
+      subst (λ (y : Option ℕ). HopsAre get up (eqb (get i 0) 9) i (get i 7) (i + 1) y) o
       (subst (λ (x : ℕ). HopsAre get up (eqb x 9) i (get i 7) (i + 1) h) p (subst (λ (x : ℕ). HopsAre get up (eqb k 9) i x (i + 1) h) q hops))
 
-  module _ (k e : ℕ) (p : k ≡ get i 0) (q : e ≡ get i 7) (h : Hops) (hops : HopsAre get up (eqb k 9) i e (i + 1) h) where
+  module _ (k e : ℕ) (p : k ≡ get i 0) (q : e ≡ get i 7) (h : Option ℕ) (hops : HopsAre get up (eqb k 9) i e (i + 1) h) where
     -- The children tile the container: their number is left to compare.
     pub container-all : holds (get i 0) ≡ true → get i 3 ≡ 0 → get i 4 ≡ 0 → get i 6 ≡ list_kind_at get i → get i 7 ≤ n
-        → (c : ℕ) → h ≡ Hops.All c → (m : ℕ) → m ≡ get i 5 → Says (eqb c m) (ContainerRow get up n i)
+        → (c : ℕ) → h ≡ Some c → (m : ℕ) → m ≡ get i 5 → Says (eqb c m) (ContainerRow get up n i)
     container-all kind start long listed within c o m r =
-        let ch : Chain get up (eqb (get i 0) 9) i (get i 7) (i + 1) c = hops-here k e p q h (Hops.All c) hops o in
+        let ch : Chain get up (eqb (get i 0) 9) i (get i 7) (i + 1) c = hops-here k e p q h (Some c) hops o in
         says-eqb c m
         (λ x. record {
           kind = kind;
@@ -66,8 +66,8 @@ module _ (get : ℕ → ℕ → ℕ) (up : Bool) (n i : ℕ) where
         (λ is. chain-one get up (eqb (get i 0) 9) i (get i 7) ch is.tiled ∙ sym r)
 
     -- They do not tile it.
-    pub container-broken : h ≡ Hops.Broken → Says false (ContainerRow get up n i)
-    container-broken o = says-no (λ is. hops-here k e p q h Hops.Broken hops o (get i 5) is.tiled)
+    pub container-broken : h ≡ None → Says false (ContainerRow get up n i)
+    container-broken o = says-no (λ is. hops-here k e p q h None hops o (get i 5) is.tiled)
 
   -- A container ends after itself.
   pub container-on : ContainerRow get up n i → i < get i 7

@@ -10,7 +10,9 @@ ghost use Rattle.form.specs.Table.{word as word_of, width_of, holds, is_array};
 ghost use Rattle.form.specs.Tables.{leaf_fits};
 ghost use Rattle.form.specs.Rows.{ChildIs, LeafRow, list_kind_at, ContainerRow, RowIs};
 ghost use Rattle.table.specs.Records.{record_words, leaf_of, container_of, Small};
-ghost use Rattle.table.specs.Check.{VerdictIs, verdict_out, Answers, Says, HopsAre};
+ghost use Rattle.table.specs.Check.{VerdictIs, verdict_out, Answers, RefusedAs, Says, HopsAre};
+
+use form::refusals::{Refusal, Refused};
 
 // How many words a record has.
 pub const WORDS: usize = 9;
@@ -48,19 +50,12 @@ pub struct Record {
     pub parent: u32,
 }
 
-// A word as an index.
-fn wide(x: u32) -> usize
-    ensures { result ≡ x }
-{
-    x as usize
-}
-
 // Word k of record n.
 pub fn word(table: &[u32], n: usize, k: usize) -> usize
     requires { (9 * n + 9 ≤ length table.now) × (k < 9) }
     ensures { result ≡ word_of table.now n k }
 {
-    wide(table[WORDS * n + k])
+    table[WORDS * n + k] as usize
 }
 
 // Writes record n.
@@ -84,11 +79,7 @@ pub fn put(table: &mut [u32], n: usize, r: Record)
 pub fn clear(table: &mut [u32])
     ensures { table.new ≡ replicate (length table.old) 0 }
 {
-    let mut i: usize = 0;
-    while i < table.len() {
-        table[i] = 0;
-        i += 1;
-    }
+    table.fill(0);
 }
 
 // The record of a list or a compound: its payload words are 0.
@@ -146,19 +137,24 @@ pub fn leaf(
 
 // ---- rule 7
 
-// Whether words form a table (rule 7; where not, refusal 10), if they and the document are within the limits (where not, refusal 9).
-#[derive(Drop)]
-pub enum Verdict {
-    Table,
-    NoTable,
+// Why words are no table to be used: they or the document are over a limit (refusal 9), or they do not form one (refusal 10).
+#[derive(Clone, Copy, Debug)]
+pub enum Unfit {
     OverLimit,
+    NoTable,
 }
 
-// The children of a container: how many there are, or that they do not tile it.
-#[derive(Drop)]
-pub enum Hops {
-    All(usize),
-    Broken,
+impl From<Unfit> for Refused {
+    ghost from_gives = { RefusedAs };
+
+    // Each is refused at 0.
+    fn from(unfit: Unfit) -> Refused {
+        let refusal = match unfit {
+            Unfit::OverLimit => Refusal::OverLimit,
+            Unfit::NoTable => Refusal::NoTable,
+        };
+        Refused { refusal, place: 0 }
+    }
 }
 
 // The kinds that hold records: lists and compounds.
@@ -280,21 +276,22 @@ fn child_agrees(table: &[u32], parent: usize, end: usize, list: bool, j: usize) 
 }
 
 // Hops through the children of `parent` by their end words, from record `from` up to `end`. Where the records before it agree, no record
-// is a child of two containers, so all hops together are no more than the records.
-fn hop_through(table: &[u32], parent: usize, from: usize, end: usize, list: bool) -> Hops
+// is a child of two containers, so all hops together are no more than the records. The children are counted, if they tile that range.
+fn hop_through(table: &[u32], parent: usize, from: usize, end: usize, list: bool) -> Option<usize>
     requires { (from ≤ end) × (9 * end ≤ length table.now) }
     ensures { HopsAre (word_of table.now) true list parent end from result }
 {
     let mut j = from;
     let mut count = 0;
+    // A `while`: the next child is where this one ends.
     while j < end {
         if !child_agrees(table, parent, end, list, j) {
-            return Hops::Broken;
+            return None;
         }
         count += 1;
         j = word(table, j, END);
     }
-    Hops::All(count)
+    Some(count)
 }
 
 // The list kind that record i of n must have.
@@ -337,8 +334,8 @@ fn container_agrees(table: &[u32], n: usize, i: usize) -> bool
     }
     let count = word(table, i, COUNT);
     match hop_through(table, i, i + 1, end, word(table, i, KIND) == kinds::LIST) {
-        Hops::All(hops) => hops == count,
-        Hops::Broken => false,
+        Some(hops) => hops == count,
+        None => false,
     }
 }
 
@@ -361,45 +358,43 @@ fn records_agree(doc_len: usize, table: &[u32], n: usize) -> bool
     requires { length table.now ≡ 9 * n }
     ensures { Says result ((i : ℕ) → i < n → RowIs doc_len (word_of table.now) true n i) }
 {
-    let mut i = 0;
-    while i < n {
+    for i in 0..n {
         if !record_agrees(doc_len, table, n, i) {
             return false;
         }
-        i += 1;
     }
     true
 }
 
 // Rule 7: whether the words form a table over a document of doc_len bytes (refusal 9 comes before 10). Linear in the records, with no
 // stack.
-pub fn is_table(doc_len: usize, table: &[u32]) -> Verdict
+pub fn is_table(doc_len: usize, table: &[u32]) -> Result<(), Unfit>
     ensures { (VerdictIs doc_len table.now result) × (Answers doc_len table.now (verdict_out result)) }
 {
     let n = table.len() / WORDS;
     if form::DOCUMENT < doc_len {
-        return Verdict::OverLimit;
+        return Err(Unfit::OverLimit);
     }
     if WORDS * form::RECORDS < table.len() {
-        return Verdict::OverLimit;
+        return Err(Unfit::OverLimit);
     }
     if table.len() != WORDS * n {
-        return Verdict::NoTable;
+        return Err(Unfit::NoTable);
     }
     if n == 0 {
-        return Verdict::NoTable;
+        return Err(Unfit::NoTable);
     }
     if word(table, 0, KIND) != kinds::COMPOUND {
-        return Verdict::NoTable;
+        return Err(Unfit::NoTable);
     }
     if word(table, 0, END) != n {
-        return Verdict::NoTable;
+        return Err(Unfit::NoTable);
     }
     if word(table, 0, PARENT) != 0 {
-        return Verdict::NoTable;
+        return Err(Unfit::NoTable);
     }
     if records_agree(doc_len, table, n) {
-        return Verdict::Table;
+        return Ok(());
     }
-    Verdict::NoTable
+    Err(Unfit::NoTable)
 }

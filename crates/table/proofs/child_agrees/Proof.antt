@@ -1,7 +1,6 @@
 -- `table::child_agrees` meets its contract: each test is one line of what a child is.
 -- Assumes nothing.
 use borrow.Author.Rules.{rules}
-use borrow.Author.Tests.{not-true, not-false}
 use mathlib.Core.Path.{refl, sym, ◌∙◌}
 use native.Mathlib.Omega.{arith}
 use Rattle.table.proofs.Tests.{apart, says-yes, says-no, says-eqb}

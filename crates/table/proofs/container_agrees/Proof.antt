@@ -22,18 +22,18 @@ returns-4 c = says-no (λ is. let e = c.before.word-end.ensures in let on = cont
 returns-5 : tie.Need-returns-then-n-end
 returns-5 c = says-no (λ is. let e = c.before.before.word-end.ensures in let le = is.within in let t = c.if-n-end.true in omega arith)
 
-returns-6 : tie.Need-returns-in-All
+returns-6 : tie.Need-returns-in-Some
 returns-6 c =
     container-all _ _ _ _ _ _ c.word-4.ensures c.word-end.ensures c.hop_through.result c.hop_through.ensures
     c.requires.2 (sym c.word.ensures ∙ c.if-word-ne0.false) (sym c.word-2.ensures ∙ c.if-word-ne0-2.false)
     (sym c.word-3.ensures ∙ c.if-word-list_kind_at.false ∙ c.list_kind_at.ensures)
     (rw c.word-end.ensures at c.if-n-end.false)
-    _ c.in-All.is _ c.word-count.ensures
+    _ c.in-Some.is _ c.word-count.ensures
 
-returns-7 : tie.Need-returns-in-Broken
+returns-7 : tie.Need-returns-in-None
 returns-7 c =
     container-broken _ _ _ _ _ _ c.word-4.ensures c.word-end.ensures c.hop_through.result c.hop_through.ensures
-    c.in-Broken.is
+    c.in-None.is
 
 pub container_agrees_spec : {M : Type 1} → statement M
 container_agrees_spec =

@@ -1,6 +1,5 @@
 -- `table::hop_through` meets its contract: each hop goes from a child to the next, and none is passed twice.
 -- Assumes nothing.
-use borrow.Author.Tests.{not-true, not-false}
 use Prim.Native.Nat.{◌-◌}
 use native.Mathlib.Omega.{arith}
 use mathlib.Core.Bool.{true}

@@ -5,26 +5,27 @@ use mathlib.Core.Path.{refl, sym, ◌∙◌}
 use native.Mathlib.Omega.{arith}
 use Rattle.form.proofs.Tables.{table-length}
 use Rattle.form.proofs.Rows.{table-rows, rows-table}
-use Rattle.table.specs.declared.Verdict.{Verdict}
+use Rattle.std.specs.Prelude.{Ok, Err}
+use Rattle.table.specs.declared.Unfit.TheVariants.{OverLimit, NoTable}
 use Rattle.table.proofs.Verdicts.{verdict-is}
 use Rattle.table.proofs.is_table.Statement.{statement}
 use Rattle.table.proofs.is_table.Tie as tie
 
 returns : tie.Need-returns-then-doc_len-gt-DOCUMENT
 returns c =
-    verdict-is _ _ Verdict.OverLimit (λ w. let b = w.bytes in let t = c.if-doc_len-gt-DOCUMENT.true in omega arith)
+    verdict-is _ _ (Err OverLimit) (λ w. let b = w.bytes in let t = c.if-doc_len-gt-DOCUMENT.true in omega arith)
 
 returns-2 : tie.Need-returns-then-table
 returns-2 c =
-    verdict-is _ _ Verdict.OverLimit (λ w. let l = w.words in let t = c.if-table.true in omega arith)
+    verdict-is _ _ (Err OverLimit) (λ w. let l = w.words in let t = c.if-table.true in omega arith)
 
 returns-3 : tie.Need-returns-then-table-n
 returns-3 c =
-    verdict-is _ _ Verdict.NoTable (record { bytes = c.before.before.if-doc_len-gt-DOCUMENT.false; words = c.before.if-table.false }, λ t. c.if-table-n.true (omega (arith, table-length _ _ t)))
+    verdict-is _ _ (Err NoTable) (record { bytes = c.before.before.if-doc_len-gt-DOCUMENT.false; words = c.before.if-table.false }, λ t. c.if-table-n.true (omega (arith, table-length _ _ t)))
 
 returns-4 : tie.Need-returns-then-n-eq0
 returns-4 c =
-    verdict-is _ _ Verdict.NoTable (
+    verdict-is _ _ (Err NoTable) (
       record { bytes = c.before.before.before.if-doc_len-gt-DOCUMENT.false; words = c.before.before.if-table.false },
       λ t. let l = c.before.if-table-n.false in let n = c.if-n-eq0.true in omega (arith, table-length _ _ t),
     )
@@ -32,7 +33,7 @@ returns-4 c =
 returns-5 : tie.Need-returns-then-word-ne-COMPOUND
 returns-5 c =
     let at_rows = c.before.before.before in
-    verdict-is _ _ Verdict.NoTable (
+    verdict-is _ _ (Err NoTable) (
       record { bytes = at_rows.before.before.if-doc_len-gt-DOCUMENT.false; words = at_rows.before.if-table.false },
       λ t. c.if-word-ne-COMPOUND.true (c.before.word.ensures ∙ (table-rows _ _ _ at_rows.if-table-n.false t).compound),
     )
@@ -41,7 +42,7 @@ returns-6 : tie.Need-returns-then-word-n
 returns-6 c =
     let at-kind = c.before.before in
     let at_rows = at-kind.before.before.before in
-    verdict-is _ _ Verdict.NoTable (
+    verdict-is _ _ (Err NoTable) (
       record { bytes = at_rows.before.before.if-doc_len-gt-DOCUMENT.false; words = at_rows.before.if-table.false },
       λ t. c.if-word-n.true (c.before.word-2.ensures ∙ (table-rows _ _ _ at_rows.if-table-n.false t).whole),
     )
@@ -51,7 +52,7 @@ returns-7 c =
     let at-end = c.before.before in
     let at-kind = at-end.before.before in
     let at_rows = at-kind.before.before.before in
-    verdict-is _ _ Verdict.NoTable (
+    verdict-is _ _ (Err NoTable) (
       record { bytes = at_rows.before.before.if-doc_len-gt-DOCUMENT.false; words = at_rows.before.if-table.false },
       λ t. c.if-word-ne0.true (c.before.word-3.ensures ∙ (table-rows _ _ _ at_rows.if-table-n.false t).top refl),
     )
@@ -62,7 +63,7 @@ returns-8 c =
     let at-end = at_top.before.before in
     let at-kind = at-end.before.before in
     let at_rows = at-kind.before.before.before in
-    verdict-is _ _ Verdict.Table (
+    verdict-is _ _ (Ok tt) (
       record { bytes = at_rows.before.before.if-doc_len-gt-DOCUMENT.false; words = at_rows.before.if-table.false },
       rows-table _ _ _ at_rows.if-table-n.false (record {
         some = (let n = at-kind.before.before.if-n-eq0.false in omega arith);
@@ -79,7 +80,7 @@ returns-9 c =
     let at-end = at_top.before.before in
     let at-kind = at-end.before.before in
     let at_rows = at-kind.before.before.before in
-    verdict-is _ _ Verdict.NoTable (
+    verdict-is _ _ (Err NoTable) (
       record { bytes = at_rows.before.before.if-doc_len-gt-DOCUMENT.false; words = at_rows.before.if-table.false },
       λ t. c.before.records_agree.ensures.no c.if-records_agree.false (table-rows _ _ _ at_rows.if-table-n.false t).each,
     )

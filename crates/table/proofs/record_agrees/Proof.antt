@@ -1,7 +1,6 @@
 -- `table::record_agrees` meets its contract: a record's kind says which of the two sorts it is.
 -- Assumes nothing.
 use borrow.Author.Rules.{rules}
-use borrow.Author.Tests.{not-true, not-false}
 use mathlib.Core.Path.{sym, ◌∙◌}
 use Rattle.table.proofs.Tests.{says-no, row-container, row-leaf}
 use Rattle.table.proofs.record_agrees.Statement.{statement}
