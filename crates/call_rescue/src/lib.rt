@@ -15,16 +15,11 @@ pub fn rescue(
 )
     ensures { RescueCalled (form_no form) doc.now table.old table.new out.old out.new changes.old changes.new answer.new }
 {
-    match nbt_rescue::rescue(doc, table, out, changes, form) {
-        nbt_rescue::Answer::Saved { bytes, lines } => {
-            *answer = [0, 0, bytes as u64, lines as u64, 0, 0, 0, 0];
+    *answer = match nbt_rescue::rescue(doc, table, out, changes, form) {
+        Ok(saved) => [0, 0, saved.bytes as u64, saved.lines as u64, 0, 0, 0, 0],
+        Err(e) => {
+            let refusal = e.refusal.number() as u64;
+            [refusal, e.place as u64, e.count as u64, 0, 0, 0, 0, 0]
         }
-        nbt_rescue::Answer::Refused {
-            number: refusal,
-            place: at,
-            count: many,
-        } => {
-            *answer = [refusal as u64, at as u64, many as u64, 0, 0, 0, 0, 0];
-        }
-    }
+    };
 }

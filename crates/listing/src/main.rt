@@ -2,8 +2,9 @@
 // document has at most 4,096 bytes and 512 records.
 #![tactic(auto)]
 
-use lines::{Hex, Line};
-use nbt_reader::Answer;
+use form::refusals::Refused;
+use lines::Line;
+use nbt_reader::Accepted;
 
 // One record: its number, kind, name length, payload length and count.
 fn print_record(table: &[u32], i: usize) {
@@ -26,20 +27,20 @@ fn print_records(table: &[u32], n: usize) {
 }
 
 // The answer to a document.
-fn print_answer(answer: Answer, table: &[u32]) {
+fn print_answer(answer: Result<Accepted, Refused>, table: &[u32]) {
     match answer {
-        Answer::Refused { number, place } => {
+        Err(e) => {
             io::write_all(1, b" refused");
-            lines::print_number(number as usize);
-            lines::print_number(place);
+            lines::print_number(usize::from(e.refusal.number()));
+            lines::print_number(e.place);
             io::write_all(1, b"\n");
         }
-        Answer::Accepted { consumed, records } => {
+        Ok(got) => {
             io::write_all(1, b" ok");
-            lines::print_number(consumed);
-            lines::print_number(records);
+            lines::print_number(got.consumed);
+            lines::print_number(got.records);
             io::write_all(1, b"\n");
-            print_records(table, records);
+            print_records(table, got.records);
         }
     }
 }
@@ -55,34 +56,32 @@ fn print_document(doc: &[u8], n: usize, table: &mut [u32]) {
 // The document that a line's digits stand for, listed; or that the line is bad.
 fn print_line(line: &[u8], len: usize, doc: &mut [u8], table: &mut [u32]) {
     match lines::unhex(line, len, doc) {
-        Hex::Bad => {
+        None => {
             io::write_all(1, b" badline\n");
         }
-        Hex::Bytes(n) => print_document(doc, n, table),
+        Some(n) => print_document(doc, n, table),
     }
 }
 
-// Which line it is, from 1: as many as the turns that are gone.
-fn print_place(turns: u64) {
+// Which line it is, from 1.
+fn print_place(turn: u64) {
     io::write_all(1, b"doc ");
-    io::print_decimal(1, u64::MAX - turns);
+    io::print_decimal(1, turn);
 }
 
 // Every line in turn, by way of lent buffers. The turns are for the loop to be seen to end: no input uses them up.
 fn list_lines(chunk: &mut [u8], line: &mut [u8], doc: &mut [u8], table: &mut [u32]) {
     let mut input = lines::start();
-    let mut turns = u64::MAX;
-    while 0 < turns {
-        turns -= 1;
+    for turn in 1..=u64::MAX {
         match lines::next_line(chunk, input, line) {
             Line::End => return,
             Line::Long { input: rest } => {
-                print_place(turns);
+                print_place(turn);
                 io::write_all(1, b" badline\n");
                 input = rest;
             }
             Line::Got { len, input: rest } => {
-                print_place(turns);
+                print_place(turn);
                 print_line(line, len, doc, table);
                 input = rest;
             }

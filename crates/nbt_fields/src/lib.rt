@@ -10,138 +10,107 @@ ghost use Rattle.nbt_fields.specs.Answers.{num_out, part_out, list_head_out, ent
 
 use form::forms::is_pocket;
 use form::kinds;
-use mutf8::Checked;
+use form::refusals::{Refusal, Refused};
 
-// A number that was read, or the place where the data ends before it.
-#[derive(Drop)]
-enum Num {
-    Is(usize),
-    Short(usize),
+// A field of the document: its first byte, its bytes, its count and the place behind it.
+#[derive(Clone, Copy)]
+pub struct Field {
+    pub start: usize,
+    pub len: usize,
+    pub count: usize,
+    pub next: usize,
 }
 
-// A field of the document: its first byte, its bytes, its count and the place behind it; or a refusal.
-#[derive(Drop)]
-pub enum Part {
-    Is {
-        start: usize,
-        len: usize,
-        count: usize,
-        next: usize,
-    },
-    No {
-        number: u8,
-        place: usize,
-    },
+// A list's kind and count.
+#[derive(Clone, Copy)]
+pub struct ListHead {
+    pub kind: u8,
+    pub count: usize,
 }
 
-// A list's kind and count, or a refusal.
-#[derive(Drop)]
-pub enum ListHead {
-    Is { kind: u8, count: usize },
-    No { number: u8, place: usize },
-}
-
-// An entry's kind and name, with the place of its payload; or a compound's end; or a refusal.
-#[derive(Drop)]
-pub enum Entry {
-    End,
-    Named { kind: u8, start: usize, len: usize },
-    No { number: u8, place: usize },
-}
-
-// A byte as a word.
-pub fn wide(x: u8) -> usize
-    ensures { result ≡ x }
-{
-    x as usize
+// An entry's kind and name: the name's first byte and its bytes, behind which the payload begins.
+#[derive(Clone, Copy)]
+pub struct Entry {
+    pub kind: u8,
+    pub start: usize,
+    pub len: usize,
 }
 
 // The number in the n bytes at `at`, in the order of the form (rule 1; 02, [2]).
-fn number(doc: &[u8], n: usize, at: usize, form: u32) -> Num
+fn number(doc: &[u8], n: usize, at: usize, form: u32) -> Result<usize, Refused>
     requires { (n ≤ 4) × (at ≤ length doc.now) }
     ensures { num_out result ≡ number_at (form_no form) doc.now n at }
 {
     if doc.len() - at < n {
-        return Num::Short(at);
+        return Err(Refused {
+            refusal: Refusal::DataEnds,
+            place: at,
+        });
     }
-    Num::Is(raw::number_in(doc, at, n, is_pocket(form)) as usize)
+    Ok(raw::number_in(doc, at, n, is_pocket(form)) as usize)
 }
 
 // The n bytes at `at`.
-fn bytes_at(doc: &[u8], n: usize, count: usize, at: usize) -> Part
+fn bytes_at(doc: &[u8], n: usize, count: usize, at: usize) -> Result<Field, Refused>
     requires { at ≤ length doc.now }
     ensures { part_out result ≡ bytes_at doc.now n count at }
 {
     if doc.len() - at < n {
-        return Part::No {
-            number: form::DATA_ENDS,
+        return Err(Refused {
+            refusal: Refusal::DataEnds,
             place: at,
-        };
+        });
     }
-    Part::Is {
+    Ok(Field {
         start: at,
         len: n,
         count,
         next: at + n,
-    }
+    })
 }
 
 // A string: its length, its content (1), which can be read to its end (4); where not, the place is that of the character (02, [3]). One sum
 // serves the test and the span: with a difference more, entry_at is too large to be compiled into its callers.
-pub fn string_at(doc: &[u8], at: usize, form: u32) -> Part
+pub fn string_at(doc: &[u8], at: usize, form: u32) -> Result<Field, Refused>
     requires { at ≤ length doc.now }
     ensures { part_out result ≡ string_at (form_no form) doc.now at }
 {
-    match number(doc, 2, at, form) {
-        Num::Short(p) => Part::No {
-            number: form::DATA_ENDS,
-            place: p,
-        },
-        Num::Is(n) => {
-            let start = at + 2;
-            let end = start + n;
-            if doc.len() < end {
-                return Part::No {
-                    number: form::DATA_ENDS,
-                    place: start,
-                };
-            }
-            match mutf8::check(&doc[start..end], form) {
-                Checked::Good => Part::Is {
-                    start,
-                    len: n,
-                    count: 0,
-                    next: end,
-                },
-                Checked::Bad(k) => Part::No {
-                    number: form::BAD_STRING,
-                    place: start + k,
-                },
-            }
-        }
+    let len = number(doc, 2, at, form)?;
+    let start = at + 2;
+    let end = start + len;
+    if doc.len() < end {
+        return Err(Refused {
+            refusal: Refusal::DataEnds,
+            place: start,
+        });
+    }
+    match mutf8::check(&doc[start..end], form) {
+        Ok(()) => Ok(Field {
+            start,
+            len,
+            count: 0,
+            next: end,
+        }),
+        Err(e) => Err(Refused {
+            refusal: Refusal::BadString,
+            place: start + e.at,
+        }),
     }
 }
 
 // An array: its count (1, 5), then its elements as one field (1).
-fn array_at(doc: &[u8], w: usize, at: usize, form: u32) -> Part
+fn array_at(doc: &[u8], w: usize, at: usize, form: u32) -> Result<Field, Refused>
     requires { (w ≤ 8) × (at ≤ length doc.now) }
     ensures { part_out result ≡ array_at (form_no form) doc.now w at }
 {
-    match number(doc, 4, at, form) {
-        Num::Short(p) => Part::No {
-            number: form::DATA_ENDS,
-            place: p,
-        },
-        Num::Is(n) => {
-            if n < BELOW_ZERO {
-                bytes_at(doc, n * w, n, at + 4)
-            } else {
-                Part::No {
-                    number: form::NEGATIVE_COUNT,
-                    place: at,
-                }
-            }
-        }
+    let n = number(doc, 4, at, form)?;
+    if n < BELOW_ZERO {
+        bytes_at(doc, n * w, n, at + 4)
+    } else {
+        Err(Refused {
+            refusal: Refusal::NegativeCount,
+            place: at,
+        })
     }
 }
 
@@ -153,11 +122,11 @@ pub fn width_of(kind: u8) -> usize
     requires { kind ≤ 12 }
     ensures { (result ≡ width_of kind) × (result ≤ 8) }
 {
-    table::width_of(wide(kind))
+    table::width_of(usize::from(kind))
 }
 
 // A payload of kinds 7, 8, 11 and 12: a string, or an array.
-pub fn leaf_at(doc: &[u8], kind: u8, at: usize, form: u32) -> Part
+pub fn leaf_at(doc: &[u8], kind: u8, at: usize, form: u32) -> Result<Field, Refused>
     requires { (6 < kind) × (kind ≤ 12) × (at ≤ length doc.now) }
     ensures { part_out result ≡ leaf_at (form_no form) doc.now kind at }
 {
@@ -168,97 +137,87 @@ pub fn leaf_at(doc: &[u8], kind: u8, at: usize, form: u32) -> Part
 }
 
 // A list's kind and count: both are whole (1) before they are judged.
-pub fn list_head(doc: &[u8], at: usize, form: u32) -> ListHead
+pub fn list_head(doc: &[u8], at: usize, form: u32) -> Result<ListHead, Refused>
     requires { at ≤ length doc.now }
     ensures { list_head_out result ≡ list_head_at (form_no form) doc.now at }
 {
     if doc.len() <= at {
-        return ListHead::No {
-            number: form::DATA_ENDS,
+        return Err(Refused {
+            refusal: Refusal::DataEnds,
             place: at,
-        };
+        });
     }
     let kind = doc[at];
-    match number(doc, 4, at + 1, form) {
-        Num::Short(p) => ListHead::No {
-            number: form::DATA_ENDS,
-            place: p,
-        },
-        Num::Is(count) => judge_head(kind, count, at),
-    }
+    let count = number(doc, 4, at + 1, form)?;
+    judge_head(kind, count, at)
 }
 
 // The head of a list at `at` by its kind and count: the kind is one of rule 4, or END of a list with no elements (3), and the count is not
 // below 0 (5). An empty list has no kind.
-fn judge_head(kind: u8, count: usize, at: usize) -> ListHead
+fn judge_head(kind: u8, count: usize, at: usize) -> Result<ListHead, Refused>
     requires { at + 1 < 2 ^ 64 }
     ensures { HeadIs kind count at result }
 {
     if kinds::LONG_ARRAY < kind {
-        return ListHead::No {
-            number: form::TAG_ID,
+        return Err(Refused {
+            refusal: Refusal::TagId,
             place: at,
-        };
+        });
     }
     if count == 0 {
-        return ListHead::Is {
+        return Ok(ListHead {
             kind: kinds::END,
             count: 0,
-        };
+        });
     }
     if kind == kinds::END {
-        return ListHead::No {
-            number: form::TAG_ID,
+        return Err(Refused {
+            refusal: Refusal::TagId,
             place: at,
-        };
+        });
     }
     if BELOW_ZERO <= count {
-        return ListHead::No {
-            number: form::NEGATIVE_COUNT,
+        return Err(Refused {
+            refusal: Refusal::NegativeCount,
             place: at + 1,
-        };
+        });
     }
-    ListHead::Is { kind, count }
+    Ok(ListHead { kind, count })
 }
 
 // An entry of some kind: its name (1, 4), then its id (2).
-fn named(doc: &[u8], kind: u8, at: usize, form: u32) -> Entry
+fn named(doc: &[u8], kind: u8, at: usize, form: u32) -> Result<Option<Entry>, Refused>
     requires { (at < length doc.now) × (kind ≡ get_or doc.now at 0) × (kind ≡ 0 → ⊥) }
     ensures { entry_out result ≡ entry_at (form_no form) doc.now at }
 {
-    match string_at(doc, at + 1, form) {
-        Part::No { number, place } => Entry::No { number, place },
-        Part::Is {
-            start,
-            len,
-            count: _,
-            next: _,
-        } => {
-            if kinds::LONG_ARRAY < kind {
-                return Entry::No {
-                    number: form::TAG_ID,
-                    place: at,
-                };
-            }
-            Entry::Named { kind, start, len }
-        }
+    let name = string_at(doc, at + 1, form)?;
+    if kinds::LONG_ARRAY < kind {
+        return Err(Refused {
+            refusal: Refusal::TagId,
+            place: at,
+        });
     }
+    Ok(Some(Entry {
+        kind,
+        start: name.start,
+        len: name.len,
+    }))
 }
 
 // An entry's kind and name, or a compound's end.
-pub fn entry_at(doc: &[u8], at: usize, form: u32) -> Entry
+pub fn entry_at(doc: &[u8], at: usize, form: u32) -> Result<Option<Entry>, Refused>
     requires { at ≤ length doc.now }
     ensures { entry_out result ≡ entry_at (form_no form) doc.now at }
 {
     if doc.len() <= at {
-        return Entry::No {
-            number: form::DATA_ENDS,
+        return Err(Refused {
+            refusal: Refusal::DataEnds,
             place: at,
-        };
+        });
     }
     let kind = doc[at];
     if kind == kinds::END {
-        return Entry::End;
+        return Ok(None);
     }
     named(doc, kind, at, form)
 }

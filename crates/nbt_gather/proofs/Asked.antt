@@ -1,12 +1,12 @@
 -- The steps of the proofs that are about plain values: what the functions ask of each other, and what they leave, from what their parts do.
 -- Assumes nothing.
 use Prim.Native.Nat.{ℕ, ◌+◌, ◌-◌, ◌*◌, ◌≤◌, ◌<◌, ◌^◌}
-use mathlib.Core.Bool.{Bool, true, false}
+use mathlib.Core.Bool.{true}
 use mathlib.Core.List.{List, [], ◌∷◌}
 use mathlib.Core.Path.{◌≡◌, refl, ap, ◌∙◌}
 use native.Mathlib.Omega.{arith}
 use native.Mathlib.Numerals.{towards_suc}
-use borrow.Author.Tests.{lt-ltb, le-ltb, eq-eqb, ne_eqb}
+use borrow.Author.Tests.{ne_eqb}
 use lib.ListN.{length, set}
 use lib.Dec.{ltb, eqb}
 use Rattle.form.specs.Form.{Form}
@@ -36,11 +36,6 @@ pub line-put : (ls : List ℕ) (level n promised kept : ℕ) → 3 * level + 3 �
     → set (set (set ls (3 * level) n) (3 * level + 1) promised) (3 * level + 2) kept ≡ over ls (3 * level) (n ∷ promised ∷ kept ∷ [])
 line-put ls level n promised kept h = simp towards_suc (sets_over (n ∷ promised ∷ kept ∷ []) ls (3 * level) h)
 
--- What `held` asks, where the side is known.
-pub asked-known : {t ls : List ℕ} {name len promised level above n most : ℕ} {s s' : Side} → s ≡ s' → HeldAsked t name len promised level above n s ls most
-    → HeldAsked t name len promised level above n s' ls most
-asked-known e h = rw e at h
-
 module _ (kind name len inner promised level above n : ℕ) (t t' ls : List ℕ) (most : ℕ) (s : Side) where
   -- A container's record, behind what is whole and behind what is cut.
   pub held_whole : (at n' count : ℕ) → s ≡ Side.Whole at n' count → {r : Record} → r ≡ container_of kind name len count inner n' above
@@ -52,25 +47,9 @@ module _ (kind name len inner promised level above n : ℕ) (t t' ls : List ℕ)
       → HeldIs kind name len inner promised level above n t t' ls ls' most s (Piece.Cut n' (m + 1))
   held_cut n' count m e {r} {first} f i g l = rw e (refl, rw (f, i) at g, l)
 
--- The list of lines behind a cut container: with its line, if all lines are `most` at the most, or as it was.
-module _ (ls ls' : List ℕ) (level n promised count m most : ℕ) where
-  pub line-listed : level + m < most → ls' ≡ over ls (3 * level) (n ∷ promised ∷ count ∷ [])
-      → ls' ≡ pick (ltb (level + m) most) (over ls (3 * level) (n ∷ promised ∷ count ∷ [])) ls
-  line-listed h e = rw (lt-ltb (level + m) most h) e
-
-  pub line-unlisted : most ≤ level + m → ls' ≡ ls → ls' ≡ pick (ltb (level + m) most) (over ls (3 * level) (n ∷ promised ∷ count ∷ [])) ls
-  line-unlisted h e = rw (le-ltb (level + m) most h) e
-
 -- The kind of a cut container's elements: none where there are none.
-pub first-zero : (count inner first : ℕ) → count ≡ 0 → first ≡ 0 → first ≡ pick (eqb count 0) 0 inner
-first-zero count inner first e f = f ∙ rw (eq-eqb count 0 e) refl
-
 pub first_inner : (count inner first : ℕ) → (count ≡ 0 → ⊥) → first ≡ inner → first ≡ pick (eqb count 0) 0 inner
 first_inner count inner first e f = f ∙ rw (ne_eqb count 0 e) refl
-
-pub picked-le : (t : Bool) (inner : ℕ) → pick t 0 inner ≤ inner
-picked-le true inner = omega arith
-picked-le false inner = omega arith
 
 -- ---- a payload, from what is asked of it
 

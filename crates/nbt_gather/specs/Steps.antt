@@ -1,6 +1,6 @@
 -- What the contracts of this crate cite: what is read again, what of it is kept, and what that leaves in the table and in the list of lines.
 -- Assumes nothing.
-use Rattle.std.specs.Prelude.{ℕ, suc, ◌+◌, ◌-◌, ◌*◌, ◌≤◌, ◌<◌, ◌^◌, ◌≡◌, List, [], ◌∷◌, length, ltb, eqb}
+use Rattle.std.specs.Prelude.{ℕ, suc, ◌+◌, ◌-◌, ◌*◌, ◌≤◌, ◌<◌, ◌^◌, ◌≡◌, List, [], ◌∷◌, length, ltb, eqb, Option, Some, None}
 use Rattle.form.specs.Form.{Form}
 use Rattle.form.specs.Answer.{Out, got, no, pick, data_ends, depth_limit}
 use Rattle.form.specs.Spans.{over}
@@ -163,6 +163,6 @@ pub record KeptIn (form : Form) (doc t t' ls ls' : List ℕ) (most records lines
   pub fits : 9 * records ≤ length t
   pub small : lines ≤ depth_limit
 
-abbrev pub GatheredIs : Form → List ℕ → List ℕ → List ℕ → List ℕ → List ℕ → ℕ → Gathered → Type 0
-GatheredIs form doc t t' ls ls' most (Gathered.Kept records lines) = KeptIn form doc t t' ls ls' most records lines
-GatheredIs form doc t t' ls ls' most Gathered.NoRoot = ((m p : ℕ) × (string_at form doc 1 ≡ no m p)) × (t' ≡ t) × (ls' ≡ ls)
+abbrev pub GatheredIs : Form → List ℕ → List ℕ → List ℕ → List ℕ → List ℕ → ℕ → Option Gathered → Type 0
+GatheredIs form doc t t' ls ls' most (Some g) = KeptIn form doc t t' ls ls' most g.records g.lines
+GatheredIs form doc t t' ls ls' most None = ((m p : ℕ) × (string_at form doc 1 ≡ no m p)) × (t' ≡ t) × (ls' ≡ ls)

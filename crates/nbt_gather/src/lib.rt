@@ -13,11 +13,11 @@ ghost use Rattle.nbt_reader.specs.Steps.{Named};
 ghost use Rattle.nbt_gather.specs.Steps.{IsCut, LeafIs, HeldAsked, PayloadAsked, ElementsAsked, EntriesAsked, PayloadIs, ElementsAre, EntriesAre, HeldIs, GatheredIs};
 
 use form::kinds;
-use nbt_fields::{Entry, ListHead, Part, wide};
+use nbt_fields::{Entry, ListHead};
 
 // A payload: whole, with the place behind it and the next record's number; or cut, with the next record's number behind what is kept of it,
 // and how many containers are open, itself counted.
-#[derive(Drop)]
+#[derive(Clone, Copy)]
 enum Piece {
     Whole(usize, usize),
     Cut(usize, usize),
@@ -25,17 +25,17 @@ enum Piece {
 
 // Payloads side by side: whole, with the place behind them, the next record's number, and how many there are; or cut, with the next
 // record's number behind what is kept of them, how many those are, and how many containers are open.
-#[derive(Drop)]
+#[derive(Clone, Copy)]
 enum Side {
     Whole(usize, usize, usize),
     Cut(usize, usize, usize),
 }
 
-// What was gathered: records and lines; or nothing, where the cut falls in the root's id or name.
-#[derive(Drop)]
-pub enum Gathered {
-    Kept { records: usize, lines: usize },
-    NoRoot,
+// What was gathered: how many records and lines.
+#[derive(Clone, Copy)]
+pub struct Gathered {
+    pub records: usize,
+    pub lines: usize,
 }
 
 // A payload of kinds 1 to 6, which has its length in every form: a record, or nothing.
@@ -59,7 +59,7 @@ fn gather_fixed(
     table::put(
         table,
         ix,
-        table::leaf(wide(kind), name, len, at, width, 0, ix + 1, up),
+        table::leaf(usize::from(kind), name, len, at, width, 0, ix + 1, up),
     );
     Piece::Whole(at + width, ix + 1)
 }
@@ -80,19 +80,23 @@ fn gather_leaf(
     ensures { LeafIs doc.now (room_of (length table.old)) (leaf_one (form_no form) doc.now kind name len at) at up ix table.old table.new result }
 {
     match nbt_fields::leaf_at(doc, kind, at, form) {
-        Part::No { .. } => Piece::Cut(ix, 0),
-        Part::Is {
-            start,
-            len: size,
-            count,
-            next,
-        } => {
+        Err(_) => Piece::Cut(ix, 0),
+        Ok(leaf) => {
             table::put(
                 table,
                 ix,
-                table::leaf(wide(kind), name, len, start, size, count, ix + 1, up),
+                table::leaf(
+                    usize::from(kind),
+                    name,
+                    len,
+                    leaf.start,
+                    leaf.len,
+                    leaf.count,
+                    ix + 1,
+                    up,
+                ),
             );
-            Piece::Whole(next, ix + 1)
+            Piece::Whole(leaf.next, ix + 1)
         }
     }
 }
@@ -134,22 +138,17 @@ fn held(
     requires { HeldAsked table.old name len promised level up n side lines.old most }
     ensures { HeldIs kind name len inner promised level up n table.old table.new lines.old lines.new most side result }
 {
+    let of = usize::from(inner);
     match side {
         Side::Whole(at, ix, count) => {
-            table::put(
-                table,
-                n,
-                table::container(wide(kind), name, len, count, wide(inner), ix, up),
-            );
+            let record = table::container(usize::from(kind), name, len, count, of, ix, up);
+            table::put(table, n, record);
             Piece::Whole(at, ix)
         }
         Side::Cut(ix, count, open) => {
-            let first = if count == 0 { 0 } else { wide(inner) };
-            table::put(
-                table,
-                n,
-                table::container(wide(kind), name, len, count, first, ix, up),
-            );
+            let first = if count == 0 { 0 } else { of };
+            let record = table::container(usize::from(kind), name, len, count, first, ix, up);
+            table::put(table, n, record);
             if level + open < most {
                 put_line(lines, level, n, promised, count);
             }
@@ -177,12 +176,12 @@ fn gather_tag_body(
     requires { PayloadAsked (form_no form) doc.now table.old depth kind name len at up ix lines.old most }
     ensures { PayloadIs (form_no form) doc.now depth kind name len at up ix table.old table.new lines.old lines.new most result }
 {
-    match kind {
-        kinds::END..=kinds::DOUBLE => gather_fixed(doc, kind, name, len, at, table, up, ix),
-        _ => gather_larger_body(
-            doc, kind, name, len, at, depth, table, up, ix, lines, most, form,
-        ),
+    if kind <= kinds::DOUBLE {
+        return gather_fixed(doc, kind, name, len, at, table, up, ix);
     }
+    gather_larger_body(
+        doc, kind, name, len, at, depth, table, up, ix, lines, most, form,
+    )
 }
 
 // The same of kinds 7 to 12. A container was not refused with 7, so `depth`, which counts it, is not 0.
@@ -207,21 +206,14 @@ fn gather_larger_body(
     let level = form::DEPTH - depth;
     match kind {
         kinds::LIST => match nbt_fields::list_head(doc, at, form) {
-            ListHead::No { .. } => Piece::Cut(ix, 0),
-            ListHead::Is { kind: of, count: n } => {
-                let s = gather_elements(
-                    doc,
-                    of,
-                    n,
-                    at + 5,
-                    depth - 1,
-                    table,
-                    ix,
-                    lines,
-                    most,
-                    form,
-                );
-                held(kind, name, len, of, n, s, level, table, up, ix, lines, most)
+            Err(_) => Piece::Cut(ix, 0),
+            Ok(head) => {
+                let ListHead { kind: of, count } = head;
+                let (from, below) = (at + 5, depth - 1);
+                let s = gather_elements(doc, of, count, from, below, table, ix, lines, most, form);
+                held(
+                    kind, name, len, of, count, s, level, table, up, ix, lines, most,
+                )
             }
         },
         kinds::COMPOUND => {
@@ -251,21 +243,19 @@ fn gather_elements(
 {
     let mut here = at;
     let mut next = n + 1;
-    let mut done: usize = 0;
-    while done < count {
+    for done in 0..count {
         if doc.len() <= here {
             return Side::Cut(next, done, 0);
         }
         match gather_tag_body(
             doc, kind, 0, 0, here, depth, table, n, next, lines, most, form,
         ) {
-            Piece::Cut(end, open) => return Side::Cut(end, with_open(done, open), open),
-            Piece::Whole(a, i) => {
-                here = a;
-                next = i;
+            Piece::Cut(ix, open) => return Side::Cut(ix, with_open(done, open), open),
+            Piece::Whole(at, ix) => {
+                here = at;
+                next = ix;
             }
         }
-        done += 1;
     }
     Side::Whole(here, next, count)
 }
@@ -286,75 +276,64 @@ fn gather_compound(
     ensures { EntriesAre (form_no form) doc.now depth at n table.old table.new lines.old lines.new most result }
 {
     let mut here = at;
-    let mut ix = n + 1;
+    let mut next = n + 1;
     let mut count: usize = 0;
     loop {
-        match nbt_fields::entry_at(doc, here, form) {
-            Entry::No { .. } => return Side::Cut(ix, count, 0),
-            Entry::End => return Side::Whole(here + 1, ix, count),
-            Entry::Named {
-                kind,
-                start: name,
-                len,
-            } => match gather_tag_body(
-                doc,
-                kind,
-                name,
-                len,
-                name + len,
-                depth,
-                table,
-                n,
-                ix,
-                lines,
-                most,
-                form,
-            ) {
-                Piece::Cut(end, open) => return Side::Cut(end, with_open(count, open), open),
-                Piece::Whole(a, i) => {
-                    here = a;
-                    ix = i;
-                    count += 1;
-                }
-            },
+        let Entry { kind, start, len } = match nbt_fields::entry_at(doc, here, form) {
+            Err(_) => return Side::Cut(next, count, 0),
+            Ok(None) => return Side::Whole(here + 1, next, count),
+            Ok(Some(entry)) => entry,
+        };
+        let payload = start + len;
+        match gather_tag_body(
+            doc, kind, start, len, payload, depth, table, n, next, lines, most, form,
+        ) {
+            Piece::Cut(ix, open) => return Side::Cut(ix, with_open(count, open), open),
+            Piece::Whole(at, ix) => {
+                here = at;
+                next = ix;
+                count += 1;
+            }
         }
     }
 }
 
-// What is kept of a document that is refused with 1: its records in the table and, if they are `most` at the most, its lines in the list.
-pub fn gather(doc: &[u8], table: &mut [u32], lines: &mut [u32], most: usize, form: u32) -> Gathered
+// What is kept of a document that is refused with 1: its records in the table and, if they are `most` at the most, its lines in the list; nothing where the
+// cut falls in the root's id or name.
+pub fn gather(
+    doc: &[u8],
+    table: &mut [u32],
+    lines: &mut [u32],
+    most: usize,
+    form: u32,
+) -> Option<Gathered>
     requires { (IsCut (reading (form_no form) doc.now table.old)) × (3 * most ≤ length lines.old) }
     ensures { GatheredIs (form_no form) doc.now table.old table.new lines.old lines.new most result }
 {
     if doc.len() == 0 {
-        return Gathered::NoRoot;
+        return None;
     }
-    match nbt_fields::string_at(doc, 1, form) {
-        Part::No { .. } => Gathered::NoRoot,
-        Part::Is {
-            start,
-            len,
-            count: _,
-            next,
-        } => match gather_larger_body(
-            doc,
-            kinds::COMPOUND,
-            start,
-            len,
-            next,
-            form::DEPTH,
-            table,
-            0,
-            0,
-            lines,
-            most,
-            form,
-        ) {
-            Piece::Whole(_, _) => Gathered::NoRoot,
-            Piece::Cut(ix, open) => Gathered::Kept {
-                records: ix,
-                lines: open,
-            },
-        },
+    let Ok(name) = nbt_fields::string_at(doc, 1, form) else {
+        return None;
+    };
+    match gather_larger_body(
+        doc,
+        kinds::COMPOUND,
+        name.start,
+        name.len,
+        name.next,
+        form::DEPTH,
+        table,
+        0,
+        0,
+        lines,
+        most,
+        form,
+    ) {
+        Piece::Whole(_, _) => None,
+        Piece::Cut(ix, open) => Some(Gathered {
+            records: ix,
+            lines: open,
+        }),
     }
 }

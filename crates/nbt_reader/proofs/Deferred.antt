@@ -16,7 +16,7 @@ use Rattle.form.specs.Spans.{part}
 use Rattle.form.proofs.Answer.{bind-got, guard-got}
 use Rattle.form.proofs.Fields.{string-worded}
 use lib.Dec.{leb, eqb}
-use Rattle.form.proofs.Table.{append-none, append-append, size-one, size-append, width_one, width-append, wrote_none, wrote-next, wrote-length}
+use Rattle.form.proofs.Table.{append-none, append-append, size-one, size-append, width_one, width-append, wrote_none, wrote-next}
 use Rattle.form.proofs.Runs.{after, entries-head-no, entries-end, entries_twice, entries-no, entries_next, after_then}
 use Rattle.nbt_siblings.specs.Forests.{spare, Free, names_once}
 use Rattle.nbt_siblings.proofs.Kept.{free-none, free_more}
@@ -124,9 +124,6 @@ going_start doc whole t above n =
     record { deferred = deferred-start doc whole; n_is = omega arith; done-is = refl; table = sym (wrote_none t above n); names = names-none (length doc); free = free-none }
 
 module _ {doc : List ℕ} {whole left : Out Run} {acc : Forest} {t₀ t : List ℕ} {above n₀ n done : ℕ} (g : Going doc whole left acc t₀ t above n₀ n done) where
-  pub going-length : 9 * n ≤ length t₀ → length t ≡ length t₀
-  going-length h = rw g.table (wrote-length t₀ above n₀ acc (rw (← g.n_is) h))
-
   pub going_next : (x : One) (rest : Out Run) (t' : List ℕ) (n' done' : ℕ) → Deferred doc whole rest (acc ⊕ node x.head x.inner none)
       → t' ≡ wrote t above n (node x.head x.inner none) → n' ≡ n + 1 + size x.inner → done' ≡ done + 1 → 9 * n ≤ length t₀
       → x.head.name + x.head.name_length ≤ length doc → spare x.head ≡ 0

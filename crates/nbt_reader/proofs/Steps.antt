@@ -3,25 +3,24 @@
 use Prim.Native.Nat.{ℕ, ◌+◌, ◌*◌, ◌≤◌, ◌<◌}
 use mathlib.Core.List.{List}
 use mathlib.Core.Path.{◌≡◌, refl, sym, ap, ◌∙◌}
-use lib.ListN.{length, replicate}
+use lib.ListN.{length}
 use lib.Dec.{eqb}
 use mathlib.Core.Bool.{Bool, true, false, not, ◌||◌}
 use Rattle.form.specs.Form.{Form}
 use Rattle.form.specs.Answer.{Out, got, no, ◌>>◌, guard}
 use Rattle.form.specs.Table.{Forest, none, node, size, width, wrote, width_of, holds}
 use Rattle.form.specs.Spans.{over}
-use Rattle.form.specs.Reading.{Inside, One, Run, held_one, ReadIs, reading, bytes_at, leaf_at}
-use Rattle.nbt_siblings.specs.declared.Repeat.{Repeat}
-use Rattle.nbt_siblings.specs.Forests.{place_out}
+use Rattle.form.specs.Reading.{Inside, One, Run, held_one, bytes_at, leaf_at}
 use Rattle.form.proofs.Table.{wrote-head}
 use Rattle.form.proofs.Fields.{bytes-got, bytes-no, leaf-fixed}
 use Rattle.table.specs.declared.Record.{Record}
 use Rattle.table.specs.Records.{record_words, container_of}
+use Rattle.std.specs.Prelude.{Some, Result, Ok, Err}
+use Rattle.nbt_siblings.specs.Forests.{place_out}
+use Rattle.form.specs.declared.refusals.Refused.{Refused}
 use Rattle.nbt_reader.specs.declared.bodies.Step.{Step}
-use Rattle.nbt_reader.specs.declared.Answer.{Answer}
-use Rattle.nbt_reader.specs.declared.bodies.Kids.{Kids}
 use Rattle.nbt_reader.specs.declared.settling.Ran.{Ran}
-use Rattle.nbt_reader.specs.Steps.{Filled, Next, Gone, Stepped, Held, Went, Kept, Settled, Finished, EntrySettled, read_out}
+use Rattle.nbt_reader.specs.Steps.{Filled, Stepped, Went, Kept, Settled, Finished, EntrySettled}
 use native.Mathlib.Omega.{arith}
 use borrow.Author.Tests.{eq-eqb, ne_eqb, eqb-false}
 
@@ -31,9 +30,6 @@ holds_not k d e = simp (ne_eqb k 9 d, ne_eqb k 10 e)
 
 pub holds-below : (k : ℕ) → k < 9 → holds k ≡ false
 holds-below k h = holds_not k (λ e. omega (arith, e, h)) (λ e. omega (arith, e, h))
-
-pub holds-above : (k : ℕ) → 10 < k → holds k ≡ false
-holds-above k h = holds_not k (λ e. omega (arith, e, h)) (λ e. omega (arith, e, h))
 
 pub holds-between : (k : ℕ) → 9 ≤ k → k ≤ 10 → holds k ≡ true
 holds-between k h l = go (eqb k 9) refl
@@ -62,52 +58,32 @@ held-table above n {t} s {kind} {name} {len} e f l =
     f ∙ rw (e, s.table, s.count_is, s.kind_is, s.n_is) (wrote-head t above n (held_one kind name len s.x).head s.x.forest l)
 
 -- a step that goes on from a place goes on from 0
-pub stepped-from : (r : Step) (doc : List ℕ) (cap : ℕ) (o : Out One) (at above n : ℕ) (t t' : List ℕ) → Stepped doc cap o at above n t t' r → Stepped doc cap o 0 above n t t' r
-stepped-from (Step.Next a i) doc cap o at above n t t' s =
+pub stepped-from : (r : Result Step Refused) (doc : List ℕ) (cap : ℕ) (o : Out One) (at above n : ℕ) (t t' : List ℕ)
+    → Stepped doc cap o at above n t t' r → Stepped doc cap o 0 above n t t' r
+stepped-from (Ok x) doc cap o at above n t t' s =
     record { x = s.x; is = s.is; at_is = s.at_is; n_is = s.n_is; table = s.table; on = omega arith; at_le = s.at_le; n_le = s.n_le }
-stepped-from (Step.No m p) doc cap o at above n t t' s = s
-
--- the two public answers
-pub refused : (form : Form) (doc t t₁ : List ℕ) {t₂ : List ℕ} {m p : ℕ} → reading form doc t ≡ no m p → length t₁ ≡ length t → t₂ ≡ replicate (length t₁) 0
-    → ReadIs form doc t (read_out (Answer.Refused m p)) t₂
-refused form doc t t₁ e l c = record { answer_is = rw e refl; table_is = rw e (c ∙ ap (λ n. replicate n 0) l) }
-
-pub accepted : (form : Form) (doc t : List ℕ) {cap at n : ℕ} {t' : List ℕ} → Next doc cap (reading form doc t) at n 0 0 0 t t' → ReadIs form doc t (read_out (Answer.Accepted at n)) t'
-accepted form doc t s = record { answer_is = rw (s.is, s.at_is, s.n_is) refl; table_is = rw s.is s.table }
+stepped-from (Err e) doc cap o at above n t t' s = s
 
 -- ---- a refusal, unless a name is repeated before it
 
-pub settled_at : (o : Out (Unit {0})) (n p q : ℕ) → place_out (Repeat.At q) ≡ o → ◌>>◌ {A = Unit {0}} {B = Run} o (no n p) ≡ no 6 q
+pub settled_at : (o : Out (Unit {0})) (n p q : ℕ) → place_out (Some q) ≡ o → ◌>>◌ {A = Unit {0}} {B = Run} o (no n p) ≡ no 6 q
 settled_at o n p q e = rw (← e) refl
 
-pub settled-none : (o : Out (Unit {0})) (n p : ℕ) → place_out Repeat.Nothing ≡ o → ◌>>◌ {A = Unit {0}} {B = Run} o (no n p) ≡ no n p
-settled-none o n p e = rw (← e) refl
+pub settled-went : (r : Refused) (doc : List ℕ) (cap : ℕ) (whole : Out Run) (at above n : ℕ) (t t' : List ℕ) (o o' : Out (Unit {0})) (m p : ℕ)
+    → Settled o m p r → whole ≡ (o' >> no m p) → o' ≡ o → Kept n t t' → Went doc cap whole at above n t t' (Err r)
+settled-went r doc cap whole at above n t t' o o' m p h w e g = (w ∙ ap (λ u. ◌>>◌ {A = Unit {0}} {B = Run} u (no m p)) e ∙ h, g)
 
-pub entry-settled-yes : (o : Out (Unit {0})) (b : Bool) (here n p : ℕ) (r : Ran) → b ≡ true → Settled o 6 here r → EntrySettled o b here n p r
-entry-settled-yes o b here n p (Ran.No m q) e h = rw e h
-entry-settled-yes o b here n p (Ran.Done a i c) e h = h
-
-pub entry-settled-no : (o : Out (Unit {0})) (b : Bool) (here n p : ℕ) (r : Ran) → b ≡ false → Settled o n p r → EntrySettled o b here n p r
-entry-settled-no o b here n p (Ran.No m q) e h = rw e h
-entry-settled-no o b here n p (Ran.Done a i c) e h = h
-
-pub settled-went : (r : Ran) (doc : List ℕ) (cap : ℕ) (whole : Out Run) (at above n : ℕ) (t t' : List ℕ) (o o' : Out (Unit {0})) (m p : ℕ)
-    → Settled o m p r → whole ≡ (o' >> no m p) → o' ≡ o → Kept n t t' → Went doc cap whole at above n t t' r
-settled-went (Ran.No k q) doc cap whole at above n t t' o o' m p h w e g = (w ∙ ap (λ u. ◌>>◌ {A = Unit {0}} {B = Run} u (no m p)) e ∙ h, g)
-settled-went (Ran.Done a i c) doc cap whole at above n t t' o o' m p h w e g = absurd h
-
-pub entry-settled-went : (r : Ran) (doc : List ℕ) (cap : ℕ) (whole : Out Run) (at above n : ℕ) (t t' : List ℕ) (o o' : Out (Unit {0})) (b b' : Bool) (here m p : ℕ)
-    → EntrySettled o b here m p r → whole ≡ (o' >> (guard (not b') 6 here >> no m p)) → o' ≡ o → b' ≡ b → Kept n t t' → Went doc cap whole at above n t t' r
-entry-settled-went (Ran.No k q) doc cap whole at above n t t' o o' b b' here m p h w e f g =
+pub entry-settled-went : (r : Refused) (doc : List ℕ) (cap : ℕ) (whole : Out Run) (at above n : ℕ) (t t' : List ℕ) (o o' : Out (Unit {0})) (b b' : Bool) (here m p : ℕ)
+    → EntrySettled o b here m p r → whole ≡ (o' >> (guard (not b') 6 here >> no m p)) → o' ≡ o → b' ≡ b → Kept n t t' → Went doc cap whole at above n t t' (Err r)
+entry-settled-went r doc cap whole at above n t t' o o' b b' here m p h w e f g =
     (w ∙ (λ i. ◌>>◌ {A = Unit {0}} {B = Run} (e i) (guard (not (f i)) 6 here >> no m p)) ∙ h, g)
-entry-settled-went (Ran.Done a i c) doc cap whole at above n t t' o o' b b' here m p h w e f g = absurd h
 
-pub finished-went : (r : Ran) (doc : List ℕ) (cap : ℕ) (whole : Out Run) (from above n : ℕ) (t t' : List ℕ) (o o' : Out (Unit {0})) (at next count : ℕ) (acc : Forest)
+pub finished-went : (r : Result Ran Refused) (doc : List ℕ) (cap : ℕ) (whole : Out Run) (from above n : ℕ) (t t' : List ℕ) (o o' : Out (Unit {0})) (at next count : ℕ) (acc : Forest)
     → Finished o at next count r → whole ≡ (o' >> got (record { forest = acc; next = at })) → o' ≡ o → Kept n t t'
     → next ≡ n + size acc → count ≡ width acc → t' ≡ wrote t above n acc → from ≤ at → at ≤ length doc → next ≤ cap → Went doc cap whole from above n t t' r
-finished-went (Ran.No k q) doc cap whole from above n t t' o o' at next count acc h w e g ni ci ti on al nl =
+finished-went (Err r) doc cap whole from above n t t' o o' at next count acc h w e g ni ci ti on al nl =
     (w ∙ ap (λ u. ◌>>◌ {A = Unit {0}} {B = Run} u (got (record { forest = acc; next = at }))) (e ∙ h), g)
-finished-went (Ran.Done a i c) doc cap whole from above n t t' o o' at next count acc h w e g ni ci ti on al nl = record {
+finished-went (Ok r) doc cap whole from above n t t' o o' at next count acc h w e g ni ci ti on al nl = record {
   x = record { forest = acc; next = at };
   is = w ∙ ap (λ u. ◌>>◌ {A = Unit {0}} {B = Run} u (got (record { forest = acc; next = at }))) (e ∙ h.0);
   at_is = h.1;
@@ -118,29 +94,3 @@ finished-went (Ran.Done a i c) doc cap whole from above n t t' o o' at next coun
   at_le = omega (arith, al, h.1);
   n_le = omega (arith, nl, h.2);
 }
-
--- ---- what a step leaves, by its answer
-
-pub stepped-no : (r : Step) (doc : List ℕ) (cap : ℕ) {o : Out One} (at above n : ℕ) (t t' : List ℕ) {m p : ℕ} → r ≡ Step.No m p → Stepped doc cap o at above n t t' r
-    → (o ≡ no m p) × Kept n t t'
-stepped-no r doc cap at above n t t' e h = rw e at h
-
-pub stepped-next : (r : Step) {doc : List ℕ} {cap : ℕ} {o : Out One} {at above n : ℕ} {t t' : List ℕ} {a i : ℕ} → r ≡ Step.Next a i → Stepped doc cap o at above n t t' r
-    → Next doc cap o a i at above n t t'
-stepped-next r e h = rw e at h
-
-pub held-no : (r : Kids) (doc : List ℕ) (cap : ℕ) {o : Out Inside} (at above n : ℕ) (t t' : List ℕ) {m p : ℕ} → r ≡ Kids.No m p → Held doc cap o at above n t t' r
-    → (o ≡ no m p) × Kept n t t'
-held-no r doc cap at above n t t' e h = rw e at h
-
-pub held-done : (r : Kids) {doc : List ℕ} {cap : ℕ} {o : Out Inside} {at above n : ℕ} {t t' : List ℕ} {a i c k : ℕ} → r ≡ Kids.Done a i c k → Held doc cap o at above n t t' r
-    → Filled doc cap o a i c k at above n t t'
-held-done r e h = rw e at h
-
-pub went-no : (r : Ran) (doc : List ℕ) (cap : ℕ) {o : Out Run} (at above n : ℕ) (t t' : List ℕ) {m p : ℕ} → r ≡ Ran.No m p → Went doc cap o at above n t t' r
-    → (o ≡ no m p) × Kept n t t'
-went-no r doc cap at above n t t' e h = rw e at h
-
-pub went-done : (r : Ran) {doc : List ℕ} {cap : ℕ} {o : Out Run} {at above n : ℕ} {t t' : List ℕ} {a i c : ℕ} → r ≡ Ran.Done a i c → Went doc cap o at above n t t' r
-    → Gone doc cap o a i c at above n t t'
-went-done r e h = rw e at h

@@ -1,6 +1,6 @@
 -- What the contracts of this crate cite: the public answer as the definition's, and what a step leaves in the table.
 -- Assumes nothing.
-use Rattle.std.specs.Prelude.{ℕ, suc, ◌+◌, ◌*◌, ◌≤◌, ◌<◌, ◌^◌, ◌≡◌, List, length, take, Bool, not}
+use Rattle.std.specs.Prelude.{ℕ, suc, ◌+◌, ◌*◌, ◌≤◌, ◌<◌, ◌^◌, ◌≡◌, List, length, take, Bool, not, Result, Ok, Err}
 use Rattle.form.specs.Form.{Form}
 use Rattle.form.specs.Answer.{Out, got, no, ◌>>◌, guard}
 use Rattle.nbt_siblings.specs.Holding.{among, Holds}
@@ -10,15 +10,19 @@ use Rattle.nbt_siblings.specs.Lists.{Family}
 use Rattle.form.specs.Table.{none, node, size, width, wrote}
 use Rattle.form.specs.Spans.{part}
 use Rattle.form.specs.Reading.{One, Inside, Run, Counts, payload_by, inside_at, room_of}
-use Rattle.nbt_reader.specs.declared.Answer.{Answer}
+use Rattle.form.specs.Refusals.{number_of, out_of}
+use Rattle.form.specs.declared.refusals.Refused.{Refused}
+use Rattle.nbt_reader.specs.declared.Accepted.{Accepted}
 use Rattle.nbt_reader.specs.declared.bodies.Step.{Step}
 use Rattle.nbt_reader.specs.declared.bodies.Kids.{Kids}
 use Rattle.nbt_reader.specs.declared.settling.Ran.{Ran}
 
 -- 01's number and values for each case of the public answer
-abbrev pub read_out : Answer → Out Counts
-read_out (Answer.Accepted c n) = got (record { consumed = c; records = n })
-read_out (Answer.Refused n p) = no n p
+abbrev pub counts_of : Accepted → Counts
+counts_of a = record { consumed = a.consumed; records = a.records }
+
+abbrev pub read_out : Result Accepted Refused → Out Counts
+read_out r = out_of counts_of r
 
 -- what the functions below the public one require
 pub record Ready (doc table : List ℕ) (cap at above n : ℕ) : Type 0 where
@@ -52,12 +56,12 @@ abbrev pub Kept : ℕ → List ℕ → List ℕ → Type 0
 Kept n t t' = take (9 * n) t' ≡ take (9 * n) t
 
 -- what `read_tag_body` leaves, by its answer: the definition's answer is o
-abbrev pub Stepped : List ℕ → ℕ → Out One → ℕ → ℕ → ℕ → List ℕ → List ℕ → Step → Type 0
-Stepped doc cap o at above n t t' (Step.Next at' n') = Next doc cap o at' n' at above n t t'
-Stepped doc cap o at above n t t' (Step.No m p) = (o ≡ no m p) × Kept n t t'
+abbrev pub Stepped : List ℕ → ℕ → Out One → ℕ → ℕ → ℕ → List ℕ → List ℕ → Result Step Refused → Type 0
+Stepped doc cap o at above n t t' (Ok s) = Next doc cap o s.at s.ix at above n t t'
+Stepped doc cap o at above n t t' (Err e) = (o ≡ no (number_of e.refusal) e.place) × Kept n t t'
 
 -- what the root's payload gives, where the table has room for its records
-abbrev pub RootIs : Form → List ℕ → ℕ → ℕ → ℕ → List ℕ → List ℕ → Step → Type 0
+abbrev pub RootIs : Form → List ℕ → ℕ → ℕ → ℕ → List ℕ → List ℕ → Result Step Refused → Type 0
 RootIs form doc name len at t t' r =
     Stepped doc (room_of (length t)) (payload_by form doc (room_of (length t)) (inside_at form doc (room_of (length t)) 512) 10 name len at 0) at 0 0 t t' r
 
@@ -75,9 +79,9 @@ pub record Filled (doc : List ℕ) (cap : ℕ) (o : Out Inside) (at' n' count ki
   pub n_le : n' ≤ cap
   pub count_lt : count < 2 ^ 32
 
-abbrev pub Held : List ℕ → ℕ → Out Inside → ℕ → ℕ → ℕ → List ℕ → List ℕ → Kids → Type 0
-Held doc cap o at above n t t' (Kids.Done at' n' count kind) = Filled doc cap o at' n' count kind at above n t t'
-Held doc cap o at above n t t' (Kids.No m p) = (o ≡ no m p) × Kept n t t'
+abbrev pub Held : List ℕ → ℕ → Out Inside → ℕ → ℕ → ℕ → List ℕ → List ℕ → Result Kids Refused → Type 0
+Held doc cap o at above n t t' (Ok k) = Filled doc cap o k.at k.ix k.count k.kind at above n t t'
+Held doc cap o at above n t t' (Err e) = (o ≡ no (number_of e.refusal) e.place) × Kept n t t'
 
 -- the records x were read one after the other and are written from record n on
 pub record Gone (doc : List ℕ) (cap : ℕ) (o : Out Run) (at' n' count : ℕ) (at above n : ℕ) (t t' : List ℕ) : Type 0 where
@@ -91,9 +95,9 @@ pub record Gone (doc : List ℕ) (cap : ℕ) (o : Out Run) (at' n' count : ℕ) 
   pub at_le : at' ≤ length doc
   pub n_le : n' ≤ cap
 
-abbrev pub Went : List ℕ → ℕ → Out Run → ℕ → ℕ → ℕ → List ℕ → List ℕ → Ran → Type 0
-Went doc cap o at above n t t' (Ran.Done at' n' count) = Gone doc cap o at' n' count at above n t t'
-Went doc cap o at above n t t' (Ran.No m p) = (o ≡ no m p) × Kept n t t'
+abbrev pub Went : List ℕ → ℕ → Out Run → ℕ → ℕ → ℕ → List ℕ → List ℕ → Result Ran Refused → Type 0
+Went doc cap o at above n t t' (Ok r) = Gone doc cap o r.at r.ix r.count at above n t t'
+Went doc cap o at above n t t' (Err e) = (o ≡ no (number_of e.refusal) e.place) × Kept n t t'
 
 -- what the functions that ask for a repeated name require
 pub record Known (doc t : List ℕ) (first next : ℕ) : Type 0 where
@@ -106,21 +110,20 @@ abbrev pub repeat_in : List ℕ → List ℕ → ℕ → ℕ → Out (Unit {0})
 repeat_in doc t first next = refusal_of t (first_repeat doc t first next)
 
 -- a refusal, unless a name is repeated before it: o says whether one is
-abbrev pub Settled : Out (Unit {0}) → ℕ → ℕ → Ran → Type 0
-Settled o n p (Ran.No m q) = ◌>>◌ {A = Unit {0}} {B = Run} o (no n p) ≡ no m q
-Settled o n p (Ran.Done a i c) = ⊥
+abbrev pub Settled : Out (Unit {0}) → ℕ → ℕ → Refused → Type 0
+Settled o n p e = ◌>>◌ {A = Unit {0}} {B = Run} o (no n p) ≡ no (number_of e.refusal) e.place
 
 -- the end of the entries, unless a name is repeated before it
-abbrev pub Finished : Out (Unit {0}) → ℕ → ℕ → ℕ → Ran → Type 0
-Finished o at next count (Ran.No m q) = o ≡ no m q
-Finished o at next count (Ran.Done a i c) = (o ≡ got tt) × (a ≡ at) × (i ≡ next) × (c ≡ count)
+abbrev pub Finished : Out (Unit {0}) → ℕ → ℕ → ℕ → Result Ran Refused → Type 0
+Finished o at next count (Err e) = o ≡ no (number_of e.refusal) e.place
+Finished o at next count (Ok r) = (o ≡ got tt) × (r.at ≡ at) × (r.ix ≡ next) × (r.count ≡ count)
 
 -- a refusal in an entry's payload: its own name comes first
-abbrev pub EntrySettled : Out (Unit {0}) → Bool → ℕ → ℕ → ℕ → Ran → Type 0
-EntrySettled o twice here n p (Ran.No m q) = ◌>>◌ {A = Unit {0}} {B = Run} o (guard (not twice) 6 here >> no n p) ≡ no m q
-EntrySettled o twice here n p (Ran.Done a i c) = ⊥
+abbrev pub EntrySettled : Out (Unit {0}) → Bool → ℕ → ℕ → ℕ → Refused → Type 0
+EntrySettled o twice here n p e =
+    ◌>>◌ {A = Unit {0}} {B = Run} o (guard (not twice) 6 here >> no n p) ≡ no (number_of e.refusal) e.place
 
 -- the same of an entry whose name has len bytes from `start` on
-abbrev pub EntryIs : List ℕ → List ℕ → ℕ → ℕ → ℕ → ℕ → ℕ → ℕ → ℕ → Ran → Type 0
-EntryIs doc t first next start len here n p r =
-    EntrySettled (repeat_in doc t first next) (among doc t (suc next) first next (part doc start len)) here n p r
+abbrev pub EntryIs : List ℕ → List ℕ → ℕ → ℕ → ℕ → ℕ → ℕ → ℕ → ℕ → Refused → Type 0
+EntryIs doc t first next start len here n p e =
+    EntrySettled (repeat_in doc t first next) (among doc t (suc next) first next (part doc start len)) here n p e

@@ -7,28 +7,23 @@ ghost use Rattle.nbt_reader.specs.Steps.{Ready, Named, Stepped, Held, Went};
 
 use crate::settling::{Ran, finish, settle, settle_entry};
 use form::kinds;
-use nbt_fields::{Entry, ListHead, Part, wide};
+use form::refusals::{Refusal, Refused};
+use nbt_fields::Entry;
 
-// The place behind what was read, and the next record; or a refusal.
-#[derive(Drop)]
-pub enum Step {
-    Next { at: usize, ix: usize },
-    No { number: u8, place: usize },
+// The place behind what was read, and the next record.
+#[derive(Clone, Copy)]
+pub struct Step {
+    pub at: usize,
+    pub ix: usize,
 }
 
 // The same of what a container holds, with its count and its list's kind.
-#[derive(Drop)]
-enum Kids {
-    Done {
-        at: usize,
-        ix: usize,
-        count: usize,
-        kind: u8,
-    },
-    No {
-        number: u8,
-        place: usize,
-    },
+#[derive(Clone, Copy)]
+struct Kids {
+    at: usize,
+    ix: usize,
+    count: usize,
+    kind: u8,
 }
 
 // A payload of kinds 1 to 6, which has its length in every form, read and written as record ix.
@@ -42,26 +37,24 @@ fn read_fixed(
     cap: usize,
     above: usize,
     ix: usize,
-) -> Step
+) -> Result<Step, Refused>
     requires { (Named doc.now table.old cap at above ix kind name name_len) × (ix < cap) × (kind < 7) }
     ensures { (f : Form) → Stepped doc.now cap (leaf_one f doc.now kind name name_len at) at above ix table.old table.new result }
 {
     let width = nbt_fields::width_of(kind);
     if doc.len() - at < width {
-        return Step::No {
-            number: form::DATA_ENDS,
+        return Err(Refused {
+            refusal: Refusal::DataEnds,
             place: at,
-        };
+        });
     }
-    table::put(
-        table,
-        ix,
-        table::leaf(wide(kind), name, name_len, at, width, 0, ix + 1, above),
-    );
-    Step::Next {
+    let next = ix + 1;
+    let record = table::leaf(usize::from(kind), name, name_len, at, width, 0, next, above);
+    table::put(table, ix, record);
+    Ok(Step {
         at: at + width,
-        ix: ix + 1,
-    }
+        ix: next,
+    })
 }
 
 // A payload of kinds 7, 8, 11 and 12, read and written as record ix.
@@ -76,29 +69,29 @@ fn read_leaf(
     above: usize,
     ix: usize,
     form: u32,
-) -> Step
+) -> Result<Step, Refused>
     requires { (Named doc.now table.old cap at above ix kind name name_len) × (ix < cap) × (6 < kind) }
     ensures { Stepped doc.now cap (leaf_one (form_no form) doc.now kind name name_len at) at above ix table.old table.new result }
 {
-    match nbt_fields::leaf_at(doc, kind, at, form) {
-        Part::No { number, place } => Step::No { number, place },
-        Part::Is {
-            start,
-            len,
-            count,
-            next,
-        } => {
-            table::put(
-                table,
-                ix,
-                table::leaf(wide(kind), name, name_len, start, len, count, ix + 1, above),
-            );
-            Step::Next {
-                at: next,
-                ix: ix + 1,
-            }
-        }
-    }
+    let leaf = nbt_fields::leaf_at(doc, kind, at, form)?;
+    table::put(
+        table,
+        ix,
+        table::leaf(
+            usize::from(kind),
+            name,
+            name_len,
+            leaf.start,
+            leaf.len,
+            leaf.count,
+            ix + 1,
+            above,
+        ),
+    );
+    Ok(Step {
+        at: leaf.next,
+        ix: ix + 1,
+    })
 }
 
 // A payload at `at`, whose record has the number ix: room, then depth, then what it holds. What is small is read with no call.
@@ -115,24 +108,22 @@ fn read_tag_body(
     above: usize,
     ix: usize,
     form: u32,
-) -> Step
+) -> Result<Step, Refused>
     requires { Named doc.now table.old cap at above ix kind name name_len }
     ensures { Stepped doc.now cap (payload_by (form_no form) doc.now cap (inside_at (form_no form) doc.now cap depth) kind name name_len at ix) at above ix table.old table.new result }
 {
     if cap <= ix {
-        return Step::No {
-            number: form::TABLE_FULL,
+        return Err(Refused {
+            refusal: Refusal::TableFull,
             place: at,
-        };
+        });
     }
-    match kind {
-        kinds::END..=kinds::DOUBLE => {
-            read_fixed(doc, kind, name, name_len, at, table, cap, above, ix)
-        }
-        _ => read_larger_body(
-            doc, kind, name, name_len, at, depth, table, cap, above, ix, form,
-        ),
+    if kind <= kinds::DOUBLE {
+        return read_fixed(doc, kind, name, name_len, at, table, cap, above, ix);
     }
+    read_larger_body(
+        doc, kind, name, name_len, at, depth, table, cap, above, ix, form,
+    )
 }
 
 // The same of kinds 7 to 12 where there is room: a call for those that are not small.
@@ -149,30 +140,31 @@ pub fn read_larger_body(
     above: usize,
     ix: usize,
     form: u32,
-) -> Step
+) -> Result<Step, Refused>
     requires { (Named doc.now table.old cap at above ix kind name name_len) × (ix < cap) × (6 < kind) }
     ensures { Stepped doc.now cap (payload_by (form_no form) doc.now cap (inside_at (form_no form) doc.now cap depth) kind name name_len at ix) at above ix table.old table.new result }
 {
-    match kind {
-        kinds::LIST | kinds::COMPOUND => {}
-        _ => return read_leaf(doc, kind, name, name_len, at, table, cap, above, ix, form),
+    if kind != kinds::LIST && kind != kinds::COMPOUND {
+        return read_leaf(doc, kind, name, name_len, at, table, cap, above, ix, form);
     }
-    match read_container(doc, kind, at, depth, table, cap, ix, ix + 1, form) {
-        Kids::No { number, place } => Step::No { number, place },
-        Kids::Done {
-            at: next,
-            ix: end,
-            count,
-            kind: inner,
-        } => {
-            table::put(
-                table,
-                ix,
-                table::container(wide(kind), name, name_len, count, wide(inner), end, above),
-            );
-            Step::Next { at: next, ix: end }
-        }
-    }
+    let kids = read_container(doc, kind, at, depth, table, cap, ix, ix + 1, form)?;
+    table::put(
+        table,
+        ix,
+        table::container(
+            usize::from(kind),
+            name,
+            name_len,
+            kids.count,
+            usize::from(kids.kind),
+            kids.ix,
+            above,
+        ),
+    );
+    Ok(Step {
+        at: kids.at,
+        ix: kids.ix,
+    })
 }
 
 // What is in a container at `at`.
@@ -187,32 +179,26 @@ fn read_container(
     above: usize,
     ix: usize,
     form: u32,
-) -> Kids
+) -> Result<Kids, Refused>
     requires { Ready doc.now table.old cap at above ix }
     ensures { Held doc.now cap (inside_at (form_no form) doc.now cap depth kind at ix) at above ix table.old table.new result }
 {
     if depth == 0 {
-        return Kids::No {
-            number: form::TOO_DEEP,
+        return Err(Refused {
+            refusal: Refusal::TooDeep,
             place: at,
-        };
+        });
     }
-    match kind {
-        kinds::LIST => read_list(doc, at, depth - 1, table, cap, above, ix, form),
-        _ => match read_compound(doc, at, depth - 1, table, cap, above, ix, form) {
-            Ran::No { number, place } => Kids::No { number, place },
-            Ran::Done {
-                at: next,
-                ix: end,
-                count,
-            } => Kids::Done {
-                at: next,
-                ix: end,
-                count,
-                kind: kinds::END,
-            },
-        },
+    if kind == kinds::LIST {
+        return read_list(doc, at, depth - 1, table, cap, above, ix, form);
     }
+    let ran = read_compound(doc, at, depth - 1, table, cap, above, ix, form)?;
+    Ok(Kids {
+        at: ran.at,
+        ix: ran.ix,
+        count: ran.count,
+        kind: kinds::END,
+    })
 }
 
 // A list's head and elements, each of which may hold depth containers.
@@ -226,37 +212,29 @@ fn read_list(
     above: usize,
     ix: usize,
     form: u32,
-) -> Kids
+) -> Result<Kids, Refused>
     requires { Ready doc.now table.old cap at above ix }
     ensures { Held doc.now cap (list_at (form_no form) doc.now (payload_by (form_no form) doc.now cap (inside_at (form_no form) doc.now cap depth)) at ix) at above ix table.old table.new result }
 {
-    match nbt_fields::list_head(doc, at, form) {
-        ListHead::No { number, place } => Kids::No { number, place },
-        ListHead::Is { kind, count } => match read_elements(
-            doc,
-            kind,
-            count,
-            at + 5,
-            depth,
-            table,
-            cap,
-            above,
-            ix,
-            form,
-        ) {
-            Ran::No { number, place } => Kids::No { number, place },
-            Ran::Done {
-                at: next,
-                ix: end,
-                count: _,
-            } => Kids::Done {
-                at: next,
-                ix: end,
-                count,
-                kind,
-            },
-        },
-    }
+    let head = nbt_fields::list_head(doc, at, form)?;
+    let ran = read_elements(
+        doc,
+        head.kind,
+        head.count,
+        at + 5,
+        depth,
+        table,
+        cap,
+        above,
+        ix,
+        form,
+    )?;
+    Ok(Kids {
+        at: ran.at,
+        ix: ran.ix,
+        count: head.count,
+        kind: head.kind,
+    })
 }
 
 // As many elements as count says.
@@ -272,28 +250,22 @@ fn read_elements(
     above: usize,
     ix: usize,
     form: u32,
-) -> Ran
+) -> Result<Ran, Refused>
     requires { (Ready doc.now table.old cap at above ix) × (kind ≤ 12) }
     ensures { Went doc.now cap (elementsOf (form_no form) doc.now (payload_by (form_no form) doc.now cap (inside_at (form_no form) doc.now cap depth)) count kind at ix) at above ix table.old table.new result }
 {
     let mut here = at;
     let mut next = ix;
-    let mut left = count;
-    while 0 < left {
-        match read_tag_body(doc, kind, 0, 0, here, depth, table, cap, above, next, form) {
-            Step::No { number, place } => return Ran::No { number, place },
-            Step::Next { at: a, ix: i } => {
-                here = a;
-                next = i;
-            }
-        }
-        left -= 1;
+    for _ in 0..count {
+        let step = read_tag_body(doc, kind, 0, 0, here, depth, table, cap, above, next, form)?;
+        here = step.at;
+        next = step.ix;
     }
-    Ran::Done {
+    Ok(Ran {
         at: here,
         ix: next,
         count,
-    }
+    })
 }
 
 // The entries up to the end byte.
@@ -307,7 +279,7 @@ fn read_compound(
     above: usize,
     ix: usize,
     form: u32,
-) -> Ran
+) -> Result<Ran, Refused>
     requires { Ready doc.now table.old cap at above ix }
     ensures { Went doc.now cap (entries_of (form_no form) doc.now (payload_by (form_no form) doc.now cap (inside_at (form_no form) doc.now cap depth)) (suc (length doc.now)) none at ix) at above ix table.old table.new result }
 {
@@ -315,31 +287,23 @@ fn read_compound(
     let mut next = ix;
     let mut count: usize = 0;
     loop {
-        match nbt_fields::entry_at(doc, here, form) {
-            Entry::No { number, place } => return settle(doc, table, ix, next, number, place),
-            Entry::End => return finish(doc, table, ix, next, here + 1, count),
-            Entry::Named { kind, start, len } => match read_tag_body(
-                doc,
-                kind,
-                start,
-                len,
-                start + len,
-                depth,
-                table,
-                cap,
-                above,
-                next,
-                form,
-            ) {
-                Step::No { number, place } => {
-                    return settle_entry(doc, table, ix, next, start, len, here, number, place);
-                }
-                Step::Next { at: a, ix: i } => {
-                    here = a;
-                    next = i;
-                    count += 1;
-                }
-            },
+        let Entry { kind, start, len } = match nbt_fields::entry_at(doc, here, form) {
+            Err(e) => return Err(settle(doc, table, ix, next, e)),
+            Ok(None) => return finish(doc, table, ix, next, here + 1, count),
+            Ok(Some(entry)) => entry,
+        };
+        let payload = start + len;
+        match read_tag_body(
+            doc, kind, start, len, payload, depth, table, cap, above, next, form,
+        ) {
+            Err(e) => {
+                return Err(settle_entry(doc, table, ix, next, start, len, here, e));
+            }
+            Ok(step) => {
+                here = step.at;
+                next = step.ix;
+                count += 1;
+            }
         }
     }
 }

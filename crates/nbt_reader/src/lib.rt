@@ -12,37 +12,40 @@ ghost use Rattle.nbt_reader.specs.Steps.{read_out, Named, Stepped, RootIs};
 
 use crate::bodies::{Step, read_larger_body};
 use form::kinds;
-use nbt_fields::Part;
+use form::refusals::{Refusal, Refused};
 
-// The answer to a read: the bytes consumed and the records written, or the number and the place of the refusal.
-#[derive(Drop)]
-pub enum Answer {
-    Accepted { consumed: usize, records: usize },
-    Refused { number: u8, place: usize },
+// The bytes consumed and the records written.
+#[derive(Clone, Copy)]
+pub struct Accepted {
+    pub consumed: usize,
+    pub records: usize,
 }
 
 // How many records a table of n words has room for.
 fn room(n: usize) -> usize
     ensures { result ≡ room_of n }
 {
-    if n / table::WORDS < form::RECORDS {
-        n / table::WORDS
-    } else {
-        form::RECORDS
-    }
+    (n / table::WORDS).min(form::RECORDS)
 }
 
 // The root's payload at `at`, as record 0: room, then what it holds.
-fn root(doc: &[u8], name: usize, name_len: usize, at: usize, table: &mut [u32], form: u32) -> Step
+fn root(
+    doc: &[u8],
+    name: usize,
+    name_len: usize,
+    at: usize,
+    table: &mut [u32],
+    form: u32,
+) -> Result<Step, Refused>
     requires { Named doc.now table.old (room_of (length table.old)) at 0 0 10 name name_len }
     ensures { RootIs (form_no form) doc.now name name_len at table.old table.new result }
 {
     let cap = room(table.len());
     if cap == 0 {
-        return Step::No {
-            number: form::TABLE_FULL,
+        return Err(Refused {
+            refusal: Refusal::TableFull,
             place: at,
-        };
+        });
     }
     read_larger_body(
         doc,
@@ -60,51 +63,43 @@ fn root(doc: &[u8], name: usize, name_len: usize, at: usize, table: &mut [u32], 
 }
 
 // A whole document, from record 0 on.
-fn document(doc: &[u8], table: &mut [u32], form: u32) -> Step
+fn document(doc: &[u8], table: &mut [u32], form: u32) -> Result<Step, Refused>
     ensures { Stepped doc.now (room_of (length table.old)) (document_at (form_no form) doc.now (room_of (length table.old))) 0 0 0 table.old table.new result }
 {
     if form::DOCUMENT < doc.len() {
-        return Step::No {
-            number: form::OVER_LIMIT,
+        return Err(Refused {
+            refusal: Refusal::OverLimit,
             place: 0,
-        };
+        });
     }
     if doc.len() == 0 {
-        return Step::No {
-            number: form::DATA_ENDS,
+        return Err(Refused {
+            refusal: Refusal::DataEnds,
             place: 0,
-        };
+        });
     }
-    let kind = doc[0];
-    match kind {
-        kinds::COMPOUND => match nbt_fields::string_at(doc, 1, form) {
-            Part::No { number, place } => Step::No { number, place },
-            Part::Is {
-                start,
-                len,
-                count: _,
-                next,
-            } => root(doc, start, len, next, table, form),
-        },
-        _ => Step::No {
-            number: form::ROOT_ID,
+    if doc[0] != kinds::COMPOUND {
+        return Err(Refused {
+            refusal: Refusal::RootId,
             place: 0,
-        },
+        });
     }
+    let name = nbt_fields::string_at(doc, 1, form)?;
+    root(doc, name.start, name.len, name.next, table, form)
 }
 
 // Reads a document into the table. A refused read leaves the table all zero; an accepted one changes the records' words only.
-pub fn read(doc: &[u8], table: &mut [u32], form: u32) -> Answer
+pub fn read(doc: &[u8], table: &mut [u32], form: u32) -> Result<Accepted, Refused>
     ensures { ReadIs (form_no form) doc.now table.old (read_out result) table.new }
 {
     match document(doc, table, form) {
-        Step::No { number, place } => {
+        Err(e) => {
             table::clear(table);
-            Answer::Refused { number, place }
+            Err(e)
         }
-        Step::Next { at, ix } => Answer::Accepted {
-            consumed: at,
-            records: ix,
-        },
+        Ok(step) => Ok(Accepted {
+            consumed: step.at,
+            records: step.ix,
+        }),
     }
 }

@@ -1,34 +1,29 @@
 // A compound's end, and a refusal inside it, once the names of its entries are told apart (refusal 6): an earlier repeat comes first.
 ghost use Rattle.std.specs.Prelude.{◌≡◌, ◌+◌, ◌≤◌, length};
+ghost use Rattle.form.specs.Refusals.{number_of};
 ghost use Rattle.nbt_reader.specs.Steps.{Known, repeat_in, Settled, Finished, EntryIs};
 
-use nbt_siblings::Repeat;
+use form::refusals::{Refusal, Refused};
 
-// Records read one after the other, and how many; or a refusal.
-#[derive(Drop)]
-pub enum Ran {
-    Done { at: usize, ix: usize, count: usize },
-    No { number: u8, place: usize },
+// Records read one after the other, and how many.
+#[derive(Clone, Copy)]
+pub struct Ran {
+    pub at: usize,
+    pub ix: usize,
+    pub count: usize,
 }
 
 // A refusal, unless the names of the records from `first` up to `next` are not told apart.
-pub fn settle(
-    doc: &[u8],
-    table: &mut [u32],
-    first: usize,
-    next: usize,
-    number: u8,
-    place: usize,
-) -> Ran
+pub fn settle(doc: &[u8], table: &mut [u32], first: usize, next: usize, refused: Refused) -> Refused
     requires { Known doc.now table.old first next }
-    ensures { (Settled (repeat_in doc.now table.old first next) number place result) × (table.new ≡ table.old) }
+    ensures { (Settled (repeat_in doc.now table.old first next) (number_of refused.refusal) refused.place result) × (table.new ≡ table.old) }
 {
     match nbt_siblings::repeat_place(doc, table, first, next) {
-        Repeat::At(p) => Ran::No {
-            number: form::NAME_TWICE,
+        Some(p) => Refused {
+            refusal: Refusal::NameTwice,
             place: p,
         },
-        Repeat::Nothing => Ran::No { number, place },
+        None => refused,
     }
 }
 
@@ -40,20 +35,20 @@ pub fn finish(
     next: usize,
     at: usize,
     count: usize,
-) -> Ran
+) -> Result<Ran, Refused>
     requires { Known doc.now table.old first next }
     ensures { (Finished (repeat_in doc.now table.old first next) at next count result) × (table.new ≡ table.old) }
 {
     match nbt_siblings::repeat_place(doc, table, first, next) {
-        Repeat::At(p) => Ran::No {
-            number: form::NAME_TWICE,
+        Some(p) => Err(Refused {
+            refusal: Refusal::NameTwice,
             place: p,
-        },
-        Repeat::Nothing => Ran::Done {
+        }),
+        None => Ok(Ran {
             at,
             ix: next,
             count,
-        },
+        }),
     }
 }
 
@@ -66,14 +61,17 @@ pub fn settle_entry(
     start: usize,
     len: usize,
     here: usize,
-    number: u8,
-    place: usize,
-) -> Ran
+    refused: Refused,
+) -> Refused
     requires { (Known doc.now table.old first next) × (start + len ≤ length doc.now) }
-    ensures { (EntryIs doc.now table.old first next start len here number place result) × (table.new ≡ table.old) }
+    ensures { (EntryIs doc.now table.old first next start len here (number_of refused.refusal) refused.place result) × (table.new ≡ table.old) }
 {
     if nbt_siblings::has_name(doc, table, first, next, start, len) {
-        return settle(doc, table, first, next, form::NAME_TWICE, here);
+        let twice = Refused {
+            refusal: Refusal::NameTwice,
+            place: here,
+        };
+        return settle(doc, table, first, next, twice);
     }
-    settle(doc, table, first, next, number, place)
+    settle(doc, table, first, next, refused)
 }

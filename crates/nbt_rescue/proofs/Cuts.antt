@@ -11,6 +11,9 @@ use lib.Dec.{leb}
 use borrow.Author.Tests.{leb-true, leb-false}
 use Rattle.form.specs.Form.{Form, stays}
 use Rattle.form.specs.Answer.{Out, got, no, pick, Count, counted, failed as refusal, output_full}
+use Rattle.form.specs.Refusals.{number_of}
+use Rattle.form.specs.declared.refusals.Refusal.{Refusal}
+use Rattle.form.specs.declared.refusals.Refusal.TheVariants.{DataEnds, RootId, TagId, BadString, NegativeCount, NameTwice, TooDeep, TableFull, OverLimit, NoTable, MixedList, LongString, OutputFull, BadQuery, BadText, QuoteOpen, UnknownEscape, BadNumber, UnexpectedToken, TextEnds, TrailingComma, UnmatchedBrace, DecimalBeyond, MoreMatches, BadLine, NotCut, RootCut}
 use Rattle.form.specs.Spans.{over}
 use Rattle.form.specs.Layout.{layout_in}
 use Rattle.form.specs.Table.{flat, wrote, value_of}
@@ -27,6 +30,7 @@ use Rattle.demands.specs.Rescue.{Whole}
 use Rattle.demands.proofs.Rescue.{rescued-lawful, rescued-long, rescued-lined, rescued-written}
 use Rattle.nbt_writer.specs.Steps.{WroteIs, Fits, PutIs}
 use Rattle.nbt_rescue.specs.Answers.{GatheredIn, LaidIs, Roomy, KeptPut, most_of, TightAsked, CutIs}
+use Rattle.std.specs.Prelude.{Option, Some, None}
 use Rattle.nbt_gather.specs.declared.Gathered.{Gathered}
 use Rattle.nbt_gather.specs.Steps.{KeptIn, GatheredIs}
 
@@ -78,23 +82,13 @@ put_is form doc t w o o' records r bytes g e h k is =
 
 -- ---- what is gathered
 
--- What an answer with records says.
-pub kept_in : (form : Form) (doc t t' c c' : List ℕ) (most : ℕ) (r : Gathered) {n m : ℕ} → r ≡ Gathered.Kept n m → GatheredIs form doc t t' c c' most r
-    → KeptIn form doc t t' c c' most n m
-kept_in form doc t t' c c' most r e g = subst (GatheredIs form doc t t' c c' most) e g
-
--- And one without.
-pub no-root : (form : Form) (doc t t' c c' : List ℕ) (most : ℕ) (r : Gathered) → r ≡ Gathered.NoRoot → GatheredIs form doc t t' c c' most r
-    → ((m : ℕ) × (p : ℕ) × (string_at form doc 1 ≡ no m p)) × (c' ≡ c)
-no-root form doc t t' c c' most r e g = let h = subst (GatheredIs form doc t t' c c' most) e g in (h.0, h.2)
-
 -- Gathered again, with room for all lines, they are put there.
 listed-again : (form : Form) (doc t t' c c' : List ℕ) (k : Kept) → kept_of form doc (room_of (length t)) ≡ got k → (most : ℕ) → length k.lines ≤ most
-    → (r : Gathered) → GatheredIs form doc t t' c c' most r → c' ≡ over c 0 (line_words k.lines)
-listed-again form doc t t' c c' k is most l (Gathered.Kept records lines) g =
+    → (r : Option Gathered) → GatheredIs form doc t t' c c' most r → c' ≡ over c 0 (line_words k.lines)
+listed-again form doc t t' c c' k is most l (Some r) g =
     let same : g.k ≡ k = cc (g.is, is) in
     g.listed (omega (arith, g.lines_are, ap (λ (k : Kept). length k.lines) same, l)) ∙ ap (λ (k : Kept). over c 0 (line_words k.lines)) same
-listed-again form doc t t' c c' k is most l Gathered.NoRoot g = absurd (not-both (kept-is form doc (room_of (length t)) is).cut.named g.0.2)
+listed-again form doc t t' c c' k is most l None g = absurd (not-both (kept-is form doc (room_of (length t)) is).cut.named g.0.2)
 
 -- The output has room for the document and a byte for each line, where there are lines, and no more than may be put.
 most-room : (doc out words most : ℕ) → most ≡ most_of doc out words → (lines : ℕ) → 0 < lines → lines ≤ most → doc + lines ≤ out
@@ -125,6 +119,36 @@ cut_moved form doc t u o c d answer o' c' s same g =
 pub cut-root : (form : Form) (doc t o c d : List ℕ) {p m q : ℕ} → reading form doc t ≡ no 1 p → string_at form doc 1 ≡ no m q → d ≡ c → CutIs form doc t o c (failed 32 p 0) o d
 cut-root form doc t o c d {p} e s same =
     cut_by form doc t o c (failed 32 p 0) o d (refused 32 p 0) (rescued-root form doc (room_of (length t)) (length c / 3) (length o) e s) refl refl same
+
+-- No refusal but the first is 1.
+pub number-other : (r : Refusal) → (r ≡ DataEnds → ⊥) → number_of r ≡ 1 → ⊥
+number-other DataEnds d e = d refl
+number-other RootId d e = omega (arith, e)
+number-other TagId d e = omega (arith, e)
+number-other BadString d e = omega (arith, e)
+number-other NegativeCount d e = omega (arith, e)
+number-other NameTwice d e = omega (arith, e)
+number-other TooDeep d e = omega (arith, e)
+number-other TableFull d e = omega (arith, e)
+number-other OverLimit d e = omega (arith, e)
+number-other NoTable d e = omega (arith, e)
+number-other MixedList d e = omega (arith, e)
+number-other LongString d e = omega (arith, e)
+number-other OutputFull d e = omega (arith, e)
+number-other BadQuery d e = omega (arith, e)
+number-other BadText d e = omega (arith, e)
+number-other QuoteOpen d e = omega (arith, e)
+number-other UnknownEscape d e = omega (arith, e)
+number-other BadNumber d e = omega (arith, e)
+number-other UnexpectedToken d e = omega (arith, e)
+number-other TextEnds d e = omega (arith, e)
+number-other TrailingComma d e = omega (arith, e)
+number-other UnmatchedBrace d e = omega (arith, e)
+number-other DecimalBeyond d e = omega (arith, e)
+number-other MoreMatches d e = omega (arith, e)
+number-other BadLine d e = omega (arith, e)
+number-other NotCut d e = omega (arith, e)
+number-other RootCut d e = omega (arith, e)
 
 -- What is read depends on the table by its length alone.
 pub read_again : (form : Form) (doc t u : List ℕ) {p : ℕ} → length u ≡ length t → reading form doc t ≡ no 1 p → reading form doc u ≡ no 1 p
@@ -173,7 +197,7 @@ module _ (form : Form) (doc t o c : List ℕ) (records n : ℕ) (g : TightAsked 
       (λ i. failed (h.1 i) (h.2 i) 0) h.3 refl
 
   -- The document, and its lines when they are gathered once more.
-  pub tight-saved : (z : ℕ) → answer ≡ counted z → (u u' c' : List ℕ) → length u ≡ length t → (r : Gathered) → GatheredIs form doc u u' c c' (length c / 3) r
+  pub tight-saved : (z : ℕ) → answer ≡ counted z → (u u' c' : List ℕ) → length u ≡ length t → (r : Option Gathered) → GatheredIs form doc u u' c c' (length c / 3) r
       → CutIs form doc t o c (sizes z n) o' c'
   tight-saved z a u u' c' s r again =
       let h = laid-saved form doc _ bytes o o' (leb (length bytes) (length o)) z refl (gives (counted z) a) in

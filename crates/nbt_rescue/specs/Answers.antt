@@ -1,6 +1,6 @@
 -- What the contracts of this crate cite: the public answer as the definition's, and what each step leaves.
 -- Assumes nothing.
-use Rattle.std.specs.Prelude.{ℕ, ◌+◌, ◌-◌, ◌*◌, ◌/◌, ◌≤◌, min, ◌≡◌, List, length, take, leb}
+use Rattle.std.specs.Prelude.{ℕ, ◌+◌, ◌-◌, ◌*◌, ◌/◌, ◌≤◌, min, ◌≡◌, List, length, take, leb, Result, Ok, Err}
 use Rattle.form.specs.Form.{Form, stays}
 use Rattle.form.specs.Answer.{got, no, pick, Count, output_full}
 use Rattle.form.specs.Spans.{over}
@@ -10,12 +10,14 @@ use Rattle.form.specs.Writing.{WriteGives}
 use Rattle.form.specs.Reading.{room_of, reading}
 use Rattle.form.specs.Cut.{Kept, Sizes, sizes, failed, kept_of, document_of, rescuing, sizes_of, bytes_after, lines_after}
 use Rattle.nbt_gather.specs.Steps.{IsCut}
-use Rattle.nbt_rescue.specs.declared.Answer.{Answer}
+use Rattle.form.specs.Refusals.{number_of}
+use Rattle.nbt_rescue.specs.declared.Saved.{Saved}
+use Rattle.nbt_rescue.specs.declared.Unsaved.{Unsaved}
 
 -- 02's number and values for each case of the public answer.
-abbrev pub rescue_out : Answer → Sizes
-rescue_out (Answer.Saved b l) = sizes b l
-rescue_out (Answer.Refused n p c) = failed n p c
+abbrev pub rescue_out : Result Saved Unsaved → Sizes
+rescue_out (Ok s) = sizes s.bytes s.lines
+rescue_out (Err e) = failed (number_of e.refusal) e.place e.count
 
 -- The first records of a table are what is kept of the document.
 pub record GatheredIn (form : Form) (doc t : List ℕ) (records : ℕ) : Type 0 where

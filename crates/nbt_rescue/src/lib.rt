@@ -9,20 +9,22 @@ ghost use Rattle.form.specs.Cut.{RescueIs};
 ghost use Rattle.nbt_writer.specs.Steps.{answer_out};
 ghost use Rattle.nbt_rescue.specs.Answers.{rescue_out, GatheredIn, LaidIs, Roomy, KeptPut, most_of, TightAsked, CutIs};
 
-use nbt_gather::Gathered;
+use form::refusals::Refusal;
+use nbt_writer::Unwritten;
 
-// The answer to a rescue: the bytes and the lines written; or the number and the place of the refusal, and the true count of lines in 24.
-#[derive(Drop)]
-pub enum Answer {
-    Saved {
-        bytes: usize,
-        lines: usize,
-    },
-    Refused {
-        number: u8,
-        place: usize,
-        count: usize,
-    },
+// The bytes and the lines written.
+#[derive(Clone, Copy)]
+pub struct Saved {
+    pub bytes: usize,
+    pub lines: usize,
+}
+
+// A refusal and its place, and the true count of lines in 24.
+#[derive(Clone, Copy, Debug)]
+pub struct Unsaved {
+    pub refusal: Refusal,
+    pub place: usize,
+    pub count: usize,
 }
 
 // Writes the document that the records gathered stand for, where there is room (13).
@@ -32,7 +34,7 @@ fn lay(
     records: usize,
     out: &mut [u8],
     form: u32,
-) -> nbt_writer::Answer
+) -> Result<usize, Unwritten>
     requires { GatheredIn (form_no form) doc.now table.old records }
     ensures { LaidIs (form_no form) doc.now table.old out.old (answer_out result) out.new }
 {
@@ -53,15 +55,7 @@ fn put(doc: &[u8], table: &[u32], records: usize, out: &mut [u8], form: u32) -> 
 fn most(doc: usize, out: usize, changes: usize) -> usize
     ensures { result ≡ most_of doc out changes }
 {
-    if out < doc {
-        return 0;
-    }
-    let spare = out - doc;
-    if spare < changes / 3 {
-        spare
-    } else {
-        changes / 3
-    }
+    out.saturating_sub(doc).min(changes / 3)
 }
 
 // What is kept, where the output is short: judged and counted first (13), and its lines put last, when nothing can be refused any more.
@@ -73,23 +67,19 @@ fn tight(
     out: &mut [u8],
     changes: &mut [u32],
     form: u32,
-) -> Answer
+) -> Result<Saved, Unsaved>
     requires { TightAsked (form_no form) doc.now table.old records lines changes.old }
     ensures { CutIs (form_no form) doc.now table.old out.old changes.old (rescue_out result) out.new changes.new }
 {
     match lay(doc, table, records, out, form) {
-        nbt_writer::Answer::Refused {
-            number,
-            place,
-            record: _,
-        } => Answer::Refused {
-            number,
-            place,
+        Err(e) => Err(Unsaved {
+            refusal: e.refusal,
+            place: e.place,
             count: 0,
-        },
-        nbt_writer::Answer::Written { bytes } => {
+        }),
+        Ok(bytes) => {
             nbt_gather::gather(doc, table, changes, changes.len() / 3, form);
-            Answer::Saved { bytes, lines }
+            Ok(Saved { bytes, lines })
         }
     }
 }
@@ -102,32 +92,33 @@ fn cut(
     out: &mut [u8],
     changes: &mut [u32],
     form: u32,
-) -> Answer
+) -> Result<Saved, Unsaved>
     requires { reading (form_no form) doc.now table.old ≡ no 1 place }
     ensures { CutIs (form_no form) doc.now table.old out.old changes.old (rescue_out result) out.new changes.new }
 {
     let most = most(doc.len(), out.len(), changes.len());
-    match nbt_gather::gather(doc, table, changes, most, form) {
-        Gathered::NoRoot => Answer::Refused {
-            number: form::ROOT_CUT,
+    let Some(kept) = nbt_gather::gather(doc, table, changes, most, form) else {
+        return Err(Unsaved {
+            refusal: Refusal::RootCut,
             place,
             count: 0,
-        },
-        Gathered::Kept { records, lines } => {
-            if changes.len() / 3 < lines {
-                return Answer::Refused {
-                    number: form::MORE_MATCHES,
-                    place: 0,
-                    count: lines,
-                };
-            }
-            if most < lines {
-                return tight(doc, table, records, lines, out, changes, form);
-            }
-            let bytes = put(doc, table, records, out, form);
-            Answer::Saved { bytes, lines }
-        }
+        });
+    };
+    if changes.len() / 3 < kept.lines {
+        return Err(Unsaved {
+            refusal: Refusal::MoreMatches,
+            place: 0,
+            count: kept.lines,
+        });
     }
+    if most < kept.lines {
+        return tight(doc, table, kept.records, kept.lines, out, changes, form);
+    }
+    let bytes = put(doc, table, kept.records, out, form);
+    Ok(Saved {
+        bytes,
+        lines: kept.lines,
+    })
 }
 
 // Rescues a document: the reader's refusals but 1 as they are; 31 for an accepted one; 32, 24 and 13. The table ends as the read leaves it.
@@ -137,29 +128,26 @@ pub fn rescue(
     out: &mut [u8],
     changes: &mut [u32],
     form: u32,
-) -> Answer
+) -> Result<Saved, Unsaved>
     ensures { RescueIs (form_no form) doc.now table.old out.old changes.old (rescue_out result) table.new out.new changes.new }
 {
     match nbt_reader::read(doc, table, form) {
-        nbt_reader::Answer::Accepted {
-            consumed: _,
-            records: _,
-        } => Answer::Refused {
-            number: form::NOT_CUT,
+        Ok(_) => Err(Unsaved {
+            refusal: Refusal::NotCut,
             place: 0,
             count: 0,
-        },
-        nbt_reader::Answer::Refused { number, place } => {
-            if number == form::DATA_ENDS {
-                let r = cut(doc, place, table, out, changes, form);
+        }),
+        Err(e) => match e.refusal {
+            Refusal::DataEnds => {
+                let saved = cut(doc, e.place, table, out, changes, form);
                 table::clear(table);
-                return r;
+                saved
             }
-            Answer::Refused {
-                number,
-                place,
+            _ => Err(Unsaved {
+                refusal: e.refusal,
+                place: e.place,
                 count: 0,
-            }
-        }
+            }),
+        },
     }
 }

@@ -6,28 +6,21 @@
 #![tactic(auto)]
 
 use lines::Line;
-use nbt_rescue::Answer;
+use nbt_rescue::{Saved, Unsaved};
 
 // The answer to a rescue.
-fn print_answer(answer: Answer) {
+fn print_answer(answer: Result<Saved, Unsaved>) {
     match answer {
-        Answer::Saved {
-            bytes: size,
-            lines: many,
-        } => {
+        Ok(saved) => {
             io::write_all(1, b"saved");
-            lines::print_number(size);
-            lines::print_number(many);
+            lines::print_number(saved.bytes);
+            lines::print_number(saved.lines);
         }
-        Answer::Refused {
-            number: refused,
-            place: at,
-            count: many,
-        } => {
+        Err(e) => {
             io::write_all(1, b"refused");
-            lines::print_number(refused as usize);
-            lines::print_number(at);
-            lines::print_number(many);
+            lines::print_number(usize::from(e.refusal.number()));
+            lines::print_number(e.place);
+            lines::print_number(e.count);
         }
     }
     io::write_all(1, b": ");
@@ -164,9 +157,7 @@ fn replay(
     changes: &mut [u32],
 ) {
     let mut input = lines::start();
-    let mut turns = u64::MAX;
-    while 0 < turns {
-        turns -= 1;
+    for _ in 0..u64::MAX {
         match lines::next_line(chunk, input, line) {
             Line::End => return,
             Line::Long { input: rest } => {
