@@ -16,15 +16,12 @@ pub fn convert(
     ensures { WriteCalled (way_from (form_no from) (form_no to)) doc.now table.old table.new out.old out.new answer.new }
 {
     match nbt_writer::write(doc, table, out, from, to) {
-        nbt_writer::Answer::Written { bytes } => {
+        Ok(bytes) => {
             *answer = [0, 0, bytes as u64, 0, 0, 0, 0, 0];
         }
-        nbt_writer::Answer::Refused {
-            number: refusal,
-            place: at,
-            record: beside,
-        } => {
-            *answer = [refusal as u64, at as u64, beside as u64, 0, 0, 0, 0, 0];
+        Err(e) => {
+            let number = u64::from(e.refusal.number());
+            *answer = [number, e.place as u64, e.record as u64, 0, 0, 0, 0, 0];
         }
     }
 }

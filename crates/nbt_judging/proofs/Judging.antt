@@ -16,9 +16,10 @@ use Rattle.form.specs.Tables.{Within}
 use Rattle.form.specs.Reading.{has_name}
 use Rattle.form.specs.Writing.{judged}
 use Rattle.form.proofs.Leaves.{held-kind}
-use Rattle.nbt_siblings.specs.declared.Repeat.{Repeat}
 use Rattle.nbt_siblings.specs.Forests.{repeat_in}
-use Rattle.nbt_judging.specs.declared.Size.{Size}
+use Rattle.form.specs.Refusals.{number_of}
+use Rattle.form.specs.declared.refusals.Refused.{Refused}
+use Rattle.std.specs.Prelude.{Option, None, Result, Ok, Err}
 use Rattle.nbt_judging.specs.Pieces.{is_at, first_twice, own_fine, one_judged, laid, own_size}
 use Rattle.nbt_judging.specs.Steps.{Rows, Some, One, Sized, JudgedIs}
 use Rattle.nbt_judging.proofs.Pieces.{judged-none, judged-node, one-no, one-inner, one-leaf, one-own, own-once, own-depth, repeat-here, repeat-later, twice-entries, twice-elements}
@@ -100,26 +101,26 @@ rows_bound way doc t l n end f w r =
 -- ---- how far a walk over records side by side has come
 
 -- The records so far are done, those left are judged as the whole is, and the first repeat is still to come.
-pub record Walk (way : Way) (doc t : List ℕ) (left : ℕ) (list : Bool) (k n end : ℕ) (found : Repeat) (f : Forest) (i total : ℕ) : Type 0 where
+pub record Walk (way : Way) (doc t : List ℕ) (left : ℕ) (list : Bool) (k n end : ℕ) (found : Option ℕ) (f : Forest) (i total : ℕ) : Type 0 where
   pub done : Forest
   pub rest : Forest
   pub split : f ≡ done ⊕ rest
   pub rows : Rows doc t list i end rest
   pub is : judged way doc left list k none n f ≡ judged way doc left list k done i rest
   pub total-is : total ≡ length (laid way doc list done)
-  pub none_is : list ≡ true → found ≡ Repeat.Nothing
+  pub none_is : list ≡ true → found ≡ None
   pub repeat-is : list ≡ false → repeat_in doc i done rest ≡ found
 
 -- Whether the record is the first repeat decides its name's test.
-twice-is : (doc : List ℕ) (list : Bool) (i : ℕ) (done : Forest) (h : Head) (inner later : Forest) (found : Repeat)
-    → (list ≡ true → found ≡ Repeat.Nothing) → (list ≡ false → repeat_in doc i done (node h inner later) ≡ found)
-    → not (is_at found i) ≡ (list || not (has_name doc (part doc h.name h.name_length) done))
-twice-is doc true i done h inner later found a b = ap (λ x. not (is_at x i)) (a refl)
-twice-is doc false i done h inner later found a b = ap not (repeat-here doc i done h inner later found (b refl))
+twice-is : (doc : List ℕ) (list : Bool) (i : ℕ) (seen : Forest) (h : Head) (inner later : Forest) (found : Option ℕ)
+    → (list ≡ true → found ≡ None) → (list ≡ false → repeat_in doc i seen (node h inner later) ≡ found)
+    → not (is_at found i) ≡ (list || not (has_name doc (part doc h.name h.name_length) seen))
+twice-is doc true i seen h inner later found a b = ap (λ x. not (is_at x i)) (a refl)
+twice-is doc false i seen h inner later found a b = ap not (repeat-here doc i seen h inner later found (b refl))
 
 module _ (way : Way) (doc t : List ℕ) (left : ℕ) (list : Bool) (k n end : ℕ) where
   -- At the start nothing is done.
-  pub walk_start : (p : Some doc t list n end) {found : Repeat} → found ≡ first_twice doc t n end list → Walk way doc t left list k n end found p.forest n 0
+  pub walk_start : (p : Some doc t list n end) {found : Option ℕ} → found ≡ first_twice doc t n end list → Walk way doc t left list k n end found p.forest n 0
   unfolding ◌⊕◌
   walk_start p e = record {
     done = none;
@@ -132,7 +133,7 @@ module _ (way : Way) (doc t : List ℕ) (left : ℕ) (list : Bool) (k n end : �
     repeat-is = λ l. sym (rows-repeat doc t list n end p.forest p.rows) ∙ sym (twice-entries doc t n end list l) ∙ sym e;
   }
 
-  module _ {found : Repeat} {f : Forest} {i total : ℕ} (w : Walk way doc t left list k n end found f i total) where
+  module _ {found : Option ℕ} {f : Forest} {i total : ℕ} (w : Walk way doc t left list k n end found f i total) where
     -- What is done is a part of the whole.
     pub walk-le : total ≤ length (laid way doc list f)
     walk-le =
@@ -140,7 +141,7 @@ module _ (way : Way) (doc t : List ℕ) (left : ℕ) (list : Bool) (k n end : �
         omega (arith, w.total-is, ap length whole, length-append (laid way doc list w.done) (laid way doc list w.rest))
 
     -- At the end all are done.
-    pub walk_end : end ≤ i → Sized (judged way doc left list k none n f) (laid way doc list f) (Size.Is total)
+    pub walk_end : end ≤ i → Sized (judged way doc left list k none n f) (laid way doc list f) (Ok total)
     walk_end l =
         let z : w.rest ≡ none = rows_none doc t list i end w.rest w.rows l in (
           w.is ∙ ap (judged way doc left list k w.done i) z ∙ judged-none way doc left list k w.done i,
@@ -185,18 +186,18 @@ module _ (way : Way) (doc t : List ℕ) (left : ℕ) (list : Bool) (k n end : �
         pub walk-one : Within (length doc) t → One doc t' list i next
         walk-one = here-one here same e
 
-        module _ (s : Within (length doc) t) {twice : Bool} (q : twice ≡ is_at found i) (r : Size)
+        module _ (s : Within (length doc) t) {twice : Bool} (q : twice ≡ is_at found i) (r : Result ℕ Refused)
             (told : (o : One doc t' list i next) → Sized (one_judged way doc left list k twice i o.head o.inner) (laid way doc list (node o.head o.inner none)) r) where
           -- It is refused, and so are all.
-          pub walk_no : {m p : ℕ} → r ≡ Size.No m p → judged way doc left list k none n f ≡ no m p
+          pub walk_no : {x : Refused} → r ≡ Err x → judged way doc left list k none n f ≡ no (number_of x.refusal) x.place
           unfolding walk-one
-          walk_no {m} {p} g =
-              let x = told (walk-one s) in
-              let y : one_judged way doc left list k (is_at found i) i here.head here.inner ≡ no m p = rw (g, q) at x in
+          walk_no {x} g =
+              let z = told (walk-one s) in
+              let y : one_judged way doc left list k (is_at found i) i here.head here.inner ≡ no (number_of x.refusal) x.place = rw (g, q) at z in
               unrolled ∙ rw y refl
 
           -- It passes, and takes so many bytes.
-          pub walk-next : {size : ℕ} → r ≡ Size.Is size → Walk way doc t left list k n end found f next (total + size)
+          pub walk-next : {size : ℕ} → r ≡ Ok size → Walk way doc t left list k n end found f next (total + size)
           unfolding walk-one
           walk-next g =
               let x = rw (g, q) at (told (walk-one s)) in
@@ -215,7 +216,7 @@ module _ (way : Way) (doc t : List ℕ) (left : ℕ) (list : Bool) (k n end : �
               }
 
 -- What a walk over the table found is the answer for the table that was lent, which is the same.
-pub judged-same : (way : Way) → {doc t t₀ t' : List ℕ} (left : ℕ) {list : Bool} (k : ℕ) {n end : ℕ} (r : Size) → t ≡ t₀
+pub judged-same : (way : Way) → {doc t t₀ t' : List ℕ} (left : ℕ) {list : Bool} (k : ℕ) {n end : ℕ} (r : Result ℕ Refused) → t ≡ t₀
     → ((p : Some doc t list n end) → Sized (judged way doc left list k none n p.forest) (laid way doc list p.forest) r)
     → t' ≡ t₀ → JudgedIs way doc t₀ left list k n end r t'
 judged-same way {doc} left {list} k {n} {end} r e told same =
@@ -292,12 +293,12 @@ module _ (doc t : List ℕ) (list : Bool) (n end : ℕ) (o : One doc t list n en
 
       module _ {own : ℕ} (is : own ≡ own_size way doc list (head_of t n)) where
         -- No records are in it.
-        pub one-bare : end ≡ n + 1 → Sized (one_judged way doc left list k twice n o.head o.inner) (laid way doc list (node o.head o.inner none)) (Size.Is own)
+        pub one-bare : end ≡ n + 1 → Sized (one_judged way doc left list k twice n o.head o.inner) (laid way doc list (node o.head o.inner none)) (Ok own)
         one-bare q =
             let bare = rows_none doc t _ (n + 1) end o.inner inner-rows (omega arith) in
             (one-leaf way doc left list k n o.head twice o.inner (fine-is fine) bare, size_is way is ∙ sym (size-bare way bare))
 
-        module _ {b : Bool} (bi : b ≡ eqb (word t n 0) 9) {j : ℕ} (ji : j ≡ word t n 6) (r : Size)
+        module _ {b : Bool} (bi : b ≡ eqb (word t n 0) 9) {j : ℕ} (ji : j ≡ word t n 6) (r : Result ℕ Refused)
             (told : (p : Some doc t b (n + 1) end) → Sized (judged way doc (left - 1) b j none (n + 1) p.forest) (laid way doc b p.forest) r) where
           -- What is said of the records in it.
           abbrev Inside : Head → Type 0
@@ -307,12 +308,12 @@ module _ (doc t : List ℕ) (list : Bool) (n end : ℕ) (o : One doc t list n en
           inside = subst Inside head_is (rw (← bi, ← ji) (told (one-some bi)))
 
           -- One of them is refused.
-          pub one-within : {m p : ℕ} → r ≡ Size.No m p → one_judged way doc left list k twice n o.head o.inner ≡ no m p
+          pub one-within : {x : Refused} → r ≡ Err x → one_judged way doc left list k twice n o.head o.inner ≡ no (number_of x.refusal) x.place
           one-within g = one-inner way doc left list k n o.head twice o.inner (fine-is fine) ∙ (rw g at inside)
 
           -- They pass, and take so many bytes.
-          pub one-whole : holds (word t n 0) ≡ true → {s : ℕ} → r ≡ Size.Is s
-              → Sized (one_judged way doc left list k twice n o.head o.inner) (laid way doc list (node o.head o.inner none)) (Size.Is (own + s))
+          pub one-whole : holds (word t n 0) ≡ true → {s : ℕ} → r ≡ Ok s
+              → Sized (one_judged way doc left list k twice n o.head o.inner) (laid way doc list (node o.head o.inner none)) (Ok (own + s))
           one-whole e g =
               let x = rw g at inside in
               let held = held-kind o.head.kind (holds-is e) in (

@@ -14,7 +14,7 @@ use Rattle.form.specs.Table.{Head, Forest, none, node, size, ◌⊕◌, holds}
 use Rattle.form.specs.Reading.{has_name}
 use Rattle.form.specs.Writing.{string_fine, payload_fine, judged}
 use Rattle.form.proofs.Answer.{got-no}
-use Rattle.nbt_siblings.specs.declared.Repeat.{Repeat}
+use Rattle.std.specs.Prelude.{Option, Some, None}
 use Rattle.nbt_siblings.specs.Names.{first_repeat}
 use Rattle.nbt_siblings.specs.Forests.{repeat_in}
 use Rattle.nbt_judging.specs.Pieces.{deep, mixed, is_at, first_twice, rest_fine, own_fine, one_judged}
@@ -137,29 +137,29 @@ judged-node way doc left list k earlier n h inner later twice e =
 -- ---- the first repeat
 
 -- It does not stand before where it is looked for.
-repeat-from : (doc : List ℕ) (f seen : Forest) (n r : ℕ) → repeat_in doc n seen f ≡ Repeat.At r → n ≤ r
+repeat-from : (doc : List ℕ) (f seen : Forest) (n r : ℕ) → repeat_in doc n seen f ≡ Some r → n ≤ r
 unfolding repeat_in
 repeat-from doc none seen n r e = let z : ◌≡◌ {A = ℕ} 0 1 = cc in absurd (omega arith)
 repeat-from doc (node h inner later) seen n r e =
     go (has_name doc (part doc h.name h.name_length) seen) (repeat-from doc later (seen ⊕ node h inner none) (n + 1 + size inner) r) e
   where
-    go : (b : Bool) → (repeat_in doc (n + 1 + size inner) (seen ⊕ node h inner none) later ≡ Repeat.At r → n + 1 + size inner ≤ r)
-        → elim b [ true ↦ Repeat.At n | false ↦ repeat_in doc (n + 1 + size inner) (seen ⊕ node h inner none) later ] ≡ Repeat.At r → n ≤ r
+    go : (b : Bool) → (repeat_in doc (n + 1 + size inner) (seen ⊕ node h inner none) later ≡ Some r → n + 1 + size inner ≤ r)
+        → elim b [ true ↦ Some n | false ↦ repeat_in doc (n + 1 + size inner) (seen ⊕ node h inner none) later ] ≡ Some r → n ≤ r
     go true ih p = let q : n ≡ r = cc in omega arith
     go false ih p = omega (arith, ih p)
 
-module _ (doc : List ℕ) (n : ℕ) (seen : Forest) (h : Head) (inner later : Forest) (found : Repeat) (e : repeat_in doc n seen (node h inner later) ≡ found) where
+module _ (doc : List ℕ) (n : ℕ) (seen : Forest) (h : Head) (inner later : Forest) (found : Option ℕ) (e : repeat_in doc n seen (node h inner later) ≡ found) where
   -- A repeat among those after it is not this one.
-  later-one : (f : Repeat) → repeat_in doc (n + 1 + size inner) (seen ⊕ node h inner none) later ≡ f → is_at f n ≡ false
-  later-one (Repeat.At r) p = ne_eqb r n (λ q. omega (arith, repeat-from doc later (seen ⊕ node h inner none) (n + 1 + size inner) r p))
-  later-one Repeat.Nothing p = refl
+  later-one : (f : Option ℕ) → repeat_in doc (n + 1 + size inner) (seen ⊕ node h inner none) later ≡ f → is_at f n ≡ false
+  later-one (Some r) p = ne_eqb r n (λ q. omega (arith, repeat-from doc later (seen ⊕ node h inner none) (n + 1 + size inner) r p))
+  later-one None p = refl
 
   -- The record is the first repeat exactly where an earlier one has its name.
   pub repeat-here : is_at found n ≡ has_name doc (part doc h.name h.name_length) seen
   unfolding repeat_in
   repeat-here = go (has_name doc (part doc h.name h.name_length) seen) e
     where
-      go : (b : Bool) → elim b [ true ↦ Repeat.At n | false ↦ repeat_in doc (n + 1 + size inner) (seen ⊕ node h inner none) later ] ≡ found → is_at found n ≡ b
+      go : (b : Bool) → elim b [ true ↦ Some n | false ↦ repeat_in doc (n + 1 + size inner) (seen ⊕ node h inner none) later ] ≡ found → is_at found n ≡ b
       go true p = rw (← p) (eq-eqb n n refl)
       go false p = later-one found p
 
@@ -175,5 +175,5 @@ pub twice-entries : (doc t : List ℕ) (n end : ℕ) (list : Bool) → list ≡ 
 twice-entries doc t n end list e = rw e refl
 
 -- Among the elements of a list there is none.
-pub twice-elements : (doc t : List ℕ) (n end : ℕ) (list : Bool) → list ≡ true → first_twice doc t n end list ≡ Repeat.Nothing
+pub twice-elements : (doc t : List ℕ) (n end : ℕ) (list : Bool) → list ≡ true → first_twice doc t n end list ≡ None
 twice-elements doc t n end list e = rw e refl

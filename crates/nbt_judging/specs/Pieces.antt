@@ -1,7 +1,7 @@
 -- Rule 8 cut at the joints of the code: what is asked of one record, and the bytes of one record, taken from its words. proofs/Pieces.antt
 -- and nbt_writer/proofs/Laid.antt put the pieces together: they are `judged` and `layout`.
 -- Assumes nothing.
-use Rattle.std.specs.Prelude.{ℕ, ◌+◌, ◌-◌, max, List, [], ◌++◌, Bool, true, false, not, ◌||◌, length, ltb, eqb}
+use Rattle.std.specs.Prelude.{ℕ, ◌+◌, ◌-◌, max, List, [], ◌++◌, Bool, true, false, Option, Some, None, not, ◌||◌, length, ltb, eqb}
 use Rattle.form.specs.Form.{Way}
 use Rattle.form.specs.Answer.{Out, guard, ◌>>◌, name_twice, too_deep, mixed_list}
 use Rattle.form.specs.Numbers.{bytes_in, bytes_of}
@@ -11,7 +11,6 @@ use Rattle.form.specs.Turned.{recoded}
 use Rattle.form.specs.Table.{Head, Forest, none, node, holds, width_of}
 use Rattle.form.specs.Writing.{string_fine, payload_fine, judged}
 use Rattle.recode.specs.Steps.{numbers}
-use Rattle.nbt_siblings.specs.declared.Repeat.{Repeat}
 use Rattle.nbt_siblings.specs.Names.{first_repeat}
 
 -- ---- what is asked of a record
@@ -25,14 +24,14 @@ abbrev pub mixed : Bool → ℕ → ℕ → Bool
 mixed list kind k = not (not list || eqb kind k)
 
 -- The first record from n up to `end` whose name an earlier one has; elements of a list have no names.
-abbrev pub first_twice : List ℕ → List ℕ → ℕ → ℕ → Bool → Repeat
-first_twice doc t n end true = Repeat.Nothing
+abbrev pub first_twice : List ℕ → List ℕ → ℕ → ℕ → Bool → Option ℕ
+first_twice doc t n end true = None
 first_twice doc t n end false = first_repeat doc t n end
 
 -- Whether the answer to `first_repeat` is record i.
-abbrev pub is_at : Repeat → ℕ → Bool
-is_at (Repeat.At r) i = eqb r i
-is_at Repeat.Nothing i = false
+abbrev pub is_at : Option ℕ → ℕ → Bool
+is_at (Some r) i = eqb r i
+is_at None i = false
 
 -- What stands before the numbers of a payload: an array's count; nothing before a number alone.
 unfoldable pub count_bytes : Way → ℕ → ℕ → List ℕ

@@ -1,20 +1,20 @@
 -- What the contracts of this crate cite: each enum of the code as the definitions' answer, and the records that stand in a table.
 -- Assumes nothing.
-use Rattle.std.specs.Prelude.{ℕ, ◌+◌, ◌*◌, ◌≤◌, ◌≡◌, List, Bool, length}
+use Rattle.std.specs.Prelude.{ℕ, ◌+◌, ◌*◌, ◌≤◌, ◌≡◌, List, Bool, Result, Ok, Err, length}
 use Rattle.form.specs.Form.{Way}
 use Rattle.form.specs.Answer.{Out, got, no}
 use Rattle.form.specs.Table.{Head, Forest, none, node, size, word}
 use Rattle.form.specs.Tables.{Fair, Within}
 use Rattle.form.specs.Writing.{judged}
 use Rattle.form.specs.Records.{Sits, Under}
-use Rattle.nbt_judging.specs.declared.Fine.{Fine}
-use Rattle.nbt_judging.specs.declared.Size.{Size}
+use Rattle.form.specs.Refusals.{number_of}
+use Rattle.form.specs.declared.refusals.Refused.{Refused}
 use Rattle.nbt_judging.specs.Pieces.{one_judged, laid}
 
 -- 01's number and place where a record is refused
-abbrev pub fine_out : Fine → Out (Unit {0})
-fine_out Fine.Yes = got tt
-fine_out (Fine.No n p) = no n p
+abbrev pub fine_out : Result (Unit {0}) Refused → Out (Unit {0})
+fine_out (Ok u) = got tt
+fine_out (Err e) = no (number_of e.refusal) e.place
 
 -- record n stands in the table, and its spans in the document
 pub record Placed (doc t : List ℕ) (n : ℕ) : Type 0 where
@@ -45,16 +45,16 @@ pub record One (doc t : List ℕ) (list : Bool) (n end : ℕ) : Type 0 where
   pub rows : Rows doc t list n end (node head inner none)
 
 -- the bytes bs, or the refusal, that records whose judgement is o give
-abbrev pub Sized : Out (Unit {0}) → List ℕ → Size → Type 0
-Sized o bs (Size.Is n) = (o ≡ got tt) × (n ≡ length bs)
-Sized o bs (Size.No m p) = o ≡ no m p
+abbrev pub Sized : Out (Unit {0}) → List ℕ → Result ℕ Refused → Type 0
+Sized o bs (Ok n) = (o ≡ got tt) × (n ≡ length bs)
+Sized o bs (Err e) = o ≡ no (number_of e.refusal) e.place
 
 -- what judging the records from n up to `end` answers, whichever stand there; the table is as it was
-abbrev pub JudgedIs : Way → List ℕ → List ℕ → ℕ → Bool → ℕ → ℕ → ℕ → Size → List ℕ → Type 0
+abbrev pub JudgedIs : Way → List ℕ → List ℕ → ℕ → Bool → ℕ → ℕ → ℕ → Result ℕ Refused → List ℕ → Type 0
 JudgedIs way doc t left list k n end r t' =
     ((p : Some doc t list n end) → Sized (judged way doc left list k none n p.forest) (laid way doc list p.forest) r) × (t' ≡ t)
 
 -- and what judging one record answers, with those in it
-abbrev pub OneJudgedIs : Way → List ℕ → List ℕ → ℕ → Bool → ℕ → Bool → ℕ → ℕ → Size → List ℕ → Type 0
+abbrev pub OneJudgedIs : Way → List ℕ → List ℕ → ℕ → Bool → ℕ → Bool → ℕ → ℕ → Result ℕ Refused → List ℕ → Type 0
 OneJudgedIs way doc t left list k twice n end r t' =
     ((p : One doc t list n end) → Sized (one_judged way doc left list k twice n p.head p.inner) (laid way doc list (node p.head p.inner none)) r) × (t' ≡ t)

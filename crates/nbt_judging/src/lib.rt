@@ -13,100 +13,82 @@ ghost use Rattle.nbt_siblings.specs.Lists.{Family};
 ghost use Rattle.nbt_judging.specs.Pieces.{deep as deepOf, mixed as mixedOf, is_at, first_twice, rest_fine, own_fine, body_size, own_size};
 ghost use Rattle.nbt_judging.specs.Steps.{fine_out, Placed, Some, One, JudgedIs, OneJudgedIs};
 
+use form::refusals::{Refusal, Refused};
 use form::ways;
-use nbt_siblings::Repeat;
 use table::kinds;
-
-// A record passes, or its refusal.
-#[derive(Drop)]
-enum Fine {
-    Yes,
-    No { number: u8, place: usize },
-}
-
-// How many bytes records take, or the first refusal among them.
-#[derive(Drop)]
-pub enum Size {
-    Is(usize),
-    No { number: u8, place: usize },
-}
 
 // A container where none may stand any more (7).
 fn deep(kind: usize, left: usize) -> bool
     ensures { result ≡ deepOf kind left }
 {
-    if 0 < left {
-        false
-    } else {
-        table::is_container(kind)
-    }
+    left == 0 && table::is_container(kind)
 }
 
 // An element of another kind than its list's, which is k (11).
 fn mixed(list: bool, kind: usize, k: usize) -> bool
     ensures { result ≡ mixedOf list kind k }
 {
-    if list { kind != k } else { false }
+    list && kind != k
 }
 
 // Whether the answer to `first_repeat` is record i.
-fn is_at(found: Repeat, i: usize) -> bool
+fn is_at(found: Option<usize>, i: usize) -> bool
     ensures { result ≡ is_at found i }
 {
     match found {
-        Repeat::At(r) => r == i,
-        Repeat::Nothing => false,
+        Some(r) => r == i,
+        None => false,
     }
 }
 
 // A name or a string payload of record n: its length fits a u16 (12), it is well formed (4), and its length fits a u16 as it is written (12).
 // It has two callers, so that it stays a call, and a short string goes without one.
-fn long_fine(doc: &[u8], start: usize, size: usize, n: usize, way: u32) -> Fine
+fn long_fine(doc: &[u8], start: usize, size: usize, n: usize, way: u32) -> Result<(), Refused>
     requires { start + size ≤ length doc.now }
     ensures { fine_out result ≡ string_fine (way_no way) doc.now start size n }
 {
     if form::STRING < size {
-        return Fine::No {
-            number: form::LONG_STRING,
+        return Err(Refused {
+            refusal: Refusal::LongString,
             place: n,
-        };
+        });
     }
     let end = start + size;
     if !mutf8::is_well_formed(&doc[start..end], ways::source(way)) {
-        return Fine::No {
-            number: form::BAD_STRING,
+        return Err(Refused {
+            refusal: Refusal::BadString,
             place: n,
-        };
+        });
     }
     if ways::same_rule(way) {
-        return Fine::Yes;
+        return Ok(());
     }
     if form::STRING < recode::length(doc, start, size, way) {
-        return Fine::No {
-            number: form::LONG_STRING,
+        return Err(Refused {
+            refusal: Refusal::LongString,
             place: n,
-        };
+        });
     }
-    Fine::Yes
+    Ok(())
 }
 
 // The same of a short one, whose length fits a u16 whatever form it is written in: well formed or not (4).
-fn short_fine(doc: &[u8], start: usize, size: usize, n: usize, way: u32) -> Fine
+fn short_fine(doc: &[u8], start: usize, size: usize, n: usize, way: u32) -> Result<(), Refused>
     requires { (start + size ≤ length doc.now) × (size ≤ 10922) }
     ensures { fine_out result ≡ string_fine (way_no way) doc.now start size n }
 {
     let end = start + size;
     if mutf8::is_well_formed(&doc[start..end], ways::source(way)) {
-        return Fine::Yes;
+        return Ok(());
     }
-    Fine::No {
-        number: form::BAD_STRING,
+    Err(Refused {
+        refusal: Refusal::BadString,
         place: n,
-    }
+    })
 }
 
 // The name of a record; an element of a list has an empty one.
-fn name_fine(doc: &[u8], table: &[u32], n: usize, way: u32) -> Fine
+fn name_fine(doc: &[u8], table: &[u32], n: usize, way: u32) -> Result<(), Refused>
     requires { Placed doc.now table.now n }
     ensures { fine_out result ≡ string_fine (way_no way) doc.now (word_of table.now n 1) (word_of table.now n 2) n }
 {
@@ -119,7 +101,7 @@ fn name_fine(doc: &[u8], table: &[u32], n: usize, way: u32) -> Fine
 }
 
 // The string payload of a record, if it has one.
-fn payload_fine(doc: &[u8], table: &[u32], n: usize, way: u32) -> Fine
+fn payload_fine(doc: &[u8], table: &[u32], n: usize, way: u32) -> Result<(), Refused>
     requires { Placed doc.now table.now n }
     ensures { fine_out result ≡ payload_fine (way_no way) doc.now (head_of table.now n) n }
 {
@@ -132,7 +114,7 @@ fn payload_fine(doc: &[u8], table: &[u32], n: usize, way: u32) -> Fine
             }
             short_fine(doc, start, size, n, way)
         }
-        _ => Fine::Yes,
+        _ => Ok(()),
     }
 }
 
@@ -145,22 +127,22 @@ fn rest_fine(
     list: bool,
     k: usize,
     way: u32,
-) -> Fine
+) -> Result<(), Refused>
     requires { Placed doc.now table.now n }
     ensures { fine_out result ≡ rest_fine (way_no way) doc.now left list k n (head_of table.now n) }
 {
     let kind = table::word(table, n, table::KIND);
     if deep(kind, left) {
-        return Fine::No {
-            number: form::TOO_DEEP,
+        return Err(Refused {
+            refusal: Refusal::TooDeep,
             place: n,
-        };
+        });
     }
     if mixed(list, kind, k) {
-        return Fine::No {
-            number: form::MIXED_LIST,
+        return Err(Refused {
+            refusal: Refusal::MixedList,
             place: n,
-        };
+        });
     }
     payload_fine(doc, table, n, way)
 }
@@ -175,22 +157,18 @@ fn own_fine(
     k: usize,
     twice: bool,
     way: u32,
-) -> Fine
+) -> Result<(), Refused>
     requires { Placed doc.now table.now n }
     ensures { fine_out result ≡ own_fine (way_no way) doc.now left list k twice n (head_of table.now n) }
 {
-    match name_fine(doc, table, n, way) {
-        Fine::No { number, place } => Fine::No { number, place },
-        Fine::Yes => {
-            if twice {
-                return Fine::No {
-                    number: form::NAME_TWICE,
-                    place: n,
-                };
-            }
-            rest_fine(doc, table, n, left, list, k, way)
-        }
+    name_fine(doc, table, n, way)?;
+    if twice {
+        return Err(Refused {
+            refusal: Refusal::NameTwice,
+            place: n,
+        });
     }
+    rest_fine(doc, table, n, left, list, k, way)
 }
 
 // How many bytes a name or a string payload takes as it is written, without its length; what is written as it stands is counted without a call.
@@ -237,12 +215,12 @@ fn own_size(doc: &[u8], table: &[u32], n: usize, list: bool, way: u32) -> usize
 }
 
 // The first record from n up to `end` whose name an earlier one has; elements of a list have no names.
-fn first_twice(doc: &[u8], table: &mut [u32], n: usize, end: usize, list: bool) -> Repeat
+fn first_twice(doc: &[u8], table: &mut [u32], n: usize, end: usize, list: bool) -> Option<usize>
     requires { list ≡ false → Family doc.now table.old n end }
     ensures { (result ≡ first_twice doc.now table.old n end list) × (table.new ≡ table.old) }
 {
     if list {
-        return Repeat::Nothing;
+        return None;
     }
     nbt_siblings::first_repeat(doc, table, n, end)
 }
@@ -258,25 +236,22 @@ pub fn judged(
     list: bool,
     k: usize,
     way: u32,
-) -> Size
+) -> Result<usize, Refused>
     requires { Some doc.now table.old list n end }
     ensures { JudgedIs (way_no way) doc.now table.old left list k n end result table.new }
 {
     let repeat = first_twice(doc, table, n, end, list);
     let mut i = n;
     let mut total: usize = 0;
+    // A `while`: a record's last word is the number of the next.
     while i < end {
         let next = table::word(table, i, table::END);
         let twice = is_at(repeat, i);
-        match one_judged(doc, table, i, next, left, list, k, twice, way) {
-            Size::No { number, place } => return Size::No { number, place },
-            Size::Is(size) => {
-                total += size;
-            }
-        }
+        let size = one_judged(doc, table, i, next, left, list, k, twice, way)?;
+        total += size;
         i = next;
     }
-    Size::Is(total)
+    Ok(total)
 }
 
 // Record n, which ends at `end`, and those in it; what holds no records, an empty container too, is done with no second walk.
@@ -291,23 +266,17 @@ fn one_judged(
     k: usize,
     twice: bool,
     way: u32,
-) -> Size
+) -> Result<usize, Refused>
     requires { One doc.now table.old list n end }
     ensures { OneJudgedIs (way_no way) doc.now table.old left list k twice n end result table.new }
 {
-    match own_fine(doc, table, n, left, list, k, twice, way) {
-        Fine::No { number, place } => Size::No { number, place },
-        Fine::Yes => {
-            let own = own_size(doc, table, n, list, way);
-            if end == n + 1 {
-                return Size::Is(own);
-            }
-            let elements = table::word(table, n, table::KIND) == kinds::LIST;
-            let inner = table::word(table, n, table::LIST_KIND);
-            match judged(doc, table, n + 1, end, left - 1, elements, inner, way) {
-                Size::No { number, place } => Size::No { number, place },
-                Size::Is(size) => Size::Is(own + size),
-            }
-        }
+    own_fine(doc, table, n, left, list, k, twice, way)?;
+    let own = own_size(doc, table, n, list, way);
+    if end == n + 1 {
+        return Ok(own);
     }
+    let elements = table::word(table, n, table::KIND) == kinds::LIST;
+    let inner = table::word(table, n, table::LIST_KIND);
+    let size = judged(doc, table, n + 1, end, left - 1, elements, inner, way)?;
+    Ok(own + size)
 }

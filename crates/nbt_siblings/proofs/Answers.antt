@@ -8,7 +8,7 @@ use mathlib.Core.Logic.{◌⊎◌, inl, inr, ⊎_elim}
 use native.Mathlib.Omega.{arith}
 use borrow.Author.Tests.{lt-ltb, le-ltb}
 use lib.ListN.{length, get_or}
-use Rattle.nbt_siblings.specs.declared.Repeat.{Repeat}
+use Rattle.std.specs.Prelude.{Some, None}
 use Rattle.form.specs.Spans.{same}
 use Rattle.form.proofs.Spans.{same_self, same_true as same-eq}
 use Rattle.nbt_siblings.specs.Names.{name_of, end_of, siblings, among, first_from, first_repeat}
@@ -45,7 +45,7 @@ module _ (name : ℕ → List ℕ) where
       go true f h r = (j, mem-head j j js refl, f)
       go false f h r = let k = r (rw f at h) in (k.0, mem-tail k.0 j js k.1, k.2)
 
-  first-hit : (seen : List ℕ) (i : ℕ) (js : List ℕ) → among name (name i) seen ≡ true → first_from name seen (i ∷ js) ≡ Repeat.At i
+  first-hit : (seen : List ℕ) (i : ℕ) (js : List ℕ) → among name (name i) seen ≡ true → first_from name seen (i ∷ js) ≡ Some i
   unfolding first_from
   first-hit seen i js e = rw (first_from, e) refl
 
@@ -55,10 +55,10 @@ module _ (name : ℕ → List ℕ) where
 
 -- ---- the answer
 
-pub found_at : (low stop : ℕ) → low < stop → found_of low stop ≡ Repeat.At low
+pub found_at : (low stop : ℕ) → low < stop → found_of low stop ≡ Some low
 found_at low stop h = rw (found_of, lt-ltb low stop h) refl
 
-pub found_nothing : (low stop : ℕ) → stop ≤ low → found_of low stop ≡ Repeat.Nothing
+pub found_nothing : (low stop : ℕ) → stop ≤ low → found_of low stop ≡ None
 found_nothing low stop h = rw (found_of, le-ltb low stop h) refl
 
 module _ (doc t : List ℕ) (bytes : (i : ℕ) → get_or doc i 0 < 256) (U : ℕ → Type 0) (none low : ℕ) (fit : (z : ℕ) → U z → Fit doc t z)
@@ -96,7 +96,7 @@ module _ (doc t : List ℕ) (bytes : (i : ℕ) → get_or doc i 0 < 256) (U : �
           }) in
           let bi : i < none = below i ui in
           let is : low ≡ i = ⊎_elim (λ q. absurd (omega (arith, q, le, bi))) (λ m. let ge : i ≤ low = at_least low m in let q : low ≡ i = omega arith in q) w in
-          found_at low none (omega arith) ∙ ap Repeat.At is ∙ sym (first-hit (name_of doc t) seen i js e)
+          found_at low none (omega arith) ∙ ap Some is ∙ sym (first-hit (name_of doc t) seen i js e)
       go false e r =
           r (⊎_elim (λ q. inl q) (λ m. mem-cases ((low ≡ none) ⊎ Mem low js) low i js (λ q. absurd (no q)) (λ k. inr k) m) w)
           ∙ sym (first-miss (name_of doc t) seen i js e)
@@ -143,30 +143,30 @@ family-answer {doc = doc} {t = t} {first = first} {stop = stop} {low = low} fam 
 
 -- ---- one record, or none
 
-alone : (name : ℕ → List ℕ) (js : List ℕ) → length js < 2 → first_from name [] js ≡ Repeat.Nothing
+alone : (name : ℕ → List ℕ) (js : List ℕ) → length js < 2 → first_from name [] js ≡ None
 unfolding first_from among
 alone name [] h = refl
 alone name (i ∷ []) h = refl
 alone name (i ∷ (j ∷ js)) h = absurd (omega arith)
 
-pub repeat-few : (doc t : List ℕ) (first stop : ℕ) {n : ℕ} → n ≡ length (siblings t stop stop first) → n < 2 → Repeat.Nothing ≡ first_repeat doc t first stop
+pub repeat-few : (doc t : List ℕ) (first stop : ℕ) {n : ℕ} → n ≡ length (siblings t stop stop first) → n < 2 → None ≡ first_repeat doc t first stop
 unfolding first_repeat
 repeat-few doc t first stop e h = sym (alone (name_of doc t) (siblings t stop stop first) (omega (arith, e, h)))
 
 -- ---- the answer is one of the records
 
-first-in : (name : ℕ → List ℕ) (k : ℕ) (rest seen : List ℕ) → first_from name seen rest ≡ Repeat.At k → Mem k rest
+first-in : (name : ℕ → List ℕ) (k : ℕ) (rest seen : List ℕ) → first_from name seen rest ≡ Some k → Mem k rest
 unfolding first_from
 first-in name k [] seen e = absurd (let y : ◌≡◌ {A = ℕ} 0 1 = cc in omega arith)
 first-in name k (i ∷ js) seen e = go (among name (name i) seen) refl (first-in name k js (i ∷ seen))
   where
-    go : (b : Bool) → among name (name i) seen ≡ b → (first_from name (i ∷ seen) js ≡ Repeat.At k → Mem k js) → Mem k (i ∷ js)
+    go : (b : Bool) → among name (name i) seen ≡ b → (first_from name (i ∷ seen) js ≡ Some k → Mem k js) → Mem k (i ∷ js)
     go true q r =
-        let f : Repeat.At i ≡ Repeat.At k = sym (first-hit name seen i js q) ∙ e in
+        let f : Some i ≡ Some k = sym (first-hit name seen i js q) ∙ e in
         let g : k ≡ i = cc in
         mem-head k i js g
     go false q r = mem-tail k i js (r (sym (first-miss name seen i js q) ∙ e))
 
-pub repeat-in : (doc t : List ℕ) (first stop k : ℕ) → first_repeat doc t first stop ≡ Repeat.At k → Mem k (siblings t stop stop first)
+pub repeat-in : (doc t : List ℕ) (first stop k : ℕ) → first_repeat doc t first stop ≡ Some k → Mem k (siblings t stop stop first)
 unfolding first_repeat
 repeat-in doc t first stop k e = first-in (name_of doc t) k (siblings t stop stop first) [] e

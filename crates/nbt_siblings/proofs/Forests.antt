@@ -12,7 +12,7 @@ use Rattle.form.specs.Spans.{same, part}
 use Rattle.form.specs.Reading.{has_name}
 use Rattle.nbt_siblings.specs.Holding.{NamesIn, Holds}
 use Rattle.nbt_siblings.proofs.Holding.{Ahead, ahead-all, ahead_none, ahead-word, ahead-end, ahead-name, ahead-below, ahead-next}
-use Rattle.nbt_siblings.specs.declared.Repeat.{Repeat}
+use Rattle.std.specs.Prelude.{Some, None}
 use Rattle.nbt_siblings.specs.Names.{name_of, end_of, siblings, among, first_from, first_repeat}
 use Rattle.nbt_siblings.specs.Links.{slot_of, link, Mem}
 use Rattle.nbt_siblings.specs.Lists.{Family}
@@ -151,9 +151,9 @@ module _ (doc t : List ℕ) (first stop : ℕ) (o : Holds (length doc) t first s
   once-of = once o.acc (ahead-all o) ∙ ap (refusal_of t) (sym repeat-of)
 
 -- the place that the code answers
-pub place_is : (doc t t' : List ℕ) (first stop k w r : ℕ) → first_repeat doc t first stop ≡ Repeat.At k → t' ≡ t → w ≡ get_or t' (9 * k + 1) 0 → r ≡ w - 3
-    → place_out (Repeat.At r) ≡ refusal_of t (first_repeat doc t first stop)
+pub place_is : (doc t t' : List ℕ) (first stop k w r : ℕ) → first_repeat doc t first stop ≡ Some k → t' ≡ t → w ≡ get_or t' (9 * k + 1) 0 → r ≡ w - 3
+    → place_out (Some r) ≡ refusal_of t (first_repeat doc t first stop)
 place_is doc t t' first stop k w r e f g h = rw e (ap (λ x. no 6 x) (h ∙ ap (λ x. x - 3) (g ∙ ap (λ l. get_or l (9 * k + 1) 0) f)))
 
-pub place_none : (doc t : List ℕ) (first stop : ℕ) → first_repeat doc t first stop ≡ Repeat.Nothing → place_out Repeat.Nothing ≡ refusal_of t (first_repeat doc t first stop)
+pub place_none : (doc t : List ℕ) (first stop : ℕ) → first_repeat doc t first stop ≡ None → place_out None ≡ refusal_of t (first_repeat doc t first stop)
 place_none doc t first stop e = rw e refl

@@ -14,21 +14,28 @@ use Rattle.form.specs.Numbers.{value}
 use Rattle.nbt_siblings.specs.Links.{num, rank}
 use Rattle.nbt_siblings.specs.Lists.{Told, Picked}
 use Rattle.nbt_siblings.proofs.Numbers.{num-is}
-use Rattle.nbt_siblings.specs.declared.names.Order.{Order}
+use Rattle.std.specs.declared.cmp.Ordering.{Ordering}
+use Rattle.std.specs.declared.cmp.Ordering.TheVariants.{Less, Equal, Greater}
 use Rattle.nbt_siblings.specs.Orders.{Ordered}
 
-shift : (k x y : ℕ) (r : Order) → Ordered x y r → Ordered (k + x) (k + y) r
-shift k x y Order.Less h = omega arith
-shift k x y Order.Same h = omega arith
-shift k x y Order.More h = omega arith
+shift : (k x y : ℕ) (r : Ordering) → Ordered x y r → Ordered (k + x) (k + y) r
+shift k x y Less h = omega arith
+shift k x y Equal h = omega arith
+shift k x y Greater h = omega arith
 
 -- what is left of both, where the rest differs by as much
-pub ordered-rest : (x y u v : ℕ) (r : Order) → x + v ≡ y + u → Ordered u v r → Ordered x y r
-ordered-rest x y u v Order.Less e h = omega arith
-ordered-rest x y u v Order.Same e h = omega arith
-ordered-rest x y u v Order.More e h = omega arith
+pub ordered-rest : (x y u v : ℕ) (r : Ordering) → x + v ≡ y + u → Ordered u v r → Ordered x y r
+ordered-rest x y u v Less e h = omega arith
+ordered-rest x y u v Equal e h = omega arith
+ordered-rest x y u v Greater e h = omega arith
 
-pub spans-num : (doc : List ℕ) (a n b m : ℕ) (r : Order) → a + n ≤ length doc → b + m ≤ length doc → n ≡ m
+-- an answer other than equal is of numbers that differ
+pub ordered-other : (x y : ℕ) (r : Ordering) → Ordered x y r → (r ≡ Equal → ⊥) → x ≡ y → ⊥
+ordered-other x y Less h n e = omega arith
+ordered-other x y Equal h n e = n refl
+ordered-other x y Greater h n e = omega arith
+
+pub spans-num : (doc : List ℕ) (a n b m : ℕ) (r : Ordering) → a + n ≤ length doc → b + m ≤ length doc → n ≡ m
     → Ordered (value (part doc a n)) (value (part doc b n)) r → Ordered (num (part doc a n)) (num (part doc b m)) r
 spans-num doc a n b m r la lb e h =
     subst (λ k. b + k ≤ length doc → Ordered (num (part doc a n)) (num (part doc b k)) r) e

@@ -1,7 +1,7 @@
 -- What the contracts of the functions on linked records cite.
 -- Assumes nothing.
 use Rattle.std.specs.Prelude.{ℕ, ◌+◌, ◌≤◌, ◌<◌, List, Bool, true, false, ◌≡◌, ◌⊎◌, ltb}
-use Rattle.nbt_siblings.specs.declared.Repeat.{Repeat}
+use Rattle.std.specs.Prelude.{Option, Some, None}
 use Rattle.nbt_siblings.specs.Names.{name_of, end_of, siblings}
 use Rattle.nbt_siblings.specs.Links.{num, rank, link, Mem, walk, past, Le, Sorted, Agree, Fit}
 
@@ -101,8 +101,8 @@ Rises doc t first stop true = Least doc t (λ z. Mem z (siblings t stop stop fir
 Rises doc t first stop false = Unit {0}
 
 -- the answer that a number is: stop is none
-abbrev pub found_of : ℕ → ℕ → Repeat
+abbrev pub found_of : ℕ → ℕ → Option ℕ
 found_of low stop = elim (ltb low stop) [
-  | true ↦ Repeat.At low
-  | false ↦ Repeat.Nothing
+  | true ↦ Some low
+  | false ↦ None
 ]

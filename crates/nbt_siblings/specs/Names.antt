@@ -3,7 +3,7 @@
 use Rattle.std.specs.Prelude.{ℕ, zero, suc, List, [], ◌∷◌, Bool, true, false, ◌||◌, ltb}
 use Rattle.form.specs.Table.{word}
 use Rattle.form.specs.Spans.{same, part}
-use Rattle.nbt_siblings.specs.declared.Repeat.{Repeat}
+use Rattle.std.specs.Prelude.{Option, Some, None}
 
 -- a record's name
 unfoldable pub name_of : List ℕ → List ℕ → ℕ → List ℕ
@@ -28,13 +28,13 @@ module _ (name : ℕ → List ℕ) where
   among n (j ∷ js) = same (name j) n || among n js
 
   -- the first of the records whose name one before it has, or one of those seen
-  unfoldable pub first_from : List ℕ → List ℕ → Repeat
-  first_from seen [] = Repeat.Nothing
+  unfoldable pub first_from : List ℕ → List ℕ → Option ℕ
+  first_from seen [] = None
   first_from seen (i ∷ is) = elim (among (name i) seen) [
-    | true ↦ Repeat.At i
+    | true ↦ Some i
     | false ↦ first_from (i ∷ seen) is
   ]
 
 -- the answer to `first_repeat`
-unfoldable pub first_repeat : List ℕ → List ℕ → ℕ → ℕ → Repeat
+unfoldable pub first_repeat : List ℕ → List ℕ → ℕ → ℕ → Option ℕ
 first_repeat doc t first stop = first_from (name_of doc t) [] (siblings t stop stop first)

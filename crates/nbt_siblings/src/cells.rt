@@ -10,7 +10,7 @@ use crate::marks::mark;
 use crate::names::twin;
 
 // A cell for a record: the first that is free, or one that holds a record of the same name, or neither within reach.
-#[derive(Drop)]
+#[derive(Clone, Copy)]
 enum Spot {
     Free(usize),
     Twin,
@@ -18,7 +18,7 @@ enum Spot {
 }
 
 // What became of a record: it stands in its cell, so many cells after its first, or another of its class has its name, or there was no cell.
-#[derive(Drop)]
+#[derive(Clone, Copy)]
 enum Placed {
     On(usize),
     Twin,
@@ -26,7 +26,7 @@ enum Placed {
 }
 
 // The least record that has an earlier twin, or none, or it was not found out.
-#[derive(Drop)]
+#[derive(Clone, Copy)]
 pub enum Sought {
     At(usize),
     Nothing,
@@ -38,12 +38,10 @@ fn blank(table: &[u32], from: usize, to: usize) -> bool
     requires { 9 * to ≤ length table.now }
     ensures { Blanked table.now from to result }
 {
-    let mut k = from;
-    while k < to {
+    for k in from..to {
         if cell(table, k) != 0 {
             return false;
         }
-        k += 1;
     }
     true
 }
@@ -53,10 +51,8 @@ fn wipe(table: &mut [u32], from: usize, to: usize)
     requires { (from ≤ to) × (9 * to ≤ length table.old) }
     ensures { Wiped table.old table.new from to }
 {
-    let mut k = from;
-    while k < to {
+    for k in from..to {
         relink(table, k, 0);
-        k += 1;
     }
 }
 
@@ -65,8 +61,7 @@ fn probe(doc: &[u8], table: &[u32], i: usize, from: usize, to: usize) -> Spot
     requires { (Fit doc.now table.now i) × (Cells doc.now table.now from to) }
     ensures { Probed doc.now table.now i from to result }
 {
-    let mut k = from;
-    while k < to {
+    for k in from..to {
         let other = cell(table, k);
         if other == 0 {
             return Spot::Free(k);
@@ -74,7 +69,6 @@ fn probe(doc: &[u8], table: &[u32], i: usize, from: usize, to: usize) -> Spot
         if twin(doc, table, other, i) {
             return Spot::Twin;
         }
-        k += 1;
     }
     Spot::Full
 }
@@ -130,6 +124,7 @@ fn enter(
 {
     let mut spare = 4 * (last - first);
     let mut i = first;
+    // A `while`: a record's last word is the number of the next.
     while i < stop {
         match place(doc, table, i, first, last, class) {
             Placed::On(used) => {
@@ -205,17 +200,11 @@ pub fn scattered(doc: &[u8], table: &mut [u32], first: usize, stop: usize, n: us
     requires { Family doc.now table.old first stop }
     ensures { (table.new ≡ table.old) × (Joined doc.now table.old first stop result) }
 {
-    if first == 0 {
-        return Sought::Unknown;
-    }
-    if stop < first {
+    if first == 0 || stop < first {
         return Sought::Unknown;
     }
     let last = cells_end(first, stop, n);
-    if last - first < 32 {
-        return Sought::Unknown;
-    }
-    if table.len() / table::WORDS < last {
+    if last - first < 32 || table.len() / table::WORDS < last {
         return Sought::Unknown;
     }
     if blank(table, first, last) {

@@ -6,7 +6,7 @@ ghost use Rattle.nbt_siblings.specs.Links.{Mem, Fit};
 ghost use Rattle.nbt_siblings.specs.Lists.{Least, Taken, Family};
 ghost use Rattle.nbt_siblings.specs.Cells.{class_of, class_at, Fresh};
 
-use crate::names::{byte, twin};
+use crate::names::twin;
 
 // The class of the n bytes at a, of 128: the same for the same bytes.
 fn class_span(doc: &[u8], a: usize, n: usize) -> usize
@@ -16,9 +16,9 @@ fn class_span(doc: &[u8], a: usize, n: usize) -> usize
     if n == 0 {
         return 0;
     }
-    let x = byte(doc[a]);
-    let y = byte(doc[a + n / 2]);
-    let z = byte(doc[a + n - 1]);
+    let x = usize::from(doc[a]);
+    let y = usize::from(doc[a + n / 2]);
+    let z = usize::from(doc[a + n - 1]);
     (n % 8 * 16 + x * 5 + y * 7 + z * 3) % 128
 }
 
@@ -40,6 +40,7 @@ fn taken(doc: &[u8], table: &[u32], first: usize, stop: usize, i: usize) -> bool
     ensures { Taken doc.now table.now first stop i result }
 {
     let mut j = first;
+    // A `while`: a record's last word is the number of the next.
     while j < i {
         if twin(doc, table, j, i) {
             return true;
@@ -54,10 +55,7 @@ fn taken_in(doc: &[u8], table: &[u32], first: usize, stop: usize, i: usize, seen
     requires { (Family doc.now table.now first stop) × (Mem i (siblings table.now stop stop first)) × (seen ≡ false → Fresh doc.now table.now first stop i) }
     ensures { Taken doc.now table.now first stop i result }
 {
-    if seen {
-        return taken(doc, table, first, stop, i);
-    }
-    false
+    seen && taken(doc, table, first, stop, i)
 }
 
 // The first of a few records, each compared with those before it where its class was seen among them.
@@ -67,6 +65,7 @@ pub fn few(doc: &[u8], table: &[u32], first: usize, stop: usize) -> usize
 {
     let mut seen: [bool; 128] = [false; 128];
     let mut i = first;
+    // A `while`: a record's last word is the number of the next.
     while i < stop {
         let c = class_of(doc, table, i);
         if taken_in(doc, table, first, stop, i, seen[c]) {

@@ -24,13 +24,6 @@ use crate::classes::few;
 use crate::names::same_name;
 use crate::sorting::{rising, sorted};
 
-// A record whose name an earlier one has, by its number or the place of its entry; or none.
-#[derive(Clone, Copy)]
-pub enum Repeat {
-    At(usize),
-    Nothing,
-}
-
 // How many records stand side by side from `first` up to `stop`.
 fn count(table: &[u32], first: usize, stop: usize) -> usize
     requires { ((z : ℕ) → Mem z (siblings table.now stop stop first) → (9 * z + 9 ≤ length table.now) × (z < end_of table.now z)) × (stop < 4294967296) }
@@ -38,6 +31,7 @@ fn count(table: &[u32], first: usize, stop: usize) -> usize
 {
     let mut n: usize = 0;
     let mut i = first;
+    // A `while`: a record's last word is the number of the next.
     while i < stop {
         i = table::word(table, i, table::END);
         n += 1;
@@ -46,14 +40,10 @@ fn count(table: &[u32], first: usize, stop: usize) -> usize
 }
 
 // The answer that a number is: `stop` is none.
-fn below(low: usize, stop: usize) -> Repeat
+fn below(low: usize, stop: usize) -> Option<usize>
     ensures { result ≡ found_of low stop }
 {
-    if low < stop {
-        Repeat::At(low)
-    } else {
-        Repeat::Nothing
-    }
+    if low < stop { Some(low) } else { None }
 }
 
 // The least of many records that has an earlier twin, or `stop`.
@@ -71,15 +61,15 @@ fn many(doc: &[u8], table: &mut [u32], first: usize, stop: usize, n: usize) -> u
     }
 }
 
-// The first of the records side by side, from record `first` up to `stop`, whose name an earlier one has.
-pub fn first_repeat(doc: &[u8], table: &mut [u32], first: usize, stop: usize) -> Repeat
+// The number of the first of the records side by side, from record `first` up to `stop`, whose name an earlier one has.
+pub fn first_repeat(doc: &[u8], table: &mut [u32], first: usize, stop: usize) -> Option<usize>
     requires { Family doc.now table.old first stop }
     ensures value { result ≡ first_repeat doc.now table.old first stop }
     ensures table_unchanged { table.new ≡ table.old }
 {
     let n = count(table, first, stop);
     if n < 2 {
-        return Repeat::Nothing;
+        return None;
     }
     if n < 32 {
         return below(few(doc, table, first, stop), stop);
@@ -87,23 +77,14 @@ pub fn first_repeat(doc: &[u8], table: &mut [u32], first: usize, stop: usize) ->
     below(many(doc, table, first, stop, n), stop)
 }
 
-// Three less, or 0.
-fn back(x: usize) -> usize
-    ensures { result ≡ x - 3 }
-{
-    if x < 3 { 0 } else { x - 3 }
-}
-
 // The place of the entry of the first record whose name an earlier one has: its id byte stands three bytes before the name.
-pub fn repeat_place(doc: &[u8], table: &mut [u32], first: usize, stop: usize) -> Repeat
+pub fn repeat_place(doc: &[u8], table: &mut [u32], first: usize, stop: usize) -> Option<usize>
     requires { Family doc.now table.old first stop }
     ensures result_value { place_out result ≡ refusal_of table.old (first_repeat doc.now table.old first stop) }
     ensures table_unchanged { table.new ≡ table.old }
 {
-    match first_repeat(doc, table, first, stop) {
-        Repeat::At(k) => Repeat::At(back(table::word(table, k, table::NAME))),
-        Repeat::Nothing => Repeat::Nothing,
-    }
+    let k = first_repeat(doc, table, first, stop)?;
+    Some(table::word(table, k, table::NAME).saturating_sub(3))
 }
 
 // Whether one of the records side by side, from record `from` up to `to`, has the name that stands in a span.
@@ -112,6 +93,7 @@ pub fn has_name(doc: &[u8], table: &[u32], from: usize, to: usize, start: usize,
     ensures { result ≡ amongOf doc.now table.now (suc to) from to (part doc.now start len) }
 {
     let mut i = from;
+    // A `while`: a record's last word is the number of the next.
     while i < to {
         let name = table::word(table, i, table::NAME);
         let name_len = table::word(table, i, table::NAME_LENGTH);

@@ -4,26 +4,15 @@ ghost use Rattle.nbt_siblings.specs.Links.{slot_of, link, linked};
 
 use table::kinds;
 
-// A word as an index.
-fn index(x: u32) -> usize
-    ensures { result ≡ x }
-{
-    x as usize
-}
-
 // The word of a record that is 0 in a table: a container's payload start, another's list kind.
 fn slot(table: &[u32], i: usize) -> usize
     requires { 9 * i + 9 ≤ length table.now }
     ensures { result ≡ slot_of table.now i }
 {
-    let kind = table::word(table, i, table::KIND);
-    if kind == kinds::LIST {
-        return table::WORDS * i + table::START;
+    match table::word(table, i, table::KIND) {
+        kinds::LIST | kinds::COMPOUND => table::WORDS * i + table::START,
+        _ => table::WORDS * i + table::LIST_KIND,
     }
-    if kind == kinds::COMPOUND {
-        return table::WORDS * i + table::START;
-    }
-    table::WORDS * i + table::LIST_KIND
 }
 
 // What a record is linked to.
@@ -31,7 +20,7 @@ pub fn cell(table: &[u32], i: usize) -> usize
     requires { 9 * i + 9 ≤ length table.now }
     ensures { result ≡ link table.now i }
 {
-    index(table[slot(table, i)])
+    table[slot(table, i)] as usize
 }
 
 // Links record i to another, and answers what it was linked to.
@@ -40,7 +29,7 @@ pub fn relink(table: &mut [u32], i: usize, to: usize) -> usize
     ensures { (result ≡ link table.old i) × (table.new ≡ linked table.old i to) }
 {
     let s = slot(table, i);
-    let old = index(table[s]);
+    let old = table[s] as usize;
     table[s] = to as u32;
     old
 }

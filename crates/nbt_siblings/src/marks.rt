@@ -4,7 +4,7 @@ ghost use Rattle.form.specs.Spans.{part};
 ghost use Rattle.nbt_siblings.specs.Links.{four_of, Fit};
 ghost use Rattle.nbt_siblings.specs.Cells.{blend, turn, stir_of, both_of, mark_of, mark_at};
 
-use crate::names::{byte, four};
+use crate::names::four;
 
 // Four numbers made one.
 fn mix(a: usize, b: usize, c: usize, d: usize) -> usize
@@ -35,7 +35,7 @@ fn byte_or(doc: &[u8], a: usize, n: usize, k: usize) -> usize
     requires { a + n ≤ length doc.now }
     ensures { (result ≡ get_or (part doc.now a n) k 0) × (result < 4294967296) }
 {
-    if k < n { byte(doc[a + k]) } else { 0 }
+    if k < n { usize::from(doc[a + k]) } else { 0 }
 }
 
 // Four bytes at each of two places made one number.
@@ -65,26 +65,22 @@ fn mark_span(doc: &[u8], a: usize, n: usize) -> usize
     requires { a + n ≤ length doc.now }
     ensures { result ≡ mark_of (part doc.now a n) }
 {
-    if n < 4 {
-        return stir(
+    match n {
+        0..=3 => stir(
             n,
             byte_or(doc, a, n, 0),
             byte_or(doc, a, n, 1),
             byte_or(doc, a, n, 2),
-        );
+        ),
+        4..=7 => stir(n, 0, four(doc, a), four(doc, a + n - 4)),
+        8..=15 => stir(
+            four(doc, a),
+            four(doc, a + 4),
+            four(doc, a + n - 8),
+            four(doc, a + n - 4),
+        ),
+        _ => mark_long(doc, a, n),
     }
-    if n < 8 {
-        return stir(n, 0, four(doc, a), four(doc, a + n - 4));
-    }
-    if 15 < n {
-        return mark_long(doc, a, n);
-    }
-    stir(
-        four(doc, a),
-        four(doc, a + 4),
-        four(doc, a + n - 8),
-        four(doc, a + n - 4),
-    )
 }
 
 // The mark of a record's name.

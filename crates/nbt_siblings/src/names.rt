@@ -7,30 +7,17 @@ ghost use Rattle.nbt_siblings.specs.Links.{four_of, eight_of, num, Fit};
 ghost use Rattle.nbt_siblings.specs.Lists.{Alike};
 ghost use Rattle.nbt_siblings.specs.Orders.{Ordered};
 
-// The order of two things.
-#[derive(Drop)]
-pub enum Order {
-    Less,
-    Same,
-    More,
-}
-
-// A byte as a number.
-pub fn byte(x: u8) -> usize
-    ensures { (result ≡ x) × (result < 256) }
-{
-    x as usize
-}
+use std::cmp::Ordering;
 
 // Four bytes as a number, the first the highest.
 pub fn four(doc: &[u8], at: usize) -> usize
     requires { at + 4 ≤ length doc.now }
     ensures { (result ≡ four_of doc.now at) × (result < 4294967296) }
 {
-    let a = byte(doc[at]);
-    let b = byte(doc[at + 1]);
-    let c = byte(doc[at + 2]);
-    let d = byte(doc[at + 3]);
+    let a = usize::from(doc[at]);
+    let b = usize::from(doc[at + 1]);
+    let c = usize::from(doc[at + 2]);
+    let d = usize::from(doc[at + 3]);
     ((a * 256 + b) * 256 + c) * 256 + d
 }
 
@@ -43,39 +30,38 @@ fn eight(doc: &[u8], at: usize) -> usize
 }
 
 // The order of the n bytes at a and at b, one by one.
-fn order_rest(doc: &[u8], a: usize, b: usize, n: usize) -> Order
+fn order_rest(doc: &[u8], a: usize, b: usize, n: usize) -> Ordering
     requires { (a + n ≤ length doc.now) × (b + n ≤ length doc.now) }
     ensures { Ordered (big_endian (part doc.now a n)) (big_endian (part doc.now b n)) result }
 {
-    let mut i: usize = 0;
-    while i < n {
+    for i in 0..n {
         let x = doc[a + i];
         let y = doc[b + i];
         if x < y {
-            return Order::Less;
+            return Ordering::Less;
         }
         if y < x {
-            return Order::More;
+            return Ordering::Greater;
         }
-        i += 1;
     }
-    Order::Same
+    Ordering::Equal
 }
 
 // The order of the n bytes at a and at b, eight by eight.
-fn order_bytes(doc: &[u8], a: usize, b: usize, n: usize) -> Order
+fn order_bytes(doc: &[u8], a: usize, b: usize, n: usize) -> Ordering
     requires { (a + n ≤ length doc.now) × (b + n ≤ length doc.now) }
     ensures { Ordered (big_endian (part doc.now a n)) (big_endian (part doc.now b n)) result }
 {
     let mut i: usize = 0;
+    // A `while`: eight bytes at a time, and what is left after it.
     while 7 < n - i {
         let x = eight(doc, a + i);
         let y = eight(doc, b + i);
         if x < y {
-            return Order::Less;
+            return Ordering::Less;
         }
         if y < x {
-            return Order::More;
+            return Ordering::Greater;
         }
         i += 8;
     }
@@ -83,21 +69,21 @@ fn order_bytes(doc: &[u8], a: usize, b: usize, n: usize) -> Order
 }
 
 // The order of two spans: the shorter first, then by bytes.
-fn spans(doc: &[u8], a: usize, n: usize, b: usize, m: usize) -> Order
+fn spans(doc: &[u8], a: usize, n: usize, b: usize, m: usize) -> Ordering
     requires { (a + n ≤ length doc.now) × (b + m ≤ length doc.now) }
     ensures { Ordered (num (part doc.now a n)) (num (part doc.now b m)) result }
 {
     if n < m {
-        return Order::Less;
+        return Ordering::Less;
     }
     if m < n {
-        return Order::More;
+        return Ordering::Greater;
     }
     order_bytes(doc, a, b, n)
 }
 
 // The order of two records' names.
-pub fn names(doc: &[u8], table: &[u32], i: usize, j: usize) -> Order
+pub fn names(doc: &[u8], table: &[u32], i: usize, j: usize) -> Ordering
     requires { (Fit doc.now table.now i) × (Fit doc.now table.now j) }
     ensures { Ordered (num (name_of doc.now table.now i)) (num (name_of doc.now table.now j)) result }
 {
@@ -115,11 +101,7 @@ pub fn twin(doc: &[u8], table: &[u32], i: usize, j: usize) -> bool
     requires { (Fit doc.now table.now i) × (Fit doc.now table.now j) }
     ensures { Alike (num (name_of doc.now table.now i)) (num (name_of doc.now table.now j)) result }
 {
-    match names(doc, table, i, j) {
-        Order::Less => false,
-        Order::More => false,
-        Order::Same => true,
-    }
+    matches!(names(doc, table, i, j), Ordering::Equal)
 }
 
 // Whether two spans hold the same bytes.
@@ -127,9 +109,5 @@ pub fn same_name(doc: &[u8], a: usize, n: usize, b: usize, m: usize) -> bool
     requires { (a + n ≤ length doc.now) × (b + m ≤ length doc.now) }
     ensures { result ≡ same (part doc.now a n) (part doc.now b m) }
 {
-    match spans(doc, a, n, b, m) {
-        Order::Less => false,
-        Order::Same => true,
-        Order::More => false,
-    }
+    matches!(spans(doc, a, n, b, m), Ordering::Equal)
 }

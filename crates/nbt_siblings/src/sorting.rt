@@ -6,10 +6,11 @@ ghost use Rattle.nbt_siblings.specs.Links.{num, rank, link, Mem, walk, Fit};
 ghost use Rattle.nbt_siblings.specs.Lists.{Told, Lowered, Picked, Two, Lists, Row, Sorts, Chained, Unlinked, Least, Family, Climbs, Rises};
 
 use crate::links::relink;
-use crate::names::{Order, names, twin};
+use crate::names::{names, twin};
+use std::cmp::Ordering;
 
 // A list of records, by the first, and the record after the last of those that were sorted.
-#[derive(Drop)]
+#[derive(Clone, Copy)]
 struct Run {
     head: usize,
     next: usize,
@@ -21,9 +22,9 @@ fn sooner(doc: &[u8], table: &[u32], i: usize, j: usize) -> bool
     ensures { Told (rank doc.now table.now i) (rank doc.now table.now j) result }
 {
     match names(doc, table, i, j) {
-        Order::Less => true,
-        Order::More => false,
-        Order::Same => i < j,
+        Ordering::Less => true,
+        Ordering::Greater => false,
+        Ordering::Equal => i < j,
     }
 }
 
@@ -55,6 +56,7 @@ fn merge(doc: &[u8], table: &mut [u32], a: usize, na: usize, b: usize, nb: usize
     let mut p = na;
     let mut q = nb;
     let mut acc: usize = 0;
+    // A `while`: two lists, each with its own end.
     while 0 < p + q {
         if pick(doc, table, x, p, y, q, up) {
             let next = relink(table, x, acc);
@@ -98,10 +100,11 @@ fn lower(doc: &[u8], table: &[u32], x: usize, y: usize, low: usize) -> usize
     requires { (Fit doc.now table.now x) × (Fit doc.now table.now y) }
     ensures { Lowered (num (name_of doc.now table.now x)) (num (name_of doc.now table.now y)) y low result }
 {
-    if low <= y {
-        return low;
+    if y < low && twin(doc, table, x, y) {
+        y
+    } else {
+        low
     }
-    if twin(doc, table, x, y) { y } else { low }
 }
 
 // Undoes the links of a list of n records, sorted up, and answers the least record whose name the one before it has, or `none`.
@@ -110,13 +113,11 @@ fn unlink(doc: &[u8], table: &mut [u32], head: usize, n: usize, none: usize) -> 
     ensures { Unlinked doc.now table.old table.new head n none result }
 {
     let mut x = head;
-    let mut left = n;
     let mut low = none;
-    while 1 < left {
+    for _ in 1..n {
         let y = relink(table, x, 0);
         low = lower(doc, table, x, y, low);
         x = y;
-        left -= 1;
     }
     relink(table, x, 0);
     low
@@ -136,14 +137,7 @@ fn climbs(doc: &[u8], table: &[u32], i: usize, next: usize, stop: usize) -> bool
     requires { (Fit doc.now table.now i) × (next < stop → Fit doc.now table.now next) }
     ensures { Climbs (num (name_of doc.now table.now i)) (num (name_of doc.now table.now next)) next stop result }
 {
-    if stop <= next {
-        return true;
-    }
-    match names(doc, table, i, next) {
-        Order::Less => true,
-        Order::Same => false,
-        Order::More => false,
-    }
+    stop <= next || matches!(names(doc, table, i, next), Ordering::Less)
 }
 
 // Whether the names rise from each record to the next, so that no two are the same.
@@ -152,13 +146,13 @@ pub fn rising(doc: &[u8], table: &[u32], first: usize, stop: usize) -> bool
     ensures { Rises doc.now table.now first stop result }
 {
     let mut i = first;
+    // A `while`: a record's last word is the number of the next.
     while i < stop {
         let next = table::word(table, i, table::END);
-        if climbs(doc, table, i, next, stop) {
-            i = next;
-        } else {
+        if !climbs(doc, table, i, next, stop) {
             return false;
         }
+        i = next;
     }
     true
 }

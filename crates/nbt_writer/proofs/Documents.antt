@@ -8,7 +8,7 @@ use native.Mathlib.Omega.{arith}
 use borrow.Author.Tests.{le-leb, lt-leb}
 use lib.ListN.{length, get_or}
 use Rattle.form.specs.Form.{Form, Way, stays}
-use Rattle.form.specs.Answer.{Out, got, no, Count, counted, failed, over_limit, no_table, output_full, depth_limit}
+use Rattle.form.specs.Answer.{Out, got, no, Count, counted, failed, output_full, depth_limit}
 use Rattle.form.specs.Spans.{over}
 use Rattle.form.specs.Table.{none, node, size, word, value_of}
 use Rattle.form.specs.Tables.{IsTable, Within}
@@ -19,15 +19,14 @@ use Rattle.form.proofs.Tables.{table-sits, table-under, table-length, sits-first
 use Rattle.form.proofs.Answers.{of-no}
 use Rattle.form.proofs.Turned.{turned-stays}
 use Rattle.form.proofs.Writing.{judged-told}
-use Rattle.table.specs.declared.Verdict.{Verdict}
-use Rattle.table.specs.Check.{VerdictIs}
+use Rattle.std.specs.Prelude.{Result, Ok, Err}
+use Rattle.form.specs.Refusals.{number_of}
+use Rattle.form.specs.declared.refusals.Refused.{Refused}
 use Rattle.recode.specs.Steps.{Puts}
-use Rattle.nbt_writer.specs.declared.Answer.{Answer}
-use Rattle.nbt_judging.specs.declared.Size.{Size}
 use Rattle.nbt_judging.specs.Pieces.{laid}
 use Rattle.nbt_judging.specs.Steps.{Placed, Rows, Some, Sized}
 use Rattle.nbt_judging.proofs.Rows.{rows-placed}
-use Rattle.nbt_writer.specs.Steps.{answer_out, SomeRoom, Formed, Fits, WrittenIs, WroteIs}
+use Rattle.nbt_writer.specs.Steps.{SomeRoom, Fits}
 use Rattle.nbt_writer.proofs.Laid.{document-laid}
 
 module _ (doc t : List ℕ) (small : Within (length doc) t) (i : IsTable (length doc) t) where
@@ -55,13 +54,14 @@ module _ (doc t : List ℕ) (small : Within (length doc) t) (i : IsTable (length
   abbrev pub root : {t' : List ℕ} → t' ≡ t → {e : ℕ} → e ≡ word t 0 7 → Some doc t' false 0 e
   root same q = record { small = rw same small; forest = node i.head i.inner none; rows = rw same (root-rows q) }
 
-  module _ (way : Way) (o : List ℕ) {e : ℕ} (q : e ≡ word t 0 7) (r : Size)
+  module _ (way : Way) (o : List ℕ) {e : ℕ} (q : e ≡ word t 0 7) (r : Result ℕ Refused)
       (told : (p : Some doc t false 0 e) → Sized (judged way doc depth_limit false 0 none 0 p.forest) (laid way doc false p.forest) r) where
     -- A record that is refused is one of the table's, so that the code may read its words and its spans.
-    pub table-placed : {m p : ℕ} → r ≡ Size.No m p → {t' : List ℕ} → t' ≡ t → Placed doc t' p
+    pub table-placed : {u : Refused} → r ≡ Err u → {t' : List ℕ} → t' ≡ t → Placed doc t' u.place
     unfolding size
-    table-placed {m} {p} g same =
-        let z : judged way doc depth_limit false 0 none 0 (node i.head i.inner none) ≡ no m p = rw g at (told (root refl q)) in
+    table-placed {u} g same =
+        let p = u.place in
+        let z : judged way doc depth_limit false 0 none 0 (node i.head i.inner none) ≡ no (number_of u.refusal) p = rw g at (told (root refl q)) in
         let b = of-no z (judged-told way doc t depth_limit false 0 none 0 (node i.head i.inner none) (table-sits (length doc) t i)) in
         let x = record-at (length doc) t i p (omega (arith, b.before)) in
         let rows : Rows doc t x.element p (p + 1 + size x.inner) (node x.head x.inner none) = record {
@@ -75,14 +75,15 @@ module _ (doc t : List ℕ) (small : Within (length doc) t) (i : IsTable (length
         rw same (rows-placed doc t x.element p (p + 1 + size x.inner) x.head x.inner rows)
 
     -- A record is refused.
-    pub table-no : {m p : ℕ} → r ≡ Size.No m p → WriteGives way doc t (written way doc i.head i.inner (length o)) o (answer_of way doc t (no m p)) o
+    pub table-no : {u : Refused} → r ≡ Err u
+        → WriteGives way doc t (written way doc i.head i.inner (length o)) o (answer_of way doc t (no (number_of u.refusal) u.place)) o
     unfolding written
-    table-no {m} {p} g =
-        let z : judged way doc depth_limit false 0 none 0 (node i.head i.inner none) ≡ no m p = rw g at (told (root refl q)) in
-        let w : written way doc i.head i.inner (length o) ≡ no m p = rw z refl in
+    table-no {u} g =
+        let z : judged way doc depth_limit false 0 none 0 (node i.head i.inner none) ≡ no (number_of u.refusal) u.place = rw g at (told (root refl q)) in
+        let w : written way doc i.head i.inner (length o) ≡ no (number_of u.refusal) u.place = rw z refl in
         rw w (record { answer_is = refl; output_is = refl })
 
-    module _ {s : ℕ} (g : r ≡ Size.Is s) where
+    module _ {s : ℕ} (g : r ≡ Ok s) where
       -- What is known of a root that passes.
       passes : (judged way doc depth_limit false 0 none 0 (node i.head i.inner none) ≡ got tt) × (s ≡ length (laid way doc false (node i.head i.inner none)))
       passes = rw g at (told (root refl q))
@@ -154,38 +155,3 @@ module _ (form : Form) (doc t o : List ℕ) (f : Fits form doc t o) (bytes : (k 
       → Puts (layout_in form (value_of form doc i.head i.inner)) o 0 o' x
   unfolding put-room
   put-done {o'} {x} put = subst (λ bs. Puts bs o 0 o' x) root-laid (put put-room)
-
--- ---- the answers of a write
-
-module _ (doc t : List ℕ) {r : Verdict} (v : VerdictIs (length doc) t r) where
-  -- The words form a table.
-  pub write-formed : r ≡ Verdict.Table → Formed doc t
-  write-formed e = let h : Within (length doc) t × IsTable (length doc) t = rw e at v in record { small = h.0; table = h.1 }
-
-  module _ (way : Way) (o : List ℕ) where
-    -- A limit is passed (9).
-    pub write-large : r ≡ Verdict.OverLimit → WroteIs way doc t t o (failed over_limit 0 0) o
-    write-large e =
-        let h : Within (length doc) t → ⊥ = rw e at v in
-        record {
-          is = record { large = λ n. record { answer_is = refl; output_is = refl }; unfit = λ w n. absurd (h w); fit = λ w i. absurd (h w) };
-          kept = refl;
-        }
-
-    -- The words form no table (10).
-    pub write-unfit : r ≡ Verdict.NoTable → WroteIs way doc t t o (failed no_table 0 0) o
-    write-unfit e =
-        let h : Within (length doc) t × (IsTable (length doc) t → ⊥) = rw e at v in
-        record {
-          is = record { large = λ n. absurd (n h.0); unfit = λ w n. record { answer_is = refl; output_is = refl }; fit = λ w i. absurd (h.1 i) };
-          kept = refl;
-        }
-
-    -- They form a table, and give what it gives.
-    pub write-fit : r ≡ Verdict.Table → (a : Answer) {t' o' : List ℕ} → WrittenIs way doc t o a o' → t' ≡ t → WroteIs way doc t t' o (answer_out a) o'
-    write-fit e a g k =
-        let h : Formed doc t = write-formed e in
-        record {
-          is = record { large = λ n. absurd (n h.small); unfit = λ w n. absurd (n h.table); fit = λ w i. g i };
-          kept = k;
-        }

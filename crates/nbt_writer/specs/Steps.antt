@@ -1,8 +1,8 @@
 -- What the contracts of this crate cite: the answer of the code as the definitions', what there is room for, and what was put there.
 -- Assumes nothing.
-use Rattle.std.specs.Prelude.{ℕ, ◌+◌, ◌≤◌, ◌≡◌, List, [], ◌++◌, Bool, true, false, length, eqb, ltb}
+use Rattle.std.specs.Prelude.{ℕ, ◌+◌, ◌≤◌, ◌≡◌, List, [], ◌++◌, Bool, true, false, Result, Ok, Err, length, eqb, ltb}
 use Rattle.form.specs.Form.{Form, Way}
-use Rattle.form.specs.Answer.{Count, counted, failed}
+use Rattle.form.specs.Answer.{no, Count, counted, failed}
 use Rattle.form.specs.Numbers.{bytes_in}
 use Rattle.form.specs.Spans.{part}
 use Rattle.form.specs.Layout.{layout_in}
@@ -12,12 +12,23 @@ use Rattle.form.specs.Writing.{WriteGives, written, WriteIs}
 use Rattle.recode.specs.Steps.{Puts}
 use Rattle.nbt_judging.specs.Pieces.{laid}
 use Rattle.nbt_judging.specs.Steps.{Some, One}
-use Rattle.nbt_writer.specs.declared.Answer.{Answer}
+use Rattle.form.specs.Refusals.{number_of}
+use Rattle.table.specs.declared.Unfit.{Unfit}
+use Rattle.table.specs.Check.{verdict_out}
+use Rattle.nbt_writer.specs.declared.Unwritten.{Unwritten}
 
--- 01's number and values for each case of the public answer
-abbrev pub answer_out : Answer → Count
-answer_out (Answer.Written n) = counted n
-answer_out (Answer.Refused n p r) = failed n p r
+-- 01's number and values for a refusal
+abbrev pub unwritten_out : Unwritten → Count
+unwritten_out e = failed (number_of e.refusal) e.place e.record
+
+-- and for each case of the public answer
+abbrev pub answer_out : Result ℕ Unwritten → Count
+answer_out (Ok n) = counted n
+answer_out (Err e) = unwritten_out e
+
+-- the refusal that `?` makes of words that are no table: at 0, with no record
+abbrev pub UnfitAs : Unfit → Unwritten → Type 0
+UnfitAs u e = (verdict_out (Err u) ≡ no (number_of e.refusal) e.place) × (e.record ≡ 0)
 
 -- what stands before a span that is written as it stands: a string's length, an array's count
 unfoldable pub length_bytes : Way → ℕ → ℕ → ℕ → List ℕ
@@ -65,7 +76,7 @@ abbrev pub PutIs : Form → List ℕ → List ℕ → List ℕ → List ℕ → 
 PutIs form doc t out out' r = (i : IsTable (length doc) t) → Puts (layout_in form (value_of form doc i.head i.inner)) out 0 out' r
 
 -- what a table gives
-abbrev pub WrittenIs : Way → List ℕ → List ℕ → List ℕ → Answer → List ℕ → Type 0
+abbrev pub WrittenIs : Way → List ℕ → List ℕ → List ℕ → Result ℕ Unwritten → List ℕ → Type 0
 WrittenIs way doc t o r o' = (i : IsTable (length doc) t) → WriteGives way doc t (written way doc i.head i.inner (length o)) o (answer_out r) o'
 
 -- the promise of a write: the answer and every byte of the output, and the table as it was

@@ -5,6 +5,7 @@
 
 ghost use Rattle.std.specs.Prelude.{◌≡◌, ◌+◌, ◌*◌, ◌≤◌, length};
 ghost use Rattle.form.specs.Answer.{no};
+ghost use Rattle.form.specs.Refusals.{number_of};
 ghost use Rattle.form.specs.Form.{form_no, way_from, way_no};
 ghost use Rattle.form.specs.Numbers.{bytes_in};
 ghost use Rattle.form.specs.Spans.{part, over};
@@ -15,25 +16,34 @@ ghost use Rattle.form.specs.Table.{word as word_of, head_of};
 ghost use Rattle.recode.specs.Steps.{Puts};
 ghost use Rattle.nbt_judging.specs.Pieces.{name_bytes, element_width, span_bytes, leaf_bytes, list_bytes};
 ghost use Rattle.nbt_judging.specs.Steps.{Placed};
-ghost use Rattle.nbt_writer.specs.Steps.{length_bytes, same_bytes, answer_out, SomeRoom, OneRoom, PutAllIs, PutOneIs, Formed, WrittenIs, WroteIs, Fits, PutIs};
+ghost use Rattle.nbt_writer.specs.Steps.{length_bytes, same_bytes, answer_out, unwritten_out, UnfitAs, SomeRoom, OneRoom, PutAllIs, PutOneIs, Formed, WrittenIs, WroteIs, Fits, PutIs};
 
 use form::forms::is_pocket;
+use form::refusals::{Refusal, Refused};
 use form::ways;
-use mutf8::Checked;
-use nbt_judging::Size;
-use table::{Verdict, kinds};
+use mutf8::Unreadable;
+use table::{Unfit, kinds};
 
-// The answer to a write: the number of bytes written; or the number and the place of the refusal, and the record in 4 (02, [3]), else 0.
-#[derive(Drop)]
-pub enum Answer {
-    Written {
-        bytes: usize,
-    },
-    Refused {
-        number: u8,
-        place: usize,
-        record: usize,
-    },
+// Why nothing was written: the refusal and its place, and the record in 4 (02, [3]), else 0.
+#[derive(Clone, Copy, Debug)]
+pub struct Unwritten {
+    pub refusal: Refusal,
+    pub place: usize,
+    pub record: usize,
+}
+
+impl From<Unfit> for Unwritten {
+    ghost from_gives = { UnfitAs };
+
+    // Words that are no table are refused at 0.
+    fn from(unfit: Unfit) -> Unwritten {
+        let refused = Refused::from(unfit);
+        Unwritten {
+            refusal: refused.refusal,
+            place: refused.place,
+            record: 0,
+        }
+    }
 }
 
 // A length or a count in the order of the form that is written (rule 1; 02, [2]).
@@ -224,6 +234,7 @@ fn put_all(
 {
     let mut i = n;
     let mut here = at;
+    // A `while`: a record's last word is the number of the next.
     while i < end {
         let next = table::word(table, i, table::END);
         here = put_one(doc, table, i, next, list, out, here, way);
@@ -242,7 +253,7 @@ pub fn put(doc: &[u8], table: &[u32], out: &mut [u8], form: u32) -> usize
 }
 
 // Whether a span of the document is well formed, or where not.
-fn checked(doc: &[u8], start: usize, size: usize, way: u32) -> Checked
+fn checked(doc: &[u8], start: usize, size: usize, way: u32) -> Result<(), Unreadable>
     requires { start + size ≤ length doc.now }
     ensures { verdict_of result ≡ verdict_in (way_no way).from.strings (part doc.now start size) }
 {
@@ -256,76 +267,69 @@ fn bad_place(doc: &[u8], table: &[u32], n: usize, way: u32) -> usize
     ensures { result ≡ bad_place (way_no way) doc.now (head_of table.now n) }
 {
     let name = table::word(table, n, table::NAME);
-    match checked(doc, name, table::word(table, n, table::NAME_LENGTH), way) {
-        Checked::Bad(k) => name + k,
-        Checked::Good => {
-            let start = table::word(table, n, table::START);
-            match checked(doc, start, table::word(table, n, table::LENGTH), way) {
-                Checked::Bad(k) => start + k,
-                Checked::Good => 0,
-            }
-        }
+    if let Err(e) = checked(doc, name, table::word(table, n, table::NAME_LENGTH), way) {
+        return name + e.at;
     }
+    let start = table::word(table, n, table::START);
+    if let Err(e) = checked(doc, start, table::word(table, n, table::LENGTH), way) {
+        return start + e.at;
+    }
+    0
 }
 
 // The refusal of record n: 4 at the character, with the record beside it (02, [3]); any other at the record.
-fn refused(doc: &[u8], table: &[u32], number: u8, n: usize, way: u32) -> Answer
+fn refused(doc: &[u8], table: &[u32], refusal: Refusal, n: usize, way: u32) -> Unwritten
     requires { Placed doc.now table.now n }
-    ensures { answer_out result ≡ answer_of (way_no way) doc.now table.now (no number n) }
+    ensures { unwritten_out result ≡ answer_of (way_no way) doc.now table.now (no (number_of refusal) n) }
 {
-    if number == form::BAD_STRING {
-        return Answer::Refused {
-            number,
+    match refusal {
+        Refusal::BadString => Unwritten {
+            refusal,
             place: bad_place(doc, table, n, way),
             record: n,
-        };
-    }
-    Answer::Refused {
-        number,
-        place: n,
-        record: 0,
+        },
+        _ => Unwritten {
+            refusal,
+            place: n,
+            record: 0,
+        },
     }
 }
 
 // A table: its records are judged, then there is room (13), then they are written. The root is taken as records side by side, of which
 // there is one, so that each walk has one loop in which small records are done with no call.
-fn written(doc: &[u8], table: &mut [u32], out: &mut [u8], way: u32) -> Answer
+fn written(doc: &[u8], table: &mut [u32], out: &mut [u8], way: u32) -> Result<usize, Unwritten>
     requires { Formed doc.now table.old }
     ensures { (WrittenIs (way_no way) doc.now table.old out.old result out.new) × (table.new ≡ table.old) }
 {
     let end = table::word(table, 0, table::END);
     match nbt_judging::judged(doc, table, 0, end, form::DEPTH, false, 0, way) {
-        Size::No { number, place } => refused(doc, table, number, place, way),
-        Size::Is(bytes) => {
+        Err(e) => Err(refused(doc, table, e.refusal, e.place, way)),
+        Ok(bytes) => {
             if out.len() < bytes {
-                return Answer::Refused {
-                    number: form::OUTPUT_FULL,
+                return Err(Unwritten {
+                    refusal: Refusal::OutputFull,
                     place: 0,
                     record: 0,
-                };
+                });
             }
             put_all(doc, table, 0, end, false, out, 0, way);
-            Answer::Written { bytes }
+            Ok(bytes)
         }
     }
 }
 
 // Writes the document that a table stands for, in its own form or another: a limit first (9), then whether the words form a table (10), then
 // its records. The table is lent to be changed, since the search for repeated names uses the records' free words; it comes back as it was.
-pub fn write(doc: &[u8], table: &mut [u32], out: &mut [u8], from: u32, to: u32) -> Answer
+pub fn write(
+    doc: &[u8],
+    table: &mut [u32],
+    out: &mut [u8],
+    from: u32,
+    to: u32,
+) -> Result<usize, Unwritten>
     ensures { WroteIs (way_from (form_no from) (form_no to)) doc.now table.old table.new out.old (answer_out result) out.new }
 {
-    match table::is_table(doc.len(), table) {
-        Verdict::OverLimit => Answer::Refused {
-            number: form::OVER_LIMIT,
-            place: 0,
-            record: 0,
-        },
-        Verdict::NoTable => Answer::Refused {
-            number: form::NO_TABLE,
-            place: 0,
-            record: 0,
-        },
-        Verdict::Table => written(doc, table, out, ways::between(from, to)),
-    }
+    table::is_table(doc.len(), table)?;
+    written(doc, table, out, ways::between(from, to))
 }

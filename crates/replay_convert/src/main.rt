@@ -7,11 +7,11 @@
 #![tactic(auto)]
 
 use lines::Line;
-use nbt_writer::Answer;
-use table::Verdict;
+use nbt_writer::Unwritten;
+use table::Unfit;
 
 // What a field stands for, a number or how many bytes or words, and where the next one begins.
-#[derive(Drop)]
+#[derive(Clone, Copy)]
 struct Field {
     many: usize,
     next: usize,
@@ -55,21 +55,12 @@ fn words_field(
 
 // The byte that a field put first.
 fn first_of(bytes: &[u8]) -> u8 {
-    if bytes.len() == 0 {
-        return b'a';
-    }
-    bytes[0]
+    bytes.first().copied().unwrap_or(b'a')
 }
 
 // The first n bytes, put into the document from `at` on; the place behind them, or too many where there is no room.
 fn put_last(bytes: &[u8], n: usize, doc: &mut [u8], at: usize) -> usize {
-    if bytes.len() < n {
-        return lines::TOO_MANY;
-    }
-    if doc.len() < at {
-        return lines::TOO_MANY;
-    }
-    if doc.len() - at < n {
+    if bytes.len() < n || doc.len() < at || doc.len() - at < n {
         return lines::TOO_MANY;
     }
     slices::copy(bytes, 0, n, doc, at);
@@ -77,36 +68,32 @@ fn put_last(bytes: &[u8], n: usize, doc: &mut [u8], at: usize) -> usize {
 }
 
 // Whether the words form a table.
-fn print_verdict(verdict: Verdict) {
+fn print_verdict(verdict: Result<(), Unfit>) {
     match verdict {
-        Verdict::Table => {
+        Ok(()) => {
             io::write_all(1, b"table");
         }
-        Verdict::NoTable => {
+        Err(Unfit::NoTable) => {
             io::write_all(1, b"none");
         }
-        Verdict::OverLimit => {
+        Err(Unfit::OverLimit) => {
             io::write_all(1, b"over");
         }
     }
 }
 
 // The answer to a conversion.
-fn print_answer(answer: Answer) {
+fn print_answer(answer: Result<usize, Unwritten>) {
     match answer {
-        Answer::Written { bytes } => {
+        Ok(bytes) => {
             io::write_all(1, b" written");
             lines::print_number(bytes);
         }
-        Answer::Refused {
-            number,
-            place,
-            record,
-        } => {
+        Err(e) => {
             io::write_all(1, b" refused");
-            lines::print_number(number as usize);
-            lines::print_number(place);
-            lines::print_number(record);
+            lines::print_number(usize::from(e.refusal.number()));
+            lines::print_number(e.place);
+            lines::print_number(e.record);
         }
     }
     io::write_all(1, b" ");
@@ -309,9 +296,7 @@ fn replay(
     out: &mut [u8],
 ) {
     let mut input = lines::start();
-    let mut turns = u64::MAX;
-    while 0 < turns {
-        turns -= 1;
+    for _ in 0..u64::MAX {
         match lines::next_line(chunk, input, line) {
             Line::End => return,
             Line::Long { input: rest } => {

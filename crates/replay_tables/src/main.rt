@@ -9,40 +9,36 @@ ghost use Rattle.std.specs.Prelude.{◌≡◌, length};
 
 use form::forms::JAVA;
 use lines::Line;
-use nbt_writer::Answer;
-use table::Verdict;
+use nbt_writer::Unwritten;
+use table::Unfit;
 
 // Whether the words form a table.
-fn print_verdict(verdict: Verdict) {
+fn print_verdict(verdict: Result<(), Unfit>) {
     match verdict {
-        Verdict::Table => {
+        Ok(()) => {
             io::write_all(1, b"table");
         }
-        Verdict::NoTable => {
+        Err(Unfit::NoTable) => {
             io::write_all(1, b"none");
         }
-        Verdict::OverLimit => {
+        Err(Unfit::OverLimit) => {
             io::write_all(1, b"over");
         }
     }
 }
 
 // The answer to a write.
-fn print_answer(answer: Answer) {
+fn print_answer(answer: Result<usize, Unwritten>) {
     match answer {
-        Answer::Written { bytes } => {
+        Ok(bytes) => {
             io::write_all(1, b" written");
             lines::print_number(bytes);
         }
-        Answer::Refused {
-            number,
-            place,
-            record,
-        } => {
+        Err(e) => {
             io::write_all(1, b" refused");
-            lines::print_number(number as usize);
-            lines::print_number(place);
-            lines::print_number(record);
+            lines::print_number(usize::from(e.refusal.number()));
+            lines::print_number(e.place);
+            lines::print_number(e.record);
         }
     }
     io::write_all(1, b" ");
@@ -186,9 +182,7 @@ fn replay(
     out: &mut [u8],
 ) {
     let mut input = lines::start();
-    let mut turns = u64::MAX;
-    while 0 < turns {
-        turns -= 1;
+    for _ in 0..u64::MAX {
         match lines::next_line(chunk, input, line) {
             Line::End => return,
             Line::Long { input: rest } => {

@@ -20,25 +20,25 @@ judged-requires c κs =
 returns : tie.Need-returns-then-out-bytes
 returns c = (
   λ i. table-full _ _ c.requires.small i (way_no c.args.way) c.args.out.now c.word-end.ensures c.judged.result c.judged.ensures.0
-      c.in-Is.is (λ k. omega (arith, c.shared_slice_known-1.given k)) c.if-out-bytes.true,
+      c.in-Ok.is (λ k. omega (arith, c.shared_slice_known-1.given k)) c.if-out-bytes.true,
   c.judged.ensures.1,
 )
 
 put_all-requires : tie.Need-put_all-requires
 put_all-requires c κs =
     table-room _ _ c.requires.small c.requires.table (way_no c.args.way) c.args.out.now c.word-end.ensures c.judged.result c.judged.ensures.0
-    c.in-Is.is c.judged.ensures.1 c.if-out-bytes.false
+    c.in-Ok.is c.judged.ensures.1 c.if-out-bytes.false
 
 refused-requires : tie.Need-refused-requires
 refused-requires c κs =
     table-placed _ _ c.requires.small c.requires.table (way_no c.args.way) c.args.out.now c.word-end.ensures c.judged.result c.judged.ensures.0
-    c.in-No.is c.judged.ensures.1
+    c.in-Err.is c.judged.ensures.1
 
-returns-2 : tie.Need-returns-in-No
+returns-2 : tie.Need-returns-in-Err
 returns-2 c = (
-  λ i. refused-gives _ _ _ c.in-No.number c.in-No.place
+  λ i. refused-gives _ _ _ _ _
       (table-no _ _ c.requires.small i (way_no c.args.way) c.args.out.now c.word-end.ensures
-      c.judged.result c.judged.ensures.0 c.in-No.is)
+      c.judged.result c.judged.ensures.0 c.in-Err.is)
       c.judged.ensures.1 c.refused.ensures,
   c.judged.ensures.1,
 )
@@ -46,7 +46,7 @@ returns-2 c = (
 returns-3 : tie.Need-returns-else-out-bytes
 returns-3 c = (
   λ i. table_done _ _ c.requires.small i (way_no c.args.way) c.args.out.now c.word-end.ensures c.judged.result c.judged.ensures.0
-      c.in-Is.is (λ k. omega (arith, c.shared_slice_known-1.given k)) c.judged.ensures.1 c.if-out-bytes.false c.put_all.ensures,
+      c.in-Ok.is (λ k. omega (arith, c.shared_slice_known-1.given k)) c.judged.ensures.1 c.if-out-bytes.false c.put_all.ensures,
   c.judged.ensures.1,
 )
 
