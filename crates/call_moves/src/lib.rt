@@ -7,22 +7,15 @@ ghost use Rattle.table_store.specs.Steps.{answer_out};
 ghost use Rattle.calls.specs.Words.{count_words};
 ghost use Rattle.calls.specs.Calls.{MoveCalled};
 
-use table_store::Answer;
+use form::refusals::Refused;
 
 // The words of an answer: how many bytes were written, or the number and the place of the refusal.
-fn answered(given: Answer, answer: &mut [u64; 8])
-    ensures { answer.new ≡ count_words (answer_out given) }
+fn answered(given: Result<usize, Refused>) -> [u64; 8]
+    ensures { result ≡ count_words (answer_out given) }
 {
     match given {
-        Answer::Done { count: bytes } => {
-            *answer = [0, 0, bytes as u64, 0, 0, 0, 0, 0];
-        }
-        Answer::Refused {
-            number: refusal,
-            place: at,
-        } => {
-            *answer = [refusal as u64, at as u64, 0, 0, 0, 0, 0, 0];
-        }
+        Ok(bytes) => [0, 0, bytes as u64, 0, 0, 0, 0, 0],
+        Err(refused) => calls::refusal(refused.refusal, refused.place),
     }
 }
 
@@ -30,12 +23,12 @@ fn answered(given: Answer, answer: &mut [u64; 8])
 pub fn lines_up(doc_len: usize, lines: &[u8], out: &mut [u8], answer: &mut [u64; 8])
     ensures { MoveCalled eight doc_len lines.now out.old out.new answer.new }
 {
-    answered(table_moves::lines_up(doc_len, lines, out), answer);
+    *answer = answered(table_moves::lines_up(doc_len, lines, out));
 }
 
 // Moves lines of nine words to lines of eight ([8]).
 pub fn lines_down(doc_len: usize, lines: &[u8], out: &mut [u8], answer: &mut [u64; 8])
     ensures { MoveCalled nine doc_len lines.now out.old out.new answer.new }
 {
-    answered(table_moves::lines_down(doc_len, lines, out), answer);
+    *answer = answered(table_moves::lines_down(doc_len, lines, out));
 }

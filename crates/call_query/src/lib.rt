@@ -4,8 +4,6 @@
 ghost use Rattle.calls.specs.Calls.{QueryCalled};
 ghost use Rattle.form.specs.Form.{form_no};
 
-use query::Found;
-
 // Asks a table which of its tags match a query (rule 9), names in the string rule of a form (02, [2]). Refusal 24 comes with the true count.
 pub fn query(
     form: u32,
@@ -17,16 +15,12 @@ pub fn query(
 )
     ensures { QueryCalled (form_no form) doc.now table.now query.now list.old list.new answer.new }
 {
-    match query::query(doc, table, query, list, form) {
-        Found::Matches { count } => {
-            *answer = [0, 0, count as u64, 0, 0, 0, 0, 0];
+    *answer = match query::query(doc, table, query, list, form) {
+        Ok(count) => [0, 0, count as u64, 0, 0, 0, 0, 0],
+        Err(refused) => {
+            let number = refused.refusal.number() as u64;
+            let place = refused.place as u64;
+            [number, place, refused.count as u64, 0, 0, 0, 0, 0]
         }
-        Found::Refused {
-            number: refused,
-            place: at,
-            count: matches,
-        } => {
-            *answer = [refused as u64, at as u64, matches as u64, 0, 0, 0, 0, 0];
-        }
-    }
+    };
 }

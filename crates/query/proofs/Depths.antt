@@ -11,8 +11,9 @@ use Rattle.form.specs.Table.{size, word, holds}
 use Rattle.form.specs.Query.{shallow}
 use Rattle.form.proofs.Depths.{shallow-none, shallow-stop, shallow-on, then-no, then-got}
 use Rattle.query.specs.Found.{depth_out}
-use Rattle.query.specs.declared.Depth.{Depth}
-use Rattle.query.specs.declared.Depth.TheVariants.{Fine, TooDeep}
+use Rattle.std.specs.Prelude.{Result, Ok, Err}
+use Rattle.form.specs.Refusals.{number_of}
+use Rattle.form.specs.declared.refusals.Refused.{Refused}
 use Rattle.query.specs.Sides.{Side}
 use Rattle.query.proofs.Sides.{First, side-none, one_side}
 
@@ -38,13 +39,14 @@ module _ (d : ℕ) (t : List ℕ) (left i end : ℕ) (s : Side d t i end) (f : F
       rw x (ap (shallow left i) f.is ∙ shallow-on left i f.head f.inner.forest f.later.forest e)
 
   -- One of the records in it stands too deep.
-  pub deep-inside : 0 < left → (r : Depth) (n : ℕ) → depth_out r ≡ shallow (left - 1) (i + 1) f.inner.forest → r ≡ TooDeep n → shallow left i s.forest ≡ no too_deep n
-  deep-inside h r n e k =
+  pub deep-inside : 0 < left → (r : Result (Unit {0}) Refused) (x : Refused) → depth_out r ≡ shallow (left - 1) (i + 1) f.inner.forest → r ≡ Err x
+      → shallow left i s.forest ≡ no (number_of x.refusal) x.place
+  deep-inside h r x e k =
       by_parts (open-test (holds f.head.kind) left h)
-      ∙ then-no (shallow (left - 1) (i + 1) f.inner.forest) (shallow left (word t i 7) f.later.forest) too_deep n (sym e ∙ ap depth_out k)
+      ∙ then-no (shallow (left - 1) (i + 1) f.inner.forest) (shallow left (word t i 7) f.later.forest) (number_of x.refusal) x.place (sym e ∙ ap depth_out k)
 
   -- None of them does.
-  pub fine-inside : 0 < left → (r : Depth) → depth_out r ≡ shallow (left - 1) (i + 1) f.inner.forest → r ≡ Fine → shallow left i s.forest ≡ shallow left (word t i 7) f.later.forest
+  pub fine-inside : 0 < left → (r : Result (Unit {0}) Refused) → depth_out r ≡ shallow (left - 1) (i + 1) f.inner.forest → r ≡ Ok tt → shallow left i s.forest ≡ shallow left (word t i 7) f.later.forest
   fine-inside h r e k =
       by_parts (open-test (holds f.head.kind) left h)
       ∙ then-got (shallow (left - 1) (i + 1) f.inner.forest) (shallow left (word t i 7) f.later.forest) (sym e ∙ ap depth_out k)

@@ -3,14 +3,14 @@
 use Prim.Native.Nat.{ℕ, suc, ◌+◌, ◌/◌, ◌≤◌, ◌<◌}
 use mathlib.Core.Path.{◌≡◌, refl, sym, ap, ◌∙◌}
 use mathlib.Core.List.{List, [], ◌∷◌}
-use mathlib.Core.Bool.{true, false}
+use mathlib.Core.Bool.{false}
 use native.Mathlib.Omega.{arith}
 use lib.ListN.{length, set, length-set}
 use lib.Dec.{eqb}
 use lib.Seq.{sets}
 use borrow.Author.Tests.{lt-ltb, le-leb, lt-leb}
 use Rattle.form.specs.Form.{Form}
-use Rattle.form.specs.Answer.{got, no, too_deep, bad_query, more_matches, over_limit, no_table, depth_limit, Count, counted, failed}
+use Rattle.form.specs.Answer.{got, no, more_matches, over_limit, no_table, depth_limit, Count, counted, failed}
 use Rattle.form.specs.Spans.{over}
 use Rattle.form.specs.Table.{Forest, none, node, value_of}
 use Rattle.form.specs.Tables.{Fair, IsTable, Within}
@@ -21,10 +21,11 @@ use Rattle.form.proofs.Tables.{table-sits, table-length, fair-inner}
 use Rattle.form.proofs.Paths.{paths-length, which-length, tree-paths}
 use Rattle.query_steps.specs.Steps.{steps_from}
 use Rattle.query_steps.specs.Spelling.{TakenIs}
-use Rattle.query_steps.specs.declared.Taken.{Taken}
+use Rattle.query_steps.specs.declared.Query.{Query}
 use Rattle.query.specs.Found.{depth_out}
-use Rattle.query.specs.declared.Depth.{Depth}
-use Rattle.query.specs.declared.Depth.TheVariants.{Fine, TooDeep}
+use Rattle.std.specs.Prelude.{Result, Ok, Err}
+use Rattle.form.specs.Refusals.{number_of}
+use Rattle.form.specs.declared.refusals.Refused.{Refused}
 use Rattle.query.specs.Sides.{Side}
 use Rattle.query.specs.Walks.{put_at, noted, Walks}
 
@@ -51,7 +52,7 @@ table-side d t i = record {
 }
 
 -- None of them stands too deep.
-pub table-fine : (d : ℕ) (t : List ℕ) (r : Depth) → ((d' : ℕ) (g : Side d' t 0 (length t / 9)) → depth_out r ≡ shallow depth_limit 0 g.forest) → r ≡ Fine
+pub table-fine : (d : ℕ) (t : List ℕ) (r : Result (Unit {0}) Refused) → ((d' : ℕ) (g : Side d' t 0 (length t / 9)) → depth_out r ≡ shallow depth_limit 0 g.forest) → r ≡ Ok tt
     → (i : IsTable d t) → shallow depth_limit 0 (node i.head i.inner none) ≡ got tt
 table-fine d t r e f i = sym (e d (table-side d t i)) ∙ ap depth_out f
 
@@ -85,13 +86,13 @@ module _ (form : Form) (doc q : List ℕ) (t : List ℕ) (i : IsTable (length do
   abbrev tags : List Step → List ℕ
   tags ss = matches (value_of form doc i.head i.inner) ss
 
-  asked-deep : (n : ℕ) → shallow depth_limit 0 root ≡ no too_deep n → asked form doc q i.head i.inner ≡ no too_deep n
+  asked-deep : (n p : ℕ) → shallow depth_limit 0 root ≡ no n p → asked form doc q i.head i.inner ≡ no n p
   unfolding asked
-  asked-deep n e = rw e
+  asked-deep n p e = rw e
 
-  asked-bad : (p : ℕ) → shallow depth_limit 0 root ≡ got tt → spelt form q ≡ no bad_query p → asked form doc q i.head i.inner ≡ no bad_query p
+  asked-bad : (n p : ℕ) → shallow depth_limit 0 root ≡ got tt → spelt form q ≡ no n p → asked form doc q i.head i.inner ≡ no n p
   unfolding asked
-  asked-bad p e f = rw (e, f)
+  asked-bad n p e f = rw (e, f)
 
   asked-got : (ss : List Step) → shallow depth_limit 0 root ≡ got tt → spelt form q ≡ got ss → asked form doc q i.head i.inner ≡ got (tags ss)
   unfolding asked
@@ -102,33 +103,32 @@ module _ (form : Form) (doc q : List ℕ) (t : List ℕ) (i : IsTable (length do
   finds-no n p l c e f = rw f (record { answer_is = e; list_is = refl })
 
   -- 7.
-  pub finds-deep : (r : Depth) (n : ℕ) (l : List ℕ) (c : Count) → depth_out r ≡ shallow depth_limit 0 root → r ≡ TooDeep n → c ≡ failed too_deep n 0
-      → Finds (within (length l) (asked form doc q i.head i.inner)) l c l
-  finds-deep r n l c e f g = finds-no too_deep n l c g (asked-deep n (sym e ∙ ap depth_out f))
+  pub finds-deep : (x : Refused) (l : List ℕ) → depth_out (Err x) ≡ shallow depth_limit 0 root
+      → Finds (within (length l) (asked form doc q i.head i.inner)) l (failed (number_of x.refusal) x.place 0) l
+  finds-deep x l e = finds-no (number_of x.refusal) x.place l _ refl (asked-deep (number_of x.refusal) x.place (sym e))
 
   module _ (fine : shallow depth_limit 0 root ≡ got tt) where
     -- 14.
-    pub finds-bad : (k : Taken) (l : List ℕ) (c : Count) → TakenIs form q k → k.ok ≡ false → c ≡ failed bad_query k.place 0
-        → Finds (within (length l) (asked form doc q i.head i.inner)) l c l
-    finds-bad k l c e f g = finds-no bad_query k.place l c g (asked-bad k.place fine (sym e.is ∙ rw f))
+    pub finds-bad : (x : Refused) (l : List ℕ) → TakenIs form q (Err x) → Finds (within (length l) (asked form doc q i.head i.inner)) l (failed (number_of x.refusal) x.place 0) l
+    finds-bad x l e = finds-no (number_of x.refusal) x.place l _ refl (asked-bad (number_of x.refusal) x.place fine (sym e.is))
 
-    module _ (taken : Taken) (is : TakenIs form q taken) (ok : taken.ok ≡ true) (l : List ℕ) where
-      asks : asked form doc q i.head i.inner ≡ got (tags (steps_from q taken.query 0))
-      asks = asked-got (steps_from q taken.query 0) fine (sym is.is ∙ rw ok)
+    module _ (query : Query) (is : TakenIs form q (Ok query)) (l : List ℕ) where
+      asks : asked form doc q i.head i.inner ≡ got (tags (steps_from q query 0))
+      asks = asked-got (steps_from q query 0) fine (sym is.is)
 
       -- 24: the matches were counted, with a list k of the walk's own.
-      pub finds-short : {r : ℕ} {k k' : List ℕ} → Walks (tags (steps_from q taken.query 0)) 0 k r k' → length l < r
+      pub finds-short : {r : ℕ} {k k' : List ℕ} → Walks (tags (steps_from q query 0)) 0 k r k' → length l < r
           → Finds (within (length l) (asked form doc q i.head i.inner)) l (failed more_matches 0 r) l
       finds-short {r} {k} {k'} w h =
-          let ms = tags (steps_from q taken.query 0) in
+          let ms = tags (steps_from q query 0) in
           let c : r ≡ length ms = let x = w.counted in omega arith in
           rw (asks, lt-leb (length ms) (length l) (omega arith)) (record { answer_is = ap (failed more_matches 0) c; list_is = refl })
 
       -- The list is filled.
-      pub finds-full : length (tags (steps_from q taken.query 0)) ≤ length l → {r : ℕ} {l' : List ℕ} → Walks (tags (steps_from q taken.query 0)) 0 l r l'
+      pub finds-full : length (tags (steps_from q query 0)) ≤ length l → {r : ℕ} {l' : List ℕ} → Walks (tags (steps_from q query 0)) 0 l r l'
           → Finds (within (length l) (asked form doc q i.head i.inner)) l (counted r) l'
       finds-full room {r} {l'} w =
-          let ms = tags (steps_from q taken.query 0) in
+          let ms = tags (steps_from q query 0) in
           let c : r ≡ length ms = let x = w.counted in omega arith in
           let written : l' ≡ over l 0 ms = w.listed ∙ noted-all 0 ms l (omega arith) ∙ sets_over ms l 0 (omega arith) in
           rw (asks, le-leb (length ms) (length l) room) (record { answer_is = ap counted c; list_is = written })

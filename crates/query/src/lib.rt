@@ -11,56 +11,67 @@ ghost use Rattle.form.specs.Paths.{matches};
 ghost use Rattle.form.specs.Query.{shallow, asked, within, Finds, QueryIs};
 ghost use Rattle.query_steps.specs.Steps.{steps_from, QueryIn};
 ghost use Rattle.query_reach.specs.Sets.{has as hasIn};
-ghost use Rattle.query.specs.Found.{found_count, depth_out};
+ghost use Rattle.query.specs.Found.{found_count, depth_out, Uncounted, UnansweredAs};
 ghost use Rattle.query.specs.Sides.{Side, Walkable};
 ghost use Rattle.query.specs.Walks.{Walks, hit, goes_in, Done};
 
+use form::refusals::{Refusal, Refused};
 use query_steps::Query;
-use table::Verdict;
+use table::Unfit;
 
-// The answer to a query: how many tags match, whose numbers stand in the list; or the number and the place of the refusal, and in 24 how
-// many match.
-#[derive(Drop)]
-pub enum Found {
-    Matches {
-        count: usize,
-    },
-    Refused {
-        number: u8,
-        place: usize,
-        count: usize,
-    },
+// A query that is refused: why, the place, and in 24 how many tags match.
+#[derive(Clone, Copy, Debug)]
+pub struct Unanswered {
+    pub refusal: Refusal,
+    pub place: usize,
+    pub count: usize,
 }
 
-// Whether a container stands too deep: the first that does, if any.
-#[derive(Drop)]
-enum Depth {
-    Fine,
-    TooDeep(usize),
+impl From<Refused> for Unanswered {
+    ghost from_gives = { Uncounted };
+
+    // A refusal that carries no count.
+    fn from(refused: Refused) -> Unanswered {
+        Unanswered {
+            refusal: refused.refusal,
+            place: refused.place,
+            count: 0,
+        }
+    }
+}
+
+impl From<Unfit> for Unanswered {
+    ghost from_gives = { UnansweredAs };
+
+    // Nor does that of a table.
+    fn from(unfit: Unfit) -> Unanswered {
+        Unanswered::from(Refused::from(unfit))
+    }
 }
 
 // ---- depth
 
 // Refusal 7: the first container, among the records from `from` up to `end` and those in them, where only `left` may stand within each other.
-fn first_deep(table: &[u32], from: usize, end: usize, left: usize) -> Depth
+fn first_deep(table: &[u32], from: usize, end: usize, left: usize) -> Result<(), Refused>
     requires { ((d : ℕ) × (Side d table.now from end)) × (9 * end ≤ length table.now) }
     ensures { (d : ℕ) (g : Side d table.now from end) → depth_out result ≡ shallow left from g.forest }
 {
     let mut i = from;
+    // A `while`: the next record is where this one ends.
     while i < end {
         let next = table::word(table, i, table::END);
         if table::is_container(table::word(table, i, table::KIND)) {
             if left == 0 {
-                return Depth::TooDeep(i);
+                return Err(Refused {
+                    refusal: Refusal::TooDeep,
+                    place: i,
+                });
             }
-            match first_deep(table, i + 1, next, left - 1) {
-                Depth::TooDeep(n) => return Depth::TooDeep(n),
-                Depth::Fine => {}
-            }
+            first_deep(table, i + 1, next, left - 1)?;
         }
         i = next;
     }
-    Depth::Fine
+    Ok(())
 }
 
 // ---- the walk
@@ -75,7 +86,6 @@ fn note(list: &mut [u32], count: usize, set: u32, n: usize) -> usize
     }
     if count < list.len() {
         list[count] = n as u32;
-        return count + 1;
     }
     count + 1
 }
@@ -85,10 +95,7 @@ fn goes_in(set: u32, n: usize, end: usize) -> bool
     requires { n ≤ record_limit }
     ensures { result ≡ goes_in set n end }
 {
-    if n + 1 < end {
-        return query_reach::goes_on(set);
-    }
-    false
+    n + 1 < end && query_reach::goes_on(set)
 }
 
 // The records in record n, one after the other, each with those in it, where `set` has the steps that may come next. Nothing in a record is
@@ -110,6 +117,7 @@ fn visit_all(
     let mut more = count;
     let mut i = n + 1;
     let mut index: usize = 0;
+    // A `while`: the next record is where this one ends.
     while i < end {
         let own = query_reach::next(doc, table, q, plan, set, n, i, index);
         more = note(list, more, own, i);
@@ -143,54 +151,43 @@ fn walk(doc: &[u8], table: &[u32], q: &[u8], query: Query, list: &mut [u32]) -> 
 // What asking a table gives: a container too deep (7), then a query that is malformed (14), then more matches than there is room (24), with
 // the true count. The list is written only where the count is known to fit: it has a word for every record, or the matches were counted
 // before, in a walk whose list is not the caller's.
-fn ask(doc: &[u8], table: &[u32], q: &[u8], list: &mut [u32], form: u32) -> Found
+fn ask(
+    doc: &[u8],
+    table: &[u32],
+    q: &[u8],
+    list: &mut [u32],
+    form: u32,
+) -> Result<usize, Unanswered>
     requires { (IsTable (length doc.now) table.now) × (length table.now ≤ 9 * record_limit) }
     ensures { (i : IsTable (length doc.now) table.now) → Finds (within (length list.old) (asked (form_no form) doc.now q.now i.head i.inner)) list.old (found_count result) list.new }
 {
-    match first_deep(table, 0, table.len() / table::WORDS, form::DEPTH) {
-        Depth::TooDeep(n) => return refused(form::TOO_DEEP, n),
-        Depth::Fine => {}
-    }
-    let taken = query_steps::take_apart(q, form);
-    let query = taken.query;
-    if !taken.ok {
-        return refused(form::BAD_QUERY, taken.place);
-    }
+    first_deep(table, 0, table.len() / table::WORDS, form::DEPTH)?;
+    let query = query_steps::take_apart(q, form)?;
     if list.len() < table.len() / table::WORDS {
         let mut none = [0u32; 1];
         let count = walk(doc, table, q, query, &mut none);
         if list.len() < count {
-            return Found::Refused {
-                number: form::MORE_MATCHES,
+            return Err(Unanswered {
+                refusal: Refusal::MoreMatches,
                 place: 0,
-                count: count,
-            };
+                count,
+            });
         }
     }
-    Found::Matches {
-        count: walk(doc, table, q, query, list),
-    }
+    Ok(walk(doc, table, q, query, list))
 }
 
-// A refusal that carries no count.
-fn refused(number: u8, place: usize) -> Found
-    ensures { found_count result ≡ failed number place 0 }
-{
-    Found::Refused {
-        number: number,
-        place: place,
-        count: 0,
-    }
-}
-
-// Rule 9 and demand 3: the numbers of the tags that match the query, in file order, from the list's beginning on. Order of refusals: 9, 10,
-// 7, 14, 24; a refusal changes nothing.
-pub fn query(doc: &[u8], table: &[u32], q: &[u8], list: &mut [u32], form: u32) -> Found
+// Rule 9 and demand 3: the numbers of the tags that match the query, in file order, from the list's beginning on, and how many they are.
+// Order of refusals: 9, 10, 7, 14, 24; a refusal changes nothing.
+pub fn query(
+    doc: &[u8],
+    table: &[u32],
+    q: &[u8],
+    list: &mut [u32],
+    form: u32,
+) -> Result<usize, Unanswered>
     ensures { QueryIs (form_no form) doc.now table.now q.now list.old (found_count result) list.new }
 {
-    match table::is_table(doc.len(), table) {
-        Verdict::OverLimit => refused(form::OVER_LIMIT, 0),
-        Verdict::NoTable => refused(form::NO_TABLE, 0),
-        Verdict::Table => ask(doc, table, q, list, form),
-    }
+    table::is_table(doc.len(), table)?;
+    ask(doc, table, q, list, form)
 }

@@ -33,28 +33,18 @@ const ASKS: usize = 1;
 // The words of sixteen steps, and of those two sets.
 pub const PLAN: usize = WORDS * (form::STEPS + 1);
 
-// A kind as a word.
-fn code(kind: u8) -> u32
-    ensures { result ≡ kind }
-{
-    kind as u32
-}
-
 // The steps of a query as words, which are lent and not copied on the way down.
 fn put_steps(query: Query, plan: &mut [u32])
     requires { (query.count ≤ 16) × (length plan.old ≡ 51) }
     ensures { Put query plan.old plan.new }
 {
     let count = query.count;
-    let mut s = 0;
-    while s < count {
+    for s in 0..count {
         let step = query.steps[s];
-        let kind = step.kind;
         let at = WORDS * (count - s);
-        plan[at] = code(kind);
+        plan[at] = step.kind as u32;
         plan[at + 1] = step.at;
         plan[at + 2] = step.len;
-        s += 1;
     }
 }
 
@@ -64,10 +54,8 @@ fn of_kind(plan: &[u32; PLAN], count: usize, low: u32, high: u32) -> u32
     ensures { Bits (kind_in plan.now count low high) result }
 {
     let mut set: u32 = 0;
-    let mut s: usize = 1;
-    while s <= count {
+    for s in 1..=count {
         set = set | mark(between(plan[WORDS * s], low, high), s);
-        s += 1;
     }
     set
 }
@@ -76,10 +64,7 @@ fn of_kind(plan: &[u32; PLAN], count: usize, low: u32, high: u32) -> u32
 fn between(x: u32, low: u32, high: u32) -> bool
     ensures { result ≡ (leb low x && leb x high) }
 {
-    if x < low {
-        return false;
-    }
-    x <= high
+    low <= x && x <= high
 }
 
 // A query as words, with the two sets.
@@ -118,10 +103,7 @@ fn mark(b: bool, s: usize) -> u32
     requires { s ≤ 16 }
     ensures { result ≡ pick b (2 ^ s) 0 }
 {
-    if b {
-        return only(s);
-    }
-    0
+    if b { only(s) } else { 0 }
 }
 
 // The least number in a set.
@@ -129,7 +111,7 @@ fn least(set: u32) -> usize
     requires { set ≡ 0 → ⊥ }
     ensures { Least set result }
 {
-    u32::trailing_zeros(set) as usize
+    set.trailing_zeros() as usize
 }
 
 // Whether a path that goes on from one with this set can fit.
@@ -141,24 +123,15 @@ pub fn goes_on(set: u32) -> bool
 
 // ---- whether a step takes a hop
 
-// A word as an index.
-fn wide(x: u32) -> usize
-    ensures { result ≡ x }
-{
-    x as usize
-}
-
 // Whether the n bytes of a from x on are those of b from y on.
 fn same_bytes(a: &[u8], x: usize, b: &[u8], y: usize, n: usize) -> bool
     requires { (x + n ≤ length a.now) × (y + n ≤ length b.now) }
     ensures { result ≡ same (part a.now x n) (part b.now y n) }
 {
-    let mut i = 0;
-    while i < n {
+    for i in 0..n {
         if a[x + i] != b[y + i] {
             return false;
         }
-        i += 1;
     }
     true
 }
@@ -168,10 +141,8 @@ fn name_is(doc: &[u8], table: &[u32], q: &[u8], at: usize, len: usize, c: usize)
     requires { (at + len ≤ length q.now) × (RecordIn doc.now table.now c) }
     ensures { result ≡ same (part q.now at len) (name_of doc.now table.now c) }
 {
-    if table::word(table, c, table::NAME_LENGTH) != len {
-        return false;
-    }
-    same_bytes(q, at, doc, table::word(table, c, table::NAME), len)
+    table::word(table, c, table::NAME_LENGTH) == len
+        && same_bytes(q, at, doc, table::word(table, c, table::NAME), len)
 }
 
 // Whether step s takes the hop from a record down to child c, which is number `index` in it.
@@ -188,22 +159,14 @@ fn step_takes(
     requires { (s ≤ 16) × (NameIn q.now (words_of plan.now s)) × (RecordIn doc.now table.now parent) × (RecordIn doc.now table.now c) }
     ensures { result ≡ takes (planned q.now plan.now s) (hop_to doc.now table.now parent c index) }
 {
-    let kind = plan[WORDS * s];
-    let at = plan[WORDS * s + 1];
-    let len = plan[WORDS * s + 2];
-    if kind == NAME {
-        if table::word(table, parent, table::KIND) == table::kinds::COMPOUND {
-            return name_is(doc, table, q, wide(at), wide(len), c);
-        }
-        return false;
+    let at = plan[WORDS * s + 1] as usize;
+    let len = plan[WORDS * s + 2] as usize;
+    let named = table::word(table, parent, table::KIND) == table::kinds::COMPOUND;
+    match plan[WORDS * s] {
+        NAME => named && name_is(doc, table, q, at, len, c),
+        INDEX => !named && at == index,
+        _ => true,
     }
-    if kind == INDEX {
-        if table::word(table, parent, table::KIND) == table::kinds::COMPOUND {
-            return false;
-        }
-        return wide(at) == index;
-    }
-    true
 }
 
 // The steps of a set that take the hop. Only 01 and 02 are asked: 03 and 04 take any.
@@ -222,6 +185,7 @@ fn takers(
 {
     let mut rest = set & plan[ASKS];
     let mut out = set - rest;
+    // A `while`: it goes by the set, and each turn takes the least number out of it.
     while rest != 0 {
         let s = least(rest);
         out = out | mark(step_takes(doc, table, q, plan, s, parent, c, index), s);
@@ -286,6 +250,7 @@ pub fn next(
     let taken = takers(doc, table, q, plan, set / 2 * 2, parent, c, index);
     let mut rest = set - (set & deeps) / 2;
     let mut out: u32 = 0;
+    // A `while`, as in `takers`.
     while rest != 0 {
         let s = least(rest);
         out = reach(deeps, taken, s, 1, out);

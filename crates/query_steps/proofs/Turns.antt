@@ -2,8 +2,9 @@
 -- Assumes nothing.
 use Prim.Native.Nat.{ℕ, zero, suc, ◌+◌, ◌-◌, ◌*◌, ◌≤◌, ◌<◌}
 use mathlib.Core.Path.{◌≡◌, refl, sym, ap, ◌∙◌}
+use Rattle.std.specs.Prelude.{Option, Some, None, Result, Ok, Err}
 use mathlib.Core.List.{List, [], ◌∷◌, ◌++◌, append_assoc, append-nil}
-use mathlib.Core.Bool.{Bool, true}
+use mathlib.Core.Bool.{Bool}
 use mathlib.Core.Logic.{◌⊎◌, inl, inr}
 use native.Mathlib.Omega.{arith}
 use native.Mathlib.Decide.{ℕ_discrete}
@@ -20,9 +21,8 @@ use Rattle.query_steps.specs.Steps.{step_of, no_step, span, step_no, NameIn}
 use Rattle.query_steps.specs.Spelling.{words_at, bytes_at, place_of, held_at, refused_at, one_out, Goes, Reads, taken_by, TakenIs}
 use Rattle.query_steps.specs.declared.Step.{Step as StepWords}
 use Rattle.query_steps.specs.declared.Query.{Query}
-use Rattle.query_steps.specs.declared.Taken.{Taken}
+use Rattle.form.specs.declared.refusals.Refused.{Refused}
 use Rattle.query_steps.specs.declared.One.{One}
-use Rattle.query_steps.specs.declared.One.TheVariants.{Next, Bad}
 use Rattle.query_steps.proofs.Runs.{span-snoc, span-length, span-is, span_same}
 
 -- Some steps before what follows.
@@ -114,9 +114,11 @@ module _ (form : Form) (q : List ℕ) (query : Query) (i : ℕ) (turn : Turn for
   next = let a : query.count + 1 ≡ suc query.count = omega arith in rw a (ap (λ (k : ℕ). k + bytes_at q k) turn.place)
 
   -- A turn.
-  pub turn_more : query.count < 16 → (r : One) (t : StepWords) (j : ℕ) → Reads q i (step_at form q i) r → r ≡ Next t j → Turn form q (push query t) j
-  turn_more h r t j s e =
-      let g = s.goes t j e in
+  pub turn_more : query.count < 16 → (r : Option One) (o : One) → Reads q i (step_at form q i) r → r ≡ Some o → Turn form q (push query o.step) o.next
+  turn_more h r o s e =
+      let t = o.step in
+      let j = o.next in
+      let g = s.goes o e in
       let few = turn.few in
       let far = turn.far in
       let near = g.near in
@@ -141,43 +143,34 @@ module _ (form : Form) (q : List ℕ) (query : Query) (i : ℕ) (turn : Turn for
           by (inl m) = lt-ltb k query.count m ∙ sym (lt-ltb k (query.count + 1) (omega arith))
           by (inr m) = le-ltb k query.count m ∙ sym (le-ltb k (query.count + 1) (let z : (k ≡ query.count) → ⊥ = p in omega (arith, m, z)))
 
-      keeps : Goes q i t j → (k : ℕ) → Dec (k ≡ query.count) → get_or (set query.steps query.count t) k no_step ≡ held_at q (query.count + 1) k
+      keeps : Goes q i o.step o.next → (k : ℕ) → Dec (k ≡ query.count) → get_or (set query.steps query.count o.step) k no_step ≡ held_at q (query.count + 1) k
       keeps g k (yes p) =
           let l = turn.long in
-          rw (p, get_or-set_same query.steps query.count t no_step (omega arith), lt-ltb query.count (query.count + 1) (omega arith)) (g.words ∙ ap (words_at q) turn.place)
+          rw (p, get_or-set_same query.steps query.count o.step no_step (omega arith), lt-ltb query.count (query.count + 1) (omega arith)) (g.words ∙ ap (words_at q) turn.place)
       keeps g k (no p) =
-          get_or-set_other query.steps query.count k t no_step p ∙ turn.held k ∙ ap (λ (x : Bool). pick x (words_at q (place_of q k)) no_step) (same k p)
+          get_or-set_other query.steps query.count k o.step no_step p ∙ turn.held k ∙ ap (λ (x : Bool). pick x (words_at q (place_of q k)) no_step) (same k p)
 
-      go : Goes q i t j → (k : ℕ) → k < query.count + 1 → Dec (k ≡ query.count) → NameIn q (get_or (set query.steps query.count t) k no_step)
-      go g k lt' (yes p) = let l = turn.long in rw (p, get_or-set_same query.steps query.count t no_step (omega arith)) g.name
-      go g k lt' (no p) = rw (get_or-set_other query.steps query.count k t no_step p) (turn.names k (omega arith))
+      go : Goes q i o.step o.next → (k : ℕ) → k < query.count + 1 → Dec (k ≡ query.count) → NameIn q (get_or (set query.steps query.count o.step) k no_step)
+      go g k lt' (yes p) = let l = turn.long in rw (p, get_or-set_same query.steps query.count o.step no_step (omega arith)) g.name
+      go g k lt' (no p) = rw (get_or-set_other query.steps query.count k o.step no_step p) (turn.names k (omega arith))
 
   -- The turn goes on in the query's bytes.
-  pub turn-after : (r : One) (t : StepWords) (j : ℕ) → Reads q i (step_at form q i) r → r ≡ Next t j → i < j
-  turn-after r t j s e = (s.goes t j e).after
+  pub turn-after : (r : Option One) (o : One) → Reads q i (step_at form q i) r → r ≡ Some o → i < o.next
+  turn-after r o s e = (s.goes o e).after
 
-  -- An answer of refusal 14 there.
-  abbrev pub Refuses : Taken → Type 0
-  Refuses r = r ≡ refused_at i
-
-  refuses : (r : Taken) → Refuses r → refusal bad_query i ≡ spelt form q → TakenIs form q r
-  refuses r s e =
-      let c : r.query.count ≡ 0 = ap (λ (x : Taken). x.query.count) s in
-      record {
-        whole = s ∙ ap (taken_by q) e;
-        is = rw s e;
-        safe = record { few = omega arith; names = λ k h. absurd (let z : k < 0 = omega arith in omega arith) };
-      }
+  -- Refusal 14 there.
+  refuses : refusal bad_query i ≡ spelt form q → TakenIs form q (Err (refused_at i))
+  refuses e = record { whole = ap (taken_by q) e; is = e; safe = tt }
 
   -- A step that can't be read.
-  pub turn-bad : query.count < 16 → (o : One) → Reads q i (step_at form q i) o → o ≡ Bad → (r : Taken) → Refuses r → TakenIs form q r
-  turn-bad h o s e r f =
+  pub turn-bad : query.count < 16 → (o : Option One) → Reads q i (step_at form q i) o → o ≡ None → TakenIs form q (Err (refused_at i))
+  turn-bad h o s e =
       let x : refusal bad_query i ≡ step_at form q i = ap (one_out q i) (sym e) ∙ s.is in
-      refuses r f (sym (left (left-bad h x)))
+      refuses (sym (left (left-bad h x)))
 
   -- A seventeenth step.
-  pub turn_many : 16 ≤ query.count → (r : Taken) → Refuses r → TakenIs form q r
-  turn_many h r f = refuses r f (sym (left (left-many h)))
+  pub turn_many : 16 ≤ query.count → TakenIs form q (Err (refused_at i))
+  turn_many h = refuses (sym (left (left-many h)))
 
 left_end : (form : Form) (n : ℕ) (q : List ℕ) (i : ℕ) → length q ≤ i → steps_at form q n i ≡ got []
 unfolding steps_at
@@ -185,16 +178,16 @@ left_end form zero q i h = rw (steps_at, le-ltb i (length q) h)
 left_end form (suc n) q i h = rw (steps_at, le-ltb i (length q) h)
 
 -- The answer of so many steps.
-abbrev taken-steps : List ℕ → ℕ → Taken
-taken-steps q n = record { ok = true; place = 0; query = record { steps = span (held_at q n) 0 16; count = n } }
+abbrev taken-steps : List ℕ → ℕ → Result Query Refused
+taken-steps q n = Ok (record { steps = span (held_at q n) 0 16; count = n })
 
-held_all : (form : Form) (q : List ℕ) (query : Query) (i : ℕ) → Turn form q query i → ◌≡◌ {A = Taken} (record { ok = true; place = 0; query = query }) (taken-steps q query.count)
+held_all : (form : Form) (q : List ℕ) (query : Query) (i : ℕ) → Turn form q query i → Ok query ≡ taken-steps q query.count
 held_all form q query i turn =
-    ap (λ (l : List StepWords). record { ok = true; place = 0; query = record { steps = l; count = query.count } })
+    ap (λ (l : List StepWords). Ok (record { steps = l; count = query.count }))
     (span-is (held_at q query.count) no_step query.steps 0 16 turn.long (λ k h. let z : 0 + k ≡ k = omega arith in rw z (turn.held k)))
 
 -- The end of the bytes.
-pub turn_last : (form : Form) (q : List ℕ) (query : Query) (i : ℕ) → Turn form q query i → length q ≤ i → TakenIs form q (record { ok = true; place = 0; query = query })
+pub turn_last : (form : Form) (q : List ℕ) (query : Query) (i : ℕ) → Turn form q query i → length q ≤ i → TakenIs form q (Ok query)
 turn_last form q query i turn h =
     let z : query.count - 0 ≡ query.count = omega arith in
     let steps = span (step_no q query) 0 query.count in

@@ -1,8 +1,11 @@
 -- What taking a query apart promises, step by step and in all: the code's answers in the terms of rule 9's definitions.
 -- Assumes nothing.
-use Rattle.std.specs.Prelude.{ℕ, zero, suc, ◌+◌, ◌≤◌, ◌<◌, ◌≡◌, List, true, false, ltb, eqb, length, get_or, replicate}
+use Rattle.std.specs.Prelude.{Result, Ok, Err, IfOk, Option, Some, None, ℕ, zero, suc, ◌+◌, ◌≤◌, ◌<◌, ◌≡◌, List, ltb, eqb, length, get_or, replicate}
 use Rattle.form.specs.Form.{Form}
 use Rattle.form.specs.Answer.{Out, got, no, pick, bad_query, step_limit}
+use Rattle.form.specs.Refusals.{out_of}
+use Rattle.form.specs.declared.refusals.Refusal.TheVariants.{BadQuery}
+use Rattle.form.specs.declared.refusals.Refused.{Refused}
 use Rattle.form.specs.Spans.{part}
 use Rattle.form.specs.Numbers.{big_endian}
 use Rattle.form.specs.Paths.{Step}
@@ -11,7 +14,6 @@ use Rattle.query_steps.specs.Steps.{step_of, steps_from, no_step, span, NameIn, 
 use Rattle.query_steps.specs.declared.Step.{Step as StepWords}
 use Rattle.query_steps.specs.declared.One.{One}
 use Rattle.query_steps.specs.declared.Query.{Query}
-use Rattle.query_steps.specs.declared.Taken.{Taken}
 
 -- The struct of the step at a place, by its first byte: of a name its span, of an index its number, of any other byte that byte alone.
 unfoldable pub words_at : List ℕ → ℕ → StepWords
@@ -38,13 +40,13 @@ abbrev pub no_query : Query
 no_query = record { steps = replicate step_limit no_step; count = 0 }
 
 -- Refusal 14 at a place.
-abbrev pub refused_at : ℕ → Taken
-refused_at p = record { ok = false; place = p; query = no_query }
+abbrev pub refused_at : ℕ → Refused
+refused_at p = record { refusal = BadQuery; place = p }
 
 -- The code's answer on the step at a place: the step and the place past it, or refusal 14 there.
-abbrev pub one_out : List ℕ → ℕ → One → Out Spelt
-one_out q at (One.Next t j) = got (record { step = step_of q t; next = j })
-one_out q at One.Bad = no bad_query at
+abbrev pub one_out : List ℕ → ℕ → Option One → Out Spelt
+one_out q at (Some o) = got (record { step = step_of q o.step; next = o.next })
+one_out q at None = no bad_query at
 
 -- A step that was read takes at least a byte and at most 65,538, and its name lies in the query's bytes.
 pub record Goes (q : List ℕ) (at : ℕ) (t : StepWords) (j : ℕ) : Type 0 where
@@ -55,21 +57,21 @@ pub record Goes (q : List ℕ) (at : ℕ) (t : StepWords) (j : ℕ) : Type 0 whe
   pub name : NameIn q t
 
 -- The answer on the step at a place is o.
-pub record Reads (q : List ℕ) (at : ℕ) (o : Out Spelt) (r : One) : Type 0 where
+pub record Reads (q : List ℕ) (at : ℕ) (o : Out Spelt) (r : Option One) : Type 0 where
   pub is : one_out q at r ≡ o
-  pub goes : (t : StepWords) (j : ℕ) → r ≡ One.Next t j → Goes q at t j
+  pub goes : (t : One) → r ≡ Some t → Goes q at t.step t.next
 
 -- The code's answer on a whole query: its steps, or refusal 14 with its place.
-abbrev pub taken_out : List ℕ → Taken → Out (List Step)
-taken_out q r = pick r.ok (got (steps_from q r.query 0)) (no bad_query r.place)
+abbrev pub taken_out : List ℕ → Result Query Refused → Out (List Step)
+taken_out q r = out_of (λ query. steps_from q query 0) r
 
 -- The answer on a whole query, every step of the array said: those that were read, and behind them none.
-abbrev pub taken_by : List ℕ → Out (List Step) → Taken
-taken_by q (got ss) = record { ok = true; place = 0; query = record { steps = span (held_at q (length ss)) 0 step_limit; count = length ss } }
-taken_by q (no n p) = refused_at p
+abbrev pub taken_by : List ℕ → Out (List Step) → Result Query Refused
+taken_by q (got ss) = Ok (record { steps = span (held_at q (length ss)) 0 step_limit; count = length ss })
+taken_by q (no n p) = Err (refused_at p)
 
 -- The promise of taking a query apart: the answer; that its steps are those of rule 9; and that their names lie in the query's bytes.
-pub record TakenIs (form : Form) (q : List ℕ) (r : Taken) : Type 0 where
+pub record TakenIs (form : Form) (q : List ℕ) (r : Result Query Refused) : Type 0 where
   pub whole : r ≡ taken_by q (spelt form q)
   pub is : taken_out q r ≡ spelt form q
-  pub safe : QueryIn q r.query
+  pub safe : IfOk r (QueryIn q)

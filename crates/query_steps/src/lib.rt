@@ -4,7 +4,9 @@
 ghost use Rattle.std.specs.Prelude.{◌≡◌, ◌≤◌, ◌<◌, length, get_or};
 ghost use Rattle.form.specs.Form.{Form, form_no};
 ghost use Rattle.form.specs.Query.{blamed, step_by, step_at};
-ghost use Rattle.query_steps.specs.Spelling.{no_query, refused_at, Reads, TakenIs};
+ghost use Rattle.query_steps.specs.Spelling.{no_query, Reads, TakenIs};
+
+use form::refusals::{Refusal, Refused};
 
 // The kinds of step, by their first byte.
 const NAME: u8 = 1;
@@ -31,92 +33,79 @@ pub struct Query {
     pub count: usize,
 }
 
-// A query, or the place of refusal 14. (An enum can't hold the array.)
-#[derive(Drop)]
-pub struct Taken {
-    pub ok: bool,
-    pub place: usize,
-    pub query: Query,
-}
-
-// One step and the place past it, or none.
-#[derive(Drop)]
-enum One {
-    Next(Step, usize),
-    Bad,
+// One step and the place past it.
+#[derive(Clone, Copy)]
+struct One {
+    step: Step,
+    next: usize,
 }
 
 // ---- the query taken apart
 
 // 01 and a string.
-fn name_step(q: &[u8], at: usize, form: u32) -> One
+fn name_step(q: &[u8], at: usize, form: u32) -> Option<One>
     requires { (at < length q.now) × (at ≤ 1048608) × (get_or q.now at 0 ≡ 1) }
     ensures { Reads q.now at (blamed at (step_by (form_no form) q.now 1 at)) result }
 {
     if q.len() - at < 3 {
-        return One::Bad;
+        return None;
     }
     let size = raw::u16_at(q, at + 1) as usize;
     let start = at + 3;
     if q.len() - start < size {
-        return One::Bad;
+        return None;
     }
     let end = start + size;
     if !mutf8::is_well_formed(&q[start..end], form) {
-        return One::Bad;
+        return None;
     }
     let step = Step {
         kind: NAME,
         at: start as u32,
         len: size as u32,
     };
-    One::Next(step, end)
+    Some(One { step, next: end })
 }
 
 // 02 and an i32 that is not below 0.
-fn index_step(q: &[u8], at: usize) -> One
+fn index_step(q: &[u8], at: usize) -> Option<One>
     requires { (at < length q.now) × (at ≤ 1048608) × (get_or q.now at 0 ≡ 2) }
     ensures { (f : Form) → Reads q.now at (blamed at (step_by f q.now 2 at)) result }
 {
     if q.len() - at < 5 {
-        return One::Bad;
+        return None;
     }
     let index = raw::u32_at(q, at + 1);
     if 2147483648 <= index {
-        return One::Bad;
+        return None;
     }
     let step = Step {
         kind: INDEX,
         at: index,
         len: 0,
     };
-    One::Next(step, at + 5)
+    Some(One { step, next: at + 5 })
 }
 
 // The step at a place.
-fn one_step(q: &[u8], at: usize, form: u32) -> One
+fn one_step(q: &[u8], at: usize, form: u32) -> Option<One>
     requires { (at < length q.now) × (at ≤ 1048608) }
     ensures { Reads q.now at (step_at (form_no form) q.now at) result }
 {
     let kind = q[at];
-    if kind == NAME {
-        return name_step(q, at, form);
+    match kind {
+        NAME => name_step(q, at, form),
+        INDEX => index_step(q, at),
+        ANY | DEEP => {
+            let step = Step {
+                kind,
+                at: 0,
+                len: 0,
+            };
+            Some(One { step, next: at + 1 })
+        }
+        _ => None,
     }
-    if kind == INDEX {
-        return index_step(q, at);
-    }
-    let step = Step {
-        kind: kind,
-        at: 0,
-        len: 0,
-    };
-    if kind == ANY {
-        return One::Next(step, at + 1);
-    }
-    if kind == DEEP {
-        return One::Next(step, at + 1);
-    }
-    One::Bad
 }
 
 // No steps.
@@ -134,48 +123,28 @@ fn no_query() -> Query
     }
 }
 
-// Refusal 14 at a place.
-fn refused(place: usize) -> Taken
-    ensures { result ≡ refused_at place }
-{
-    Taken {
-        ok: false,
-        place: place,
-        query: no_query(),
-    }
-}
-
 // The query that some bytes spell. A step that can't be read, and a seventeenth whatever it is, are refusal 14 at its first byte.
-pub fn take_apart(q: &[u8], form: u32) -> Taken
+pub fn take_apart(q: &[u8], form: u32) -> Result<Query, Refused>
     ensures { TakenIs (form_no form) q.now result }
 {
-    let none = Step {
-        kind: 0,
-        at: 0,
-        len: 0,
-    };
-    let mut query = Query {
-        steps: [none; 16],
-        count: 0,
-    };
+    let mut query = no_query();
     let mut at = 0;
+    // A `while`: the next step is where this one ends.
     while at < q.len() {
         let count = query.count;
+        let bad = Refused {
+            refusal: Refusal::BadQuery,
+            place: at,
+        };
         if form::STEPS <= count {
-            return refused(at);
+            return Err(bad);
         }
-        match one_step(q, at, form) {
-            One::Next(step, next) => {
-                query.steps[count] = step;
-                query.count = count + 1;
-                at = next;
-            }
-            One::Bad => return refused(at),
-        }
+        let Some(one) = one_step(q, at, form) else {
+            return Err(bad);
+        };
+        query.steps[count] = one.step;
+        query.count = count + 1;
+        at = one.next;
     }
-    Taken {
-        ok: true,
-        place: 0,
-        query: query,
-    }
+    Ok(query)
 }

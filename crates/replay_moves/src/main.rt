@@ -7,8 +7,8 @@
 // digits as they are. The answers in stdout are of a second reading of the paper: tests/replay/moves.py made them.
 #![tactic(auto)]
 
+use form::refusals::Refused;
 use lines::Line;
-use table_store::Answer;
 
 // What stands in the output before.
 const FILLED: u8 = 0xAA;
@@ -16,16 +16,16 @@ const FILLED: u8 = 0xAA;
 // ---- printing
 
 // The answer to a move.
-fn print_answer(answer: Answer) {
+fn print_answer(answer: Result<usize, Refused>) {
     match answer {
-        Answer::Done { count } => {
+        Ok(count) => {
             io::write_all(1, b"done");
             lines::print_number(count);
         }
-        Answer::Refused { number, place } => {
+        Err(refused) => {
             io::write_all(1, b"refused");
-            lines::print_number(number as usize);
-            lines::print_number(place);
+            lines::print_number(refused.refusal.number() as usize);
+            lines::print_number(refused.place);
         }
     }
     io::write_all(1, b": ");
@@ -33,14 +33,7 @@ fn print_answer(answer: Answer) {
 
 // Whether no byte of the output differs from what stood there before.
 fn is_kept(out: &[u8]) -> bool {
-    let mut i: usize = 0;
-    while i < out.len() {
-        if out[i] != FILLED {
-            return false;
-        }
-        i += 1;
-    }
-    true
+    out.iter().all(|b| *b == FILLED)
 }
 
 // How a byte of the output is spelt: a question mark stands for each that neither lines nor what stood there before have.
@@ -56,11 +49,8 @@ fn spelt(b: u8) -> u8 {
 
 // The output spelt out.
 fn print_spelt(out: &[u8]) {
-    let mut i: usize = 0;
-    while i < out.len() {
-        let one = [spelt(out[i])];
-        io::write_all(1, &one);
-        i += 1;
+    for b in out {
+        io::write_all(1, &[spelt(*b)]);
     }
 }
 
@@ -79,11 +69,12 @@ fn print_output(plain: bool, out: &[u8]) {
 // ---- a case
 
 // The answer to lines, up or down.
-fn moved(up: bool, doc_len: usize, text: &[u8], out: &mut [u8]) -> Answer {
+fn moved(up: bool, doc_len: usize, text: &[u8], out: &mut [u8]) -> Result<usize, Refused> {
     if up {
-        return table_moves::lines_up(doc_len, text, out);
+        table_moves::lines_up(doc_len, text, out)
+    } else {
+        table_moves::lines_down(doc_len, text, out)
     }
-    table_moves::lines_down(doc_len, text, out)
 }
 
 // The answer to lines over a document of so many bytes, and what moving them left in the output.
@@ -137,13 +128,8 @@ fn put_meant(b: u8, at: usize, bytes: &mut [u8]) -> usize {
 // The lines that the first n bytes of a field spell out, put into `bytes` as far as there is room; how many bytes that are.
 fn unspell(field: &[u8], n: usize, bytes: &mut [u8]) -> usize {
     let mut at: usize = 0;
-    let mut i: usize = 0;
-    while i < n {
-        if field.len() <= i {
-            return at;
-        }
-        at = put_meant(field[i], at, bytes);
-        i += 1;
+    for b in field.iter().take(n) {
+        at = put_meant(*b, at, bytes);
     }
     at
 }
@@ -202,13 +188,11 @@ fn print_move(
 
 // The letter that the first n bytes of a field are, 0 where they are none.
 fn letter(field: &[u8], n: usize) -> u8 {
-    if n != 1 {
-        return 0;
+    if n == 1 && !field.is_empty() {
+        field[0]
+    } else {
+        0
     }
-    if field.len() < 1 {
-        return 0;
-    }
-    field[0]
 }
 
 // The answer to a line: its letter tells the way and how lines are spelt.
@@ -227,9 +211,7 @@ fn print_line(line: &[u8], len: usize, field: &mut [u8], bytes: &mut [u8], out: 
 // Every line in turn, by way of lent buffers. The turns are for the loop to be seen to end: no input uses them up.
 fn replay(chunk: &mut [u8], line: &mut [u8], field: &mut [u8], bytes: &mut [u8], out: &mut [u8]) {
     let mut input = lines::start();
-    let mut turns = u64::MAX;
-    while 0 < turns {
-        turns -= 1;
+    for _ in 0..u64::MAX {
         match lines::next_line(chunk, input, line) {
             Line::End => return,
             Line::Long { input: rest } => {

@@ -5,40 +5,29 @@
 #![tactic(auto)]
 
 use lines::Line;
-use query::Found;
+use query::Unanswered;
 
 // The answer to a query.
-fn print_found(found: Found) {
+fn print_found(found: Result<usize, Unanswered>) {
     match found {
-        Found::Matches { count } => {
+        Ok(count) => {
             io::write_all(1, b"matches");
             lines::print_number(count);
         }
-        Found::Refused {
-            number: refused,
-            place: at,
-            count: matches,
-        } => {
+        Err(refused) => {
             io::write_all(1, b"refused");
-            lines::print_number(refused as usize);
-            lines::print_number(at);
-            lines::print_number(matches);
+            lines::print_number(refused.refusal.number() as usize);
+            lines::print_number(refused.place);
+            lines::print_number(refused.count);
         }
     }
     io::write_all(1, b":");
 }
 
-// A word in decimal.
-fn print_word(w: u32) {
-    lines::print_number(w as usize);
-}
-
 // Words in decimal.
 fn print_words(words: &[u32]) {
-    let mut i: usize = 0;
-    while i < words.len() {
-        print_word(words[i]);
-        i += 1;
+    for w in words {
+        lines::print_number(*w as usize);
     }
 }
 
@@ -161,9 +150,7 @@ fn replay(
     list: &mut [u32],
 ) {
     let mut input = lines::start();
-    let mut turns = u64::MAX;
-    while 0 < turns {
-        turns -= 1;
+    for _ in 0..u64::MAX {
         match lines::next_line(chunk, input, line) {
             Line::End => return,
             Line::Long { input: rest } => {

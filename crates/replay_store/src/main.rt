@@ -6,20 +6,20 @@
 // stdout are of a second reading of the paper: tests/replay/store.py made them.
 #![tactic(auto)]
 
+use form::refusals::Refused;
 use lines::Line;
-use table_store::Answer;
 
 // The answer to a reading or a writing.
-fn print_answer(answer: Answer) {
+fn print_answer(answer: Result<usize, Refused>) {
     match answer {
-        Answer::Done { count } => {
+        Ok(count) => {
             io::write_all(1, b"done");
             lines::print_number(count);
         }
-        Answer::Refused { number, place } => {
+        Err(refused) => {
             io::write_all(1, b"refused");
-            lines::print_number(number as usize);
-            lines::print_number(place);
+            lines::print_number(refused.refusal.number() as usize);
+            lines::print_number(refused.place);
         }
     }
     io::write_all(1, b":");
@@ -125,13 +125,7 @@ fn print_writing(
 
 // Whether the first n bytes of a field are this letter alone.
 fn is_letter(field: &[u8], n: usize, letter: u8) -> bool {
-    if n != 1 {
-        return false;
-    }
-    if field.len() < 1 {
-        return false;
-    }
-    field[0] == letter
+    n == 1 && !field.is_empty() && field[0] == letter
 }
 
 // The answer to a line: its first field tells a reading from a writing.
@@ -164,9 +158,7 @@ fn replay(
     out: &mut [u8],
 ) {
     let mut input = lines::start();
-    let mut turns = u64::MAX;
-    while 0 < turns {
-        turns -= 1;
+    for _ in 0..u64::MAX {
         match lines::next_line(chunk, input, line) {
             Line::End => return,
             Line::Long { input: rest } => {

@@ -20,7 +20,8 @@ use Rattle.form.proofs.Records.{sits-too, above-too}
 use Rattle.form.proofs.Rows.{Grown, grown-rows, rows_grown}
 use Rattle.form.proofs.Stored.{lines-length, fitting-fits, fitting-full}
 use Rattle.form.proofs.Moved.{flat-in-length, flat-in-sits, Formed, forms, formed, formed-tree, formed-records, formed-grown, grown-formed, movable-lines, movable-large}
-use Rattle.table_store.specs.declared.Answer.{Answer}
+use Rattle.std.specs.Prelude.{Result}
+use Rattle.form.specs.declared.refusals.Refused.{Refused}
 use Rattle.table_store.specs.Steps.{answer_out}
 use Rattle.table_stored.specs.Words.{edition_of, line_in, line_word}
 use Rattle.table_moves.specs.Steps.{AreWords, Taken, TakenIs, Judged, JudgedIs, Planted, PutIs}
@@ -165,10 +166,10 @@ line-few eight = omega arith
 line-few nine = omega arith
 
 -- What is promised of the answer, where it is known which one it is.
-pub told-taken : (ninth : Bool) (s : List ℕ) {r x : Answer} → r ≡ x → TakenIs ninth s (answer_out r) → TakenIs ninth s (answer_out x)
+pub told-taken : (ninth : Bool) (s : List ℕ) {r x : Result ℕ Refused} → r ≡ x → TakenIs ninth s (answer_out r) → TakenIs ninth s (answer_out x)
 told-taken ninth s e = subst (λ y. TakenIs ninth s (answer_out y)) e
 
-pub told-judged : (ninth : Bool) (d : ℕ) (s : List ℕ) (room : ℕ) {r x : Answer} → r ≡ x → JudgedIs ninth d s room (answer_out r) → JudgedIs ninth d s room (answer_out x)
+pub told-judged : (ninth : Bool) (d : ℕ) (s : List ℕ) (room : ℕ) {r x : Result ℕ Refused} → r ≡ x → JudgedIs ninth d s room (answer_out r) → JudgedIs ninth d s room (answer_out x)
 told-judged ninth d s room e = subst (λ y. JudgedIs ninth d s room (answer_out y)) e
 
 module _ (ninth : Bool) (d : ℕ) (s : List ℕ) (room : ℕ) where

@@ -2,6 +2,8 @@
 // No memory is taken: what is judged and what is put is read from the lines.
 #![tactic(auto)]
 
+ghost use Rattle.form.specs.Answer.{no};
+ghost use Rattle.form.specs.Refusals.{number_of};
 ghost use Rattle.std.specs.Prelude.{◌≡◌, [], ◌∷◌, ◌++◌, ◌+◌, ◌*◌, ◌≤◌, ◌<◌, ◌^◌, length};
 ghost use Rattle.form.specs.Spans.{part, over};
 ghost use Rattle.form.specs.Stored.{hex_digits};
@@ -10,7 +12,7 @@ ghost use Rattle.table_store.specs.Steps.{answer_out};
 ghost use Rattle.table_stored.specs.Words.{line_word};
 ghost use Rattle.table_moves.specs.Steps.{bad_at, TakenIs, JudgedIs, Innermost, Climbable, Planted, PutIs};
 
-use table_store::Answer;
+use form::refusals::{Refusal, Refused};
 
 // The digits that a record has in both editions.
 const FRONT: usize = table_store::WORD_DIGITS * table_stored::OLD_WORDS;
@@ -18,73 +20,70 @@ const FRONT: usize = table_store::WORD_DIGITS * table_stored::OLD_WORDS;
 // ---- what is asked before a byte is put
 
 // What a bad line gives: 9 where there are more lines than the limit leaves, those behind it counted; else 29 at its number.
-fn bad_line(lines: &[u8], number: usize) -> Answer
-    ensures { answer_out result ≡ bad_at lines.now number }
+fn bad_line(lines: &[u8], number: usize) -> Refused
+    ensures { no (number_of result.refusal) result.place ≡ bad_at lines.now number }
 {
     if form::RECORDS < table_store::count_lines(lines) {
-        return Answer::Refused {
-            number: form::OVER_LIMIT,
+        return Refused {
+            refusal: Refusal::OverLimit,
             place: 0,
         };
     }
-    Answer::Refused {
-        number: form::BAD_LINE,
+    Refused {
+        refusal: Refusal::BadLine,
         place: number,
     }
 }
 
 // Line by line whether each is good, of the width that is moved (29 at its number, from 1), within the limit (9); how many there are.
-fn good_lines(lines: &[u8], nine: bool) -> Answer
+fn good_lines(lines: &[u8], nine: bool) -> Result<usize, Refused>
     ensures { TakenIs nine lines.now (answer_out result) }
 {
     let words = table_stored::words_in(nine);
     let line = table_stored::line_in(nine);
     let mut at: usize = 0;
     let mut n: usize = 0;
+    // A `while`: how many lines there are is known at their end.
     while at < lines.len() {
         if n == form::RECORDS {
-            return Answer::Refused {
-                number: form::OVER_LIMIT,
+            return Err(Refused {
+                refusal: Refusal::OverLimit,
                 place: 0,
-            };
+            });
         }
         if !table_store::is_line(lines, at, words) {
-            return bad_line(lines, n + 1);
+            return Err(bad_line(lines, n + 1));
         }
         at += line;
         n += 1;
     }
-    Answer::Done { count: n }
+    Ok(n)
 }
 
 // The four refusals in their order, 9, 29, 10 and 13; or how many lines there are to move, into an output of so many bytes.
-fn judge(doc_len: usize, lines: &[u8], nine: bool, room: usize) -> Answer
+fn judge(doc_len: usize, lines: &[u8], nine: bool, room: usize) -> Result<usize, Refused>
     ensures { JudgedIs nine doc_len lines.now room (answer_out result) }
 {
     if form::DOCUMENT < doc_len {
-        return Answer::Refused {
-            number: form::OVER_LIMIT,
+        return Err(Refused {
+            refusal: Refusal::OverLimit,
             place: 0,
-        };
+        });
     }
-    match good_lines(lines, nine) {
-        Answer::Refused { number, place } => Answer::Refused { number, place },
-        Answer::Done { count: n } => {
-            if !table_stored::is_table(doc_len, lines, nine, n) {
-                return Answer::Refused {
-                    number: form::NO_TABLE,
-                    place: 0,
-                };
-            }
-            if room < table_stored::line_in(!nine) * n {
-                return Answer::Refused {
-                    number: form::OUTPUT_FULL,
-                    place: 0,
-                };
-            }
-            Answer::Done { count: n }
-        }
+    let n = good_lines(lines, nine)?;
+    if !table_stored::is_table(doc_len, lines, nine, n) {
+        return Err(Refused {
+            refusal: Refusal::NoTable,
+            place: 0,
+        });
     }
+    if room < table_stored::line_in(!nine) * n {
+        return Err(Refused {
+            refusal: Refusal::OutputFull,
+            place: 0,
+        });
+    }
+    Ok(n)
 }
 
 // ---- lines put
@@ -121,11 +120,9 @@ fn put_up(lines: &[u8], n: usize, out: &mut [u8])
     requires { Planted eight lines.now n × (73 * n ≤ length out.old) }
     ensures { PutIs eight lines.now n out.old out.new }
 {
-    let mut i: usize = 0;
-    while i < n {
+    for i in 0..n {
         let parent = parent_of(lines, i, out);
         put_up_line(lines, i, parent, out);
-        i += 1;
     }
 }
 
@@ -144,10 +141,8 @@ fn put_down(lines: &[u8], n: usize, out: &mut [u8])
     requires { Planted nine lines.now n × (65 * n ≤ length out.old) }
     ensures { PutIs nine lines.now n out.old out.new }
 {
-    let mut i: usize = 0;
-    while i < n {
+    for i in 0..n {
         put_down_line(lines, i, out);
-        i += 1;
     }
 }
 
@@ -155,32 +150,20 @@ fn put_down(lines: &[u8], n: usize, out: &mut [u8])
 
 // Moves lines of eight words to lines of nine, with the parents worked out, over a document of doc_len bytes ([8]; refusals 9, 29, 10, 13). A
 // refusal leaves the output as it was.
-pub fn lines_up(doc_len: usize, lines: &[u8], out: &mut [u8]) -> Answer
+pub fn lines_up(doc_len: usize, lines: &[u8], out: &mut [u8]) -> Result<usize, Refused>
     ensures { MoveIs eight doc_len lines.now out.old (answer_out result) out.new }
 {
-    match judge(doc_len, lines, false, out.len()) {
-        Answer::Refused { number, place } => Answer::Refused { number, place },
-        Answer::Done { count: n } => {
-            put_up(lines, n, out);
-            Answer::Done {
-                count: table_store::LINE * n,
-            }
-        }
-    }
+    let n = judge(doc_len, lines, false, out.len())?;
+    put_up(lines, n, out);
+    Ok(table_store::LINE * n)
 }
 
 // Moves lines of nine words to lines of eight, which drops the parents; a wrong one is 10 ([8]; refusals 9, 29, 10, 13). A refusal leaves the
 // output as it was.
-pub fn lines_down(doc_len: usize, lines: &[u8], out: &mut [u8]) -> Answer
+pub fn lines_down(doc_len: usize, lines: &[u8], out: &mut [u8]) -> Result<usize, Refused>
     ensures { MoveIs nine doc_len lines.now out.old (answer_out result) out.new }
 {
-    match judge(doc_len, lines, true, out.len()) {
-        Answer::Refused { number, place } => Answer::Refused { number, place },
-        Answer::Done { count: n } => {
-            put_down(lines, n, out);
-            Answer::Done {
-                count: table_stored::OLD_LINE * n,
-            }
-        }
-    }
+    let n = judge(doc_len, lines, true, out.len())?;
+    put_down(lines, n, out);
+    Ok(table_stored::OLD_LINE * n)
 }

@@ -14,7 +14,8 @@ use Rattle.form.specs.Stored.{lines_in, words_of, each_line, lines_read, reading
 use Rattle.form.proofs.Answer.{got-no}
 use Rattle.form.proofs.Table.{over_none, over-length, over-over}
 use Rattle.form.proofs.Stored.{words-length, no_lines, each_none, each-bad, each-full, each-good, accepted-long}
-use Rattle.table_store.specs.declared.Answer.{Answer}
+use Rattle.std.specs.Prelude.{Result}
+use Rattle.form.specs.declared.refusals.Refused.{Refused}
 use Rattle.table_store.specs.Steps.{answer_out, FirstLine, Put, TakenIs}
 
 -- What the lines s give, with the room of a table t.
@@ -129,7 +130,7 @@ all-cleared (got ws) m p t t' e q = absurd (got-no (sym e))
 all-cleared (no a b) m p t t' e q = ap (λ k. replicate k 0) q
 
 -- What is promised of the answer, where it is known which one it is.
-pub told : (s t t' : List ℕ) {r x : Answer} → r ≡ x → TakenIs s t (answer_out r) t' → TakenIs s t (answer_out x) t'
+pub told : (s t t' : List ℕ) {r x : Result ℕ Refused} → r ≡ x → TakenIs s t (answer_out r) t' → TakenIs s t (answer_out x) t'
 told s t t' e k = subst (λ y. TakenIs s t (answer_out y) t') e k
 
 -- Lines that are all taken are as many as the records.

@@ -11,7 +11,7 @@ use native.Mathlib.Nat.{div-one}
 use lib.ListN.{length, get_or, set, take, drop, length-drop, get_or-append}
 use lib.Pow.{shr-shr}
 use lib.Seq.{get_or-drop, get_or_at, take-suc, take_all, length-take-le}
-use Rattle.form.specs.Answer.{Out, got, no, over_limit, no_table, output_full}
+use Rattle.form.specs.Answer.{Out, got, no, output_full}
 use Rattle.form.specs.Spans.{part, over}
 use Rattle.form.specs.Tables.{IsTable, Within}
 use Rattle.form.specs.Writing.{Gives}
@@ -20,7 +20,8 @@ use Rattle.form.proofs.Picks.{lt-or}
 use Rattle.form.proofs.Spans.{part_length}
 use Rattle.form.proofs.Table.{over-over, over-next}
 use Rattle.form.proofs.Stored.{digits-length, word-digits-length, lines-length, lines_next, fitting-fits, fitting-full}
-use Rattle.table.specs.declared.Verdict.{Verdict}
+use Rattle.std.specs.Prelude.{Result, Ok}
+use Rattle.table.specs.declared.Unfit.{Unfit}
 use Rattle.table.specs.Check.{VerdictIs}
 
 -- What is put right behind a list belongs to it.
@@ -97,36 +98,24 @@ line-behind w t i o₀ o so_far h fits =
 lines_long : (t : List ℕ) → length (table_lines t) ≡ 73 * (length t / 9)
 lines_long t = lines-length 9 (length t / 9) t (omega arith)
 
-module _ (d : ℕ) (t : List ℕ) {r : Verdict} (v : VerdictIs d t r) where
+module _ (d : ℕ) (t : List ℕ) {r : Result (Unit {0}) Unfit} (v : VerdictIs d t r) where
   -- Words of that verdict are within the limits and form a table.
-  pub formed : r ≡ Verdict.Table → Within d t × IsTable d t
+  pub formed : r ≡ Ok tt → Within d t × IsTable d t
   formed e = rw e at v
 
   module _ (o : List ℕ) where
-    -- A limit is passed (9).
-    pub lines-large : r ≡ Verdict.OverLimit → WriteLinesIs d t o (no over_limit 0) o
-    lines-large e =
-        let h : Within d t → ⊥ = rw e at v in
-        record { large = λ n. record { answer_is = refl; output_is = refl }; unfit = λ w n. absurd (h w); fit = λ w i. absurd (h w) }
-
-    -- The words form no table (10).
-    pub lines-unfit : r ≡ Verdict.NoTable → WriteLinesIs d t o (no no_table 0) o
-    lines-unfit e =
-        let h : Within d t × (IsTable d t → ⊥) = rw e at v in
-        record { large = λ n. absurd (n h.0); unfit = λ w n. record { answer_is = refl; output_is = refl }; fit = λ w i. absurd (h.1 i) }
-
     -- They form a table: the promise is what its lines give.
-    lines_fit : r ≡ Verdict.Table → {answer : Out ℕ} {o' : List ℕ} → Gives (storing t (length o)) o answer o' → WriteLinesIs d t o answer o'
+    lines_fit : r ≡ Ok tt → {answer : Out ℕ} {o' : List ℕ} → Gives (storing t (length o)) o answer o' → WriteLinesIs d t o answer o'
     lines_fit e g =
         let h = formed e in
         record { large = λ n. absurd (n h.0); unfit = λ w n. absurd (n h.1); fit = λ w i. g }
 
     -- The output is too short for its lines (13).
-    pub lines-full : r ≡ Verdict.Table → length o < 73 * (length t / 9) → WriteLinesIs d t o (no output_full 0) o
+    pub lines-full : r ≡ Ok tt → length o < 73 * (length t / 9) → WriteLinesIs d t o (no output_full 0) o
     lines-full e h = lines_fit e (rw (fitting-full (table_lines t) (length o) (rw (lines_long t) h)) (record { answer_is = refl; output_is = refl }))
 
     -- Its lines are put.
-    pub lines-put : {o' : List ℕ} → r ≡ Verdict.Table → 73 * (length t / 9) ≤ length o → o' ≡ over o 0 (table_lines t)
+    pub lines-put : {o' : List ℕ} → r ≡ Ok tt → 73 * (length t / 9) ≤ length o → o' ≡ over o 0 (table_lines t)
         → WriteLinesIs d t o (got (73 * (length t / 9))) o'
     lines-put e h p =
         lines_fit e (rw (fitting-fits (table_lines t) (length o) (rw (lines_long t) h)) (record { answer_is = ap got (sym (lines_long t)); output_is = p }))

@@ -1,15 +1,15 @@
 -- What the contracts of stored lines cite: the answer as document 02 has it, and lines as the code comes upon them.
 -- Assumes nothing.
-use Rattle.std.specs.Prelude.{ℕ, ◌+◌, ◌*◌, ◌/◌, ◌≤◌, ◌≡◌, List, [], ◌∷◌, Bool, true, ◌&&◌, length, get_or, take, drop, ltb, eqb}
+use Rattle.std.specs.Prelude.{Result, ℕ, ◌+◌, ◌*◌, ◌/◌, ◌≤◌, ◌≡◌, List, [], ◌∷◌, Bool, true, ◌&&◌, length, get_or, take, drop, ltb, eqb}
 use Rattle.form.specs.Answer.{Out, got, no, pick}
+use Rattle.form.specs.Refusals.{out_of}
+use Rattle.form.specs.declared.refusals.Refused.{Refused}
 use Rattle.form.specs.Spans.{over}
 use Rattle.form.specs.Stored.{TextLine, lines_in, line_feed, all_digits, is_line, each_line, records_of}
-use Rattle.table_store.specs.declared.Answer.{Answer}
 
 -- The answer in document 02's form.
-abbrev pub answer_out : Answer → Out ℕ
-answer_out (Answer.Done n) = got n
-answer_out (Answer.Refused n p) = no n p
+abbrev pub answer_out : Result ℕ Refused → Out ℕ
+answer_out r = out_of (λ n. n) r
 
 -- How many line feeds there are.
 unfoldable pub feeds : List ℕ → ℕ

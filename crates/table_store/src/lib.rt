@@ -7,7 +7,7 @@ ghost use Rattle.form.specs.Spans.{part, over};
 ghost use Rattle.form.specs.Stored.{hex_digit, hex_digits, line_of, lines_of, lines_in, digit_of, all_digits, hex_value, words_of, WriteLinesIs, ReadLinesIs};
 ghost use Rattle.table_store.specs.Steps.{answer_out, feeds, fed_at, FirstLine, TakenIs};
 
-use table::Verdict;
+use form::refusals::{Refusal, Refused};
 
 // The digits of a word, and those of a record.
 pub const WORD_DIGITS: usize = 8;
@@ -16,13 +16,6 @@ const DIGITS: usize = WORD_DIGITS * table::WORDS;
 
 // The bytes of a line.
 pub const LINE: usize = DIGITS + 1;
-
-// The answer: how many bytes were written, or how many records read; or the number and the place of the refusal.
-#[derive(Drop)]
-pub enum Answer {
-    Done { count: usize },
-    Refused { number: u8, place: usize },
-}
 
 // ---- writing
 
@@ -40,10 +33,8 @@ pub fn put_word(out: &mut [u8], at: usize, word: u32)
     requires { at + 8 ≤ length out.old }
     ensures { out.new ≡ over out.old at (hex_digits 8 word) }
 {
-    let mut i: usize = 0;
-    while i < WORD_DIGITS {
+    for i in 0..WORD_DIGITS {
         out[at + i] = digit(((word >> (28 - 4 * i)) % 16) as u8);
-        i += 1;
     }
 }
 
@@ -52,10 +43,8 @@ fn put_line(table: &[u32], n: usize, out: &mut [u8])
     requires { (9 * n + 9 ≤ length table.now) × (73 * n + 73 ≤ length out.old) }
     ensures { out.new ≡ over out.old (73 * n) (line_of (part table.now (9 * n) 9)) }
 {
-    let mut k: usize = 0;
-    while k < table::WORDS {
+    for k in 0..table::WORDS {
         put_word(out, LINE * n + WORD_DIGITS * k, table[table::WORDS * n + k]);
-        k += 1;
     }
     out[LINE * n + DIGITS] = b'\n';
 }
@@ -65,38 +54,26 @@ fn put_lines(table: &[u32], n: usize, out: &mut [u8])
     requires { (9 * n ≤ length table.now) × (73 * n ≤ length out.old) }
     ensures { out.new ≡ over out.old 0 (lines_of 9 n table.now) }
 {
-    let mut i: usize = 0;
-    while i < n {
+    for i in 0..n {
         put_line(table, i, out);
-        i += 1;
     }
 }
 
-// Writes the lines of a table over a document of doc_len bytes ([6]; refusals 9, 10, 13). A refusal leaves the output as it was.
-pub fn write_lines(doc_len: usize, table: &[u32], out: &mut [u8]) -> Answer
+// Writes the lines of a table over a document of doc_len bytes ([6]; refusals 9, 10, 13), and answers how many bytes that are. A refusal
+// leaves the output as it was.
+pub fn write_lines(doc_len: usize, table: &[u32], out: &mut [u8]) -> Result<usize, Refused>
     ensures { WriteLinesIs doc_len table.now out.old (answer_out result) out.new }
 {
-    match table::is_table(doc_len, table) {
-        Verdict::OverLimit => Answer::Refused {
-            number: form::OVER_LIMIT,
+    table::is_table(doc_len, table)?;
+    let n = table.len() / table::WORDS;
+    if out.len() < LINE * n {
+        return Err(Refused {
+            refusal: Refusal::OutputFull,
             place: 0,
-        },
-        Verdict::NoTable => Answer::Refused {
-            number: form::NO_TABLE,
-            place: 0,
-        },
-        Verdict::Table => {
-            let n = table.len() / table::WORDS;
-            if out.len() < LINE * n {
-                return Answer::Refused {
-                    number: form::OUTPUT_FULL,
-                    place: 0,
-                };
-            }
-            put_lines(table, n, out);
-            Answer::Done { count: LINE * n }
-        }
+        });
     }
+    put_lines(table, n, out);
+    Ok(LINE * n)
 }
 
 // ---- reading back
@@ -106,12 +83,10 @@ fn count_feeds(lines: &[u8]) -> usize
     ensures { result ≡ feeds lines.now }
 {
     let mut n: usize = 0;
-    let mut i: usize = 0;
-    while i < lines.len() {
-        if lines[i] == b'\n' {
+    for b in lines {
+        if *b == b'\n' {
             n += 1;
         }
-        i += 1;
     }
     n
 }
@@ -122,10 +97,7 @@ pub fn count_lines(lines: &[u8]) -> usize
 {
     let n = count_feeds(lines);
     let len = lines.len();
-    if len == 0 {
-        return n;
-    }
-    if lines[len - 1] == b'\n' {
+    if len == 0 || lines[len - 1] == b'\n' {
         return n;
     }
     n + 1
@@ -135,19 +107,11 @@ pub fn count_lines(lines: &[u8]) -> usize
 fn digit_of(b: u8) -> u8
     ensures { result ≡ digit_of b }
 {
-    if b < b'0' {
-        return 16;
+    match b {
+        b'0'..=b'9' => b - b'0',
+        b'a'..=b'f' => b - b'a' + 10,
+        _ => 16,
     }
-    if b <= b'9' {
-        return b - b'0';
-    }
-    if b < b'a' {
-        return 16;
-    }
-    if b <= b'f' {
-        return b - b'a' + 10;
-    }
-    16
 }
 
 // Whether so many digits stand at `at`. The largest value is kept and all are looked at, so that the compiler takes many at once.
@@ -156,13 +120,11 @@ fn digits_at(lines: &[u8], at: usize, count: usize) -> bool
     ensures { result ≡ all_digits (part lines.now at count) }
 {
     let mut largest: u8 = 0;
-    let mut k: usize = 0;
-    while k < count {
-        let value = digit_of(lines[at + k]);
+    for b in &lines[at..at + count] {
+        let value = digit_of(*b);
         if largest < value {
             largest = value;
         }
-        k += 1;
     }
     largest < 16
 }
@@ -171,10 +133,7 @@ fn digits_at(lines: &[u8], at: usize, count: usize) -> bool
 fn fed(lines: &[u8], at: usize) -> bool
     ensures { result ≡ fed_at lines.now at }
 {
-    if lines.len() <= at {
-        return false;
-    }
-    lines[at] == b'\n'
+    at < lines.len() && lines[at] == b'\n'
 }
 
 // Whether the line that begins at `at` is good, a line of so many words (29). [8] reads lines of eight too.
@@ -183,10 +142,7 @@ pub fn is_line(lines: &[u8], at: usize, words: usize) -> bool
     ensures { FirstLine words (drop at lines.now) result }
 {
     let digits = WORD_DIGITS * words;
-    if fed(lines, at + digits) {
-        return digits_at(lines, at, digits);
-    }
-    false
+    fed(lines, at + digits) && digits_at(lines, at, digits)
 }
 
 // The value of a byte that is a digit, with one test.
@@ -194,10 +150,7 @@ fn value_of(b: u8) -> u8
     requires { digit_of b < 16 }
     ensures { result ≡ digit_of b }
 {
-    if b <= b'9' {
-        return b - b'0';
-    }
-    b - b'a' + 10
+    if b <= b'9' { b - b'0' } else { b - b'a' + 10 }
 }
 
 // The word that eight digits at `at` are, as a sum: here too none waits for another.
@@ -206,10 +159,8 @@ pub fn word_at(lines: &[u8], at: usize) -> u32
     ensures { result ≡ hex_value (part lines.now at 8) }
 {
     let mut n: u32 = 0;
-    let mut i: usize = 0;
-    while i < WORD_DIGITS {
+    for i in 0..WORD_DIGITS {
         n += (value_of(lines[at + i]) as u32) << (28 - 4 * i);
-        i += 1;
     }
     n
 }
@@ -219,63 +170,62 @@ fn take_line(lines: &[u8], n: usize, table: &mut [u32])
     requires { (73 * n + 72 ≤ length lines.now) × (9 * n + 9 ≤ length table.old) × (all_digits (part lines.now (73 * n) 72) ≡ true) }
     ensures { table.new ≡ over table.old (9 * n) (words_of 9 (part lines.now (73 * n) 72)) }
 {
-    let mut k: usize = 0;
-    while k < table::WORDS {
+    for k in 0..table::WORDS {
         table[table::WORDS * n + k] = word_at(lines, LINE * n + WORD_DIGITS * k);
-        k += 1;
     }
 }
 
-// Line by line: 29, then 8. What a refusal leaves in the table is cleared by the caller.
-fn take_lines(lines: &[u8], table: &mut [u32]) -> Answer
+// Line by line: 29, then 8; how many records were taken. What a refusal leaves in the table is cleared by the caller.
+fn take_lines(lines: &[u8], table: &mut [u32]) -> Result<usize, Refused>
     ensures { TakenIs lines.now table.old (answer_out result) table.new }
 {
     let room = table.len() / table::WORDS;
     let mut n: usize = 0;
+    // A `while`: how many lines there are is known at their end.
     while LINE * n < lines.len() {
         if !is_line(lines, LINE * n, table::WORDS) {
-            return Answer::Refused {
-                number: form::BAD_LINE,
+            return Err(Refused {
+                refusal: Refusal::BadLine,
                 place: n + 1,
-            };
+            });
         }
         if room <= n {
-            return Answer::Refused {
-                number: form::TABLE_FULL,
+            return Err(Refused {
+                refusal: Refusal::TableFull,
                 place: n + 1,
-            };
+            });
         }
         take_line(lines, n, table);
         n += 1;
     }
-    Answer::Done { count: n }
+    Ok(n)
 }
 
 // Reads lines back into a table ([6]; 9, then for each line 29 and 8, with its number from 1). A refusal leaves the table all zero. Whether the
 // words form a table is not asked. Lines are counted for 9 only where they are not all good: those that are were counted in taking them.
-pub fn read_lines(lines: &[u8], table: &mut [u32]) -> Answer
+pub fn read_lines(lines: &[u8], table: &mut [u32]) -> Result<usize, Refused>
     ensures { ReadLinesIs lines.now table.old (answer_out result) table.new }
 {
     match take_lines(lines, table) {
-        Answer::Done { count } => {
+        Ok(count) => {
             if form::RECORDS < count {
                 table::clear(table);
-                return Answer::Refused {
-                    number: form::OVER_LIMIT,
+                return Err(Refused {
+                    refusal: Refusal::OverLimit,
                     place: 0,
-                };
+                });
             }
-            Answer::Done { count }
+            Ok(count)
         }
-        Answer::Refused { number, place } => {
+        Err(refused) => {
             table::clear(table);
             if form::RECORDS < count_lines(lines) {
-                return Answer::Refused {
-                    number: form::OVER_LIMIT,
+                return Err(Refused {
+                    refusal: Refusal::OverLimit,
                     place: 0,
-                };
+                });
             }
-            Answer::Refused { number, place }
+            Err(refused)
         }
     }
 }

@@ -10,8 +10,6 @@ ghost use Rattle.form.specs.Rows.{ChildIs, LeafRow, list_kind_at, ContainerRow, 
 ghost use Rattle.table.specs.Check.{Says, HopsAre};
 ghost use Rattle.table_stored.specs.Words.{edition_of, line_in, line_word, WordAt, LineAt, Lined};
 
-use table::Hops;
-
 // The words of a record before parents (01), and the bytes of its line.
 pub const OLD_WORDS: usize = 8;
 
@@ -21,20 +19,14 @@ pub const OLD_LINE: usize = table_store::WORD_DIGITS * OLD_WORDS + 1;
 pub fn words_in(nine: bool) -> usize
     ensures { result ≡ words_in (edition_of nine) }
 {
-    if nine {
-        return table::WORDS;
-    }
-    OLD_WORDS
+    if nine { table::WORDS } else { OLD_WORDS }
 }
 
 // How many bytes a line has.
 pub fn line_in(nine: bool) -> usize
     ensures { result ≡ line_in (edition_of nine) }
 {
-    if nine {
-        return table_store::LINE;
-    }
-    OLD_LINE
+    if nine { table_store::LINE } else { OLD_LINE }
 }
 
 // Word k of line n.
@@ -50,10 +42,7 @@ fn parent_agrees(lines: &[u8], nine: bool, parent: usize, j: usize) -> bool
     requires { LineAt (edition_of nine) lines.now j }
     ensures { Says result (nine ≡ true → line_word (edition_of nine) lines.now j 8 ≡ parent) }
 {
-    if !nine {
-        return true;
-    }
-    word(lines, nine, j, table::PARENT) == parent
+    !nine || word(lines, nine, j, table::PARENT) == parent
 }
 
 // Whether record i agrees with rules 4 and 6 as one that holds no records.
@@ -103,21 +92,29 @@ fn child_agrees(lines: &[u8], nine: bool, parent: usize, end: usize, list: bool,
 }
 
 // Hops through the children of `parent` by their end words, from record `from` up to `end`. Where the records before it agree, no record
-// is a child of two containers, so all hops together are no more than the records.
-fn hop_through(lines: &[u8], nine: bool, parent: usize, from: usize, end: usize, list: bool) -> Hops
+// is a child of two containers, so all hops together are no more than the records. The children are counted, if they tile that range.
+fn hop_through(
+    lines: &[u8],
+    nine: bool,
+    parent: usize,
+    from: usize,
+    end: usize,
+    list: bool,
+) -> Option<usize>
     requires { (from ≤ end) × ((j : ℕ) → j < end → LineAt (edition_of nine) lines.now j) }
     ensures { HopsAre (line_word (edition_of nine) lines.now) nine list parent end from result }
 {
     let mut j = from;
     let mut count = 0;
+    // A `while`: the next child is where this one ends.
     while j < end {
         if !child_agrees(lines, nine, parent, end, list, j) {
-            return Hops::Broken;
+            return None;
         }
         count += 1;
         j = word(lines, nine, j, table::END);
     }
-    Hops::All(count)
+    Some(count)
 }
 
 // The list kind that record i of n must have.
@@ -167,8 +164,8 @@ fn container_agrees(lines: &[u8], nine: bool, n: usize, i: usize) -> bool
         end,
         word(lines, nine, i, table::KIND) == table::kinds::LIST,
     ) {
-        Hops::All(hops) => hops == count,
-        Hops::Broken => false,
+        Some(hops) => hops == count,
+        None => false,
     }
 }
 
@@ -195,12 +192,10 @@ fn records_agree(doc_len: usize, lines: &[u8], nine: bool, n: usize) -> bool
     requires { Lined (edition_of nine) lines.now n }
     ensures { Says result ((i : ℕ) → i < n → RowIs doc_len (line_word (edition_of nine) lines.now) nine n i) }
 {
-    let mut i = 0;
-    while i < n {
+    for i in 0..n {
         if !record_agrees(doc_len, lines, nine, n, i) {
             return false;
         }
-        i += 1;
     }
     true
 }

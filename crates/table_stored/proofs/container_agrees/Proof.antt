@@ -41,7 +41,7 @@ hop_through-requires c κs =
     let start = start_of (long_of (listed_of at-end)) in
     (omega (arith, at-end.before.if-end-i.false), λ j h. start.requires.1.line j (omega (arith, at-end.if-n-end.false)))
 
-returns-6 : tie.Need-returns-in-All
+returns-6 : tie.Need-returns-in-Some
 returns-6 c =
     let h = c.hop_through in
     let e = c.word-end.ensures in
@@ -51,12 +51,12 @@ returns-6 c =
     (sym c.word-2.ensures ∙ c.if-word-ne0-2.false)
     (sym c.word-3.ensures ∙ c.if-word-list_kind_at.false ∙ c.list_kind_at.ensures)
     (omega (arith, e, c.if-n-end.false))
-    _ c.in-All.is _ c.word-count.ensures
+    _ c.in-Some.is _ c.word-count.ensures
 
-returns-7 : tie.Need-returns-in-Broken
+returns-7 : tie.Need-returns-in-None
 returns-7 c =
     let h = c.hop_through in
-    container-broken _ _ _ _ _ _ c.word-4.ensures c.word-end.ensures h.result h.ensures c.in-Broken.is
+    container-broken _ _ _ _ _ _ c.word-4.ensures c.word-end.ensures h.result h.ensures c.in-None.is
 
 pub container_agrees_spec : {M : Type 1} → statement M
 container_agrees_spec =
