@@ -3,7 +3,6 @@
 
 ghost use Rattle.calls.specs.Calls.{ContentCalled};
 
-use snbt_contents::Contents;
 // A string token's content, unescaped, in modified UTF-8 (rule 12).
 pub fn content(
     text: &[u8],
@@ -15,15 +14,8 @@ pub fn content(
 )
     ensures { ContentCalled text.now start end quoted out.old out.new answer.new }
 {
-    match snbt_contents::content(text, start, end, quoted != 0, out) {
-        Contents::Is { bytes } => {
-            *answer = [0, 0, bytes as u64, 0, 0, 0, 0, 0];
-        }
-        Contents::Refused {
-            number: refusal,
-            place: at,
-        } => {
-            *answer = [refusal as u64, at as u64, 0, 0, 0, 0, 0, 0];
-        }
-    }
+    *answer = match snbt_contents::content(text, start, end, quoted != 0, out) {
+        Ok(bytes) => [0, 0, bytes as u64, 0, 0, 0, 0, 0],
+        Err(e) => calls::refusal(e.refusal, e.place),
+    };
 }

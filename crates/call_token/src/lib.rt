@@ -25,12 +25,7 @@ fn token_kind(token: Token) -> u64
             quoted,
             start: _,
             end: _,
-        } => {
-            if quoted {
-                return 9;
-            }
-            8
-        }
+        } => { if quoted { 9 } else { 8 } }
         Token::Byte(_) => 10,
         Token::Short(_) => 11,
         Token::Int(_) => 12,
@@ -72,24 +67,12 @@ fn carried_second(token: Token) -> u64
     ensures { result ≡ carried_second (token_is token) }
 {
     match token {
-        Token::OpenCurly => 0,
-        Token::ClosedCurly => 0,
-        Token::OpenSquare => 0,
-        Token::ClosedSquare => 0,
-        Token::Comma => 0,
-        Token::Colon => 0,
-        Token::Semicolon => 0,
         Token::Str {
             quoted: _,
             start: _,
             end,
         } => end as u64,
-        Token::Byte(_) => 0,
-        Token::Short(_) => 0,
-        Token::Int(_) => 0,
-        Token::Long(_) => 0,
-        Token::Float(_) => 0,
-        Token::Double(_) => 0,
+        _ => 0,
     }
 }
 
@@ -97,49 +80,31 @@ fn carried_second(token: Token) -> u64
 fn stops_of(n: u32) -> Stops
     ensures { stops_is result ≡ stops_of n }
 {
-    if n == 1 {
-        return Stops::Key;
+    match n {
+        1 => Stops::Key,
+        2 => Stops::Value,
+        3 => Stops::First,
+        4 => Stops::Later,
+        _ => Stops::Default,
     }
-    if n == 2 {
-        return Stops::Value;
-    }
-    if n == 3 {
-        return Stops::First;
-    }
-    if n == 4 {
-        return Stops::Later;
-    }
-    Stops::Default
 }
 
 // The next token of a text from a start on (rules 10 to 13).
 pub fn token(text: &[u8], start: usize, stops: u32, answer: &mut [u64; 8])
     ensures { TokenCalled text.now start stops answer.new }
 {
-    match snbt_lexer::token(text, start, stops_of(stops)) {
-        Lexed::Found { data, next } => {
-            let token = data.token;
-            let index = data.index;
-            let width = data.char_width;
-            *answer = [
-                0,
-                0,
-                token_kind(token),
-                index.0 as u64,
-                width.0 as u64,
-                next as u64,
-                carried_first(token),
-                carried_second(token),
-            ];
-        }
-        Lexed::Ended { place } => {
-            *answer = [0, 0, 0, 0, 0, place as u64, 0, 0];
-        }
-        Lexed::Refused {
-            number: refusal,
-            place: at,
-        } => {
-            *answer = [refusal as u64, at as u64, 0, 0, 0, 0, 0, 0];
-        }
-    }
+    *answer = match snbt_lexer::token(text, start, stops_of(stops)) {
+        Ok(Lexed::Found { data, next }) => [
+            0,
+            0,
+            token_kind(data.token),
+            data.index.0 as u64,
+            data.char_width.0 as u64,
+            next as u64,
+            carried_first(data.token),
+            carried_second(data.token),
+        ],
+        Ok(Lexed::Ended { place }) => [0, 0, 0, 0, 0, place as u64, 0, 0],
+        Err(e) => calls::refusal(e.refusal, e.place),
+    };
 }

@@ -6,6 +6,7 @@ ghost use Rattle.snbt_numbers.specs.Answers.{quiet};
 ghost use Rattle.std.specs.Prelude.{not, ◌≤◌, T, length};
 ghost use Rattle.std.specs.Float.Ieee.{is_nan};
 
+use form::refusals::Refused;
 use lines::Line;
 use snbt_numbers::Number;
 
@@ -38,11 +39,11 @@ fn print_double(x: f64)
 }
 
 // A refusal's number and place.
-fn print_refusal(number: u8, place: usize) {
+fn print_refusal(e: Refused) {
     io::write_all(1, b"refused ");
-    io::print_decimal(1, number as u64);
+    io::print_decimal(1, e.refusal.number() as u64);
     io::write_all(1, b" ");
-    io::print_decimal(1, place as u64);
+    io::print_decimal(1, e.place as u64);
     io::write_all(1, b"\n");
 }
 
@@ -57,7 +58,6 @@ fn print_number(n: Number)
         Number::Long(v) => print_whole(4, v),
         Number::Float(x) => print_float(x),
         Number::Double(x) => print_double(x),
-        Number::Refused { number, place } => print_refusal(number, place),
     }
 }
 
@@ -66,10 +66,8 @@ fn bits_in(line: &[u8], from: usize, to: usize) -> u64
     requires { to ≤ length line.now }
 {
     let mut bits: u64 = 0;
-    let mut at = from;
-    while at < to {
+    for at in from..to {
         bits = bits % 0x1000_0000_0000_0000 * 16 + (lines::digit(line[at]) % 16) as u64;
-        at += 1;
     }
     bits
 }
@@ -102,15 +100,16 @@ fn print_line(line: &[u8], len: usize) {
         print_single(bits_in(line, 2, len));
         return;
     }
-    print_number(snbt_numbers::number_at(line, 2, len));
+    match snbt_numbers::number_at(line, 2, len) {
+        Ok(n) => print_number(n),
+        Err(e) => print_refusal(e),
+    }
 }
 
 // Every line in turn. The turns are for the loop to be seen to end: no input uses them up.
 fn replay(chunk: &mut [u8], line: &mut [u8]) {
     let mut input = lines::start();
-    let mut turns = u64::MAX;
-    while 0 < turns {
-        turns -= 1;
+    for _ in 0..u64::MAX {
         match lines::next_line(chunk, input, line) {
             Line::End => return,
             Line::Long { input: rest } => {

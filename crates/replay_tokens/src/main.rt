@@ -8,8 +8,8 @@ ghost use Rattle.snbt_tokens.specs.Quiet.{Quiet};
 ghost use Rattle.std.specs.Prelude.{not, T};
 ghost use Rattle.std.specs.Float.Ieee.{is_nan};
 
+use form::refusals::Refused;
 use lines::Line;
-use snbt_contents::Contents;
 use snbt_tokens::{Lexed, Stops, Token};
 
 // A token's number, index, width and next place.
@@ -44,16 +44,16 @@ fn print_front(out: &[u8], n: usize) {
 // The content of a string token.
 fn print_content(text: &[u8], start: usize, end: usize, quoted: bool, out: &mut [u8]) {
     match snbt_contents::content(text, start, end, quoted, out) {
-        Contents::Is { bytes } => print_front(out, bytes),
-        Contents::Refused { number, place } => print_refusal(number, place),
+        Ok(bytes) => print_front(out, bytes),
+        Err(e) => print_refusal(e),
     }
 }
 
 // A refusal's number and place.
-fn print_refusal(number: u8, place: usize) {
+fn print_refusal(e: Refused) {
     io::write_all(1, b"refused");
-    lines::print_number(number as usize);
-    lines::print_number(place);
+    lines::print_number(e.refusal.number() as usize);
+    lines::print_number(e.place);
 }
 
 // A token's number as the header has it.
@@ -113,20 +113,19 @@ fn print_token(text: &[u8], token: Token, index: usize, width: usize, next: usiz
 // The answer to a text.
 fn print_lexed(text: &[u8], start: usize, set: Stops, out: &mut [u8]) {
     match snbt_lexer::token(text, start, set) {
-        Lexed::Found { data, next } => {
-            let token = data.token;
-            let index = data.index;
-            let width = data.char_width;
-            print_token(text, token, index.0, width.0, next, out);
-        }
-        Lexed::Ended { place } => {
+        Ok(Lexed::Found { data, next }) => print_token(
+            text,
+            data.token,
+            data.index.0,
+            data.char_width.0,
+            next,
+            out,
+        ),
+        Ok(Lexed::Ended { place }) => {
             io::write_all(1, b"end");
             lines::print_number(place);
         }
-        Lexed::Refused {
-            number: refusal,
-            place: at,
-        } => print_refusal(refusal, at),
+        Err(e) => print_refusal(e),
     }
 }
 
@@ -166,9 +165,7 @@ fn print_line(line: &[u8], len: usize, field: &mut [u8], text: &mut [u8], out: &
 // Every line in turn. The turns are for the loop to be seen to end: no input uses them up.
 fn replay(chunk: &mut [u8], line: &mut [u8], field: &mut [u8], text: &mut [u8], out: &mut [u8]) {
     let mut input = lines::start();
-    let mut turns = u64::MAX;
-    while 0 < turns {
-        turns -= 1;
+    for _ in 0..u64::MAX {
         match lines::next_line(chunk, input, line) {
             Line::End => return,
             Line::Long { input: rest } => {

@@ -1,20 +1,20 @@
 -- Laws of a single content (rule 12): its refusals in their order, and the room for it.
 -- Assumes nothing.
-use Prim.Native.Nat.{ℕ, ◌≤◌, ◌<◌}
-use mathlib.Core.Path.{◌≡◌, refl, sym, ap}
+use Prim.Native.Nat.{ℕ, ◌≤◌}
+use mathlib.Core.Path.{◌≡◌, refl, sym}
 use mathlib.Core.Bool.{Bool, true, false, ◌&&◌}
 use mathlib.Core.List.{List}
 use native.Mathlib.Omega.{arith}
-use borrow.Author.Tests.{le-leb, lt-leb}
 use lib.Dec.{leb}
 use lib.ListN.{length}
-use Rattle.form.specs.Answer.{Out, got, no, output_full, bad_text}
+use Rattle.form.specs.Answer.{Out, got, no, bad_text}
 use Rattle.form.specs.Writing.{length_of, Gives}
 use Rattle.snbt_form.specs.Lexing.{judged_text, on_character, content_of, content}
-use Rattle.snbt_contents.specs.declared.Contents.{Contents}
-use Rattle.snbt_contents.specs.declared.Contents.TheVariants.{Is, Refused}
+use Rattle.std.specs.Prelude.{Result, Ok, Err}
+use Rattle.form.specs.Refusals.{number_of}
+use Rattle.form.specs.declared.refusals.Refused.{Refused}
 use Rattle.snbt_contents.specs.Answers.{content_out}
-use Rattle.snbt_contents.specs.Puts.{Ready, PutIs, fitted}
+use Rattle.snbt_contents.specs.Puts.{Ready, fitted}
 
 -- ---- the room
 
@@ -25,28 +25,15 @@ pub record Long (x : Out (List ℕ)) (n : ℕ) : Type 0 where
   pub size : length bytes ≡ n
 
 -- what a call's answer on its length says of a content
-abbrev pub Sized : Out (List ℕ) → Contents → Type 0
-Sized x (Is n) = Long x n
-Sized x (Refused n p) = x ≡ no n p
+abbrev pub Sized : Out (List ℕ) → Result ℕ Refused → Type 0
+Sized x (Ok n) = Long x n
+Sized x (Err e) = x ≡ no (number_of e.refusal) e.place
 
-pub sized : (x : Out (List ℕ)) (r : Contents) → content_out r ≡ length_of x → Sized x r
-sized (got bs) (Is n) e = let z : n ≡ length bs = cc in record { bytes = bs; is = refl; size = sym z }
-sized (got bs) (Refused n p) e = let z : ◌≡◌ {A = ℕ} 0 1 = cc in absurd (omega arith)
-sized (no m q) (Is n) e = let z : ◌≡◌ {A = ℕ} 0 1 = cc in absurd (omega arith)
-sized (no m q) (Refused n p) e = let y : m ≡ n = cc in let z : q ≡ p = cc in rw (y, z) refl
-
-module _ (x : Out (List ℕ)) (o : List ℕ) where
-  pub fitted-refused : (n q : ℕ) → x ≡ no n q → Gives (fitted x (length o)) o (no n q) o
-  fitted-refused n q e = rw e (record { answer_is = refl; output_is = refl })
-
-  pub fitted-full : (n : ℕ) → Long x n → length o < n → Gives (fitted x (length o)) o (no output_full 0) o
-  fitted-full n l h =
-      rw (l.is, lt-leb (length l.bytes) (length o) (omega (arith, l.size))) (record { answer_is = refl; output_is = refl })
-
-  pub fitted-put : (n m : ℕ) (o' : List ℕ) → Long x n → n ≤ length o → PutIs x o 0 m o' → Gives (fitted x (length o)) o (got n) o'
-  fitted-put n m o' l h w =
-      let v : PutIs (got l.bytes) o 0 m o' = rw l.is at w in
-      rw (l.is, le-leb (length l.bytes) (length o) (omega (arith, l.size))) (record { answer_is = ap got (sym l.size); output_is = v.1 })
+pub sized : (x : Out (List ℕ)) (r : Result ℕ Refused) → content_out r ≡ length_of x → Sized x r
+sized (got bs) (Ok n) e = let z : n ≡ length bs = cc in record { bytes = bs; is = refl; size = sym z }
+sized (got bs) (Err r) e = let z : ◌≡◌ {A = ℕ} 0 1 = cc in absurd (omega arith)
+sized (no m q) (Ok n) e = let z : ◌≡◌ {A = ℕ} 0 1 = cc in absurd (omega arith)
+sized (no m q) (Err r) e = let y : m ≡ number_of r.refusal = cc in let z : q ≡ r.place = cc in rw (y, z) refl
 
 pub ready : (t : List ℕ) (quoted : Bool) (start e : ℕ) (o : List ℕ) (n : ℕ) → Long (content_of t quoted start e) n
     → (start ≤ e) × (e ≤ length t) → n ≤ length o → Ready t quoted start e o 0

@@ -23,8 +23,10 @@ use Rattle.form.proofs.Coding.{SoundBy}
 use Rattle.form.proofs.Utf8.{utf8, sound}
 use Rattle.form.proofs.Walks as W
 use Rattle.snbt_form.specs.Lexing.{Front, Escape, stands, bad, cut, escape_of, escaped, character_of, front_of, scalars_by, content_of}
-use Rattle.snbt_contents.specs.declared.Decoded.{Decoded as Told}
-use Rattle.snbt_contents.specs.declared.Decoded.TheVariants.{Is, Refused}
+use Rattle.std.specs.Prelude.{Result, Ok, Err}
+use Rattle.form.specs.Refusals.{number_of}
+use Rattle.form.specs.declared.refusals.Refused.{Refused}
+use Rattle.chars.specs.declared.Character.{Character}
 use Rattle.snbt_contents.specs.Answers.{decoded_out}
 use Rattle.plain.specs.Runs.{IsPlain, Plain, short_plain}
 use Rattle.snbt_contents.specs.Puts.{Ready, PutIs, Verbatim}
@@ -223,6 +225,10 @@ verbatim t start e h k s =
           sofar-end t quoted start e (part t start (e - start)) e (omega arith) so;
     }
 
+-- what a call answers of a content's front
+abbrev pub Told : Type 0
+Told = Result Character Refused
+
 -- ---- the loop that measures
 
 module _ (t : List ℕ) (quoted : Bool) (start e : ℕ) where
@@ -254,12 +260,14 @@ module _ (t : List ℕ) (quoted : Bool) (start e : ℕ) where
 
   -- what the front at i makes of it
   abbrev pub Measured : ℕ → ℕ → Told → Type 0
-  Measured i n (Is c m) = Longer i n c m
-  Measured i n (Refused m q) = no m q ≡ length_of (content_of t quoted start e)
+  Measured i n (Ok x) = Longer i n x.value x.size
+  Measured i n (Err r) = no (number_of r.refusal) r.place ≡ length_of (content_of t quoted start e)
 
   -- by what a call answered of it
   pub counted-told : (i n : ℕ) → i < e → e ≤ length t → Counted i n → (r : Told) → decoded_out r ≡ front_of quoted (part t i (e - i)) i → Measured i n r
-  counted-told i n h k g (Is c m) p =
+  counted-told i n h k g (Ok x) p =
+      let c = x.value in
+      let m = x.size in
       let f = front-reach t quoted start e i c m h k (sym p) in
       record {
         some = f.0;
@@ -271,7 +279,7 @@ module _ (t : List ℕ) (quoted : Bool) (start e : ℕ) where
           count = rw (length-append g.done (scalar_bytes c)) (omega (arith, g.count, l));
         };
       }
-  counted-told i n h k g (Refused m q) p = sym (ap length_of (sofar-refused t quoted start e g.done i h k g.so m q (sym p)))
+  counted-told i n h k g (Err r) p = sym (ap length_of (sofar-refused t quoted start e g.done i h k g.so (number_of r.refusal) r.place (sym p)))
 
 -- ---- the loop that writes
 
@@ -330,13 +338,15 @@ module _ (t : List ℕ) (quoted : Bool) (start e : ℕ) (o₀ : List ℕ) (at : 
 
   -- what the front at i makes of it: where it is refused, nothing is promised of the output
   abbrev pub Ahead : List ℕ → ℕ → ℕ → Told → Type 0
-  Ahead o to i (Is c m) = Room o to i c m
-  Ahead o to i (Refused m q) = (n : ℕ) (o' : List ℕ) → PutIs (content_of t quoted start e) o₀ at n o'
+  Ahead o to i (Ok x) = Room o to i x.value x.size
+  Ahead o to i (Err r) = (n : ℕ) (o' : List ℕ) → PutIs (content_of t quoted start e) o₀ at n o'
 
   -- by what a call answered of it
   pub putting-told : (o : List ℕ) (to i : ℕ) → i < e → Putting t quoted start e o₀ at o to i → (r : Told) → decoded_out r ≡ front_of quoted (part t i (e - i)) i
       → Ahead o to i r
-  putting-told o to i h g (Is c m) p =
+  putting-told o to i h g (Ok x) p =
+      let c = x.value in
+      let m = x.size in
       let f = front-reach t quoted start e i c m h ready.within.1 (sym p) in
       let so = sofar-front t quoted start e g.done i h ready.within.1 g.so c m (sym p) in
       let size = length-append g.done (scalar_bytes c) in
@@ -352,8 +362,8 @@ module _ (t : List ℕ) (quoted : Bool) (start e : ℕ) (o₀ : List ℕ) (at : 
           wrote = behind o o' (scalar_bytes c) to i g w;
         };
       }
-  putting-told o to i h g (Refused m q) p =
-      let z = sofar-refused t quoted start e g.done i h ready.within.1 g.so m q (sym p) in
+  putting-told o to i h g (Err r) p =
+      let z = sofar-refused t quoted start e g.done i h ready.within.1 g.so (number_of r.refusal) r.place (sym p) in
       λ n o'. rw z tt
 
   pub putting-end : (o : List ℕ) (to i : ℕ) → e ≤ i → Putting t quoted start e o₀ at o to i → PutIs (content_of t quoted start e) o₀ at to o

@@ -11,64 +11,41 @@ ghost use Rattle.snbt_form.specs.Lexing.{escape_of, escaped, character_of, front
 ghost use Rattle.snbt_contents.specs.Answers.{decoded_out, content_out};
 ghost use Rattle.snbt_contents.specs.Puts.{Ready, PutIs, fitted};
 
-use snbt_quotes::escapes::{Escape, escape_at};
-use snbt_text::Text;
-
-// What a content begins with: a scalar value and its bytes, or a refusal.
-#[derive(Drop)]
-enum Decoded {
-    Is { scalar: u32, bytes: usize },
-    Refused { number: u8, place: usize },
-}
-
-// The length of a string token's content in rule 2's form, or a refusal.
-#[derive(Drop)]
-pub enum Contents {
-    Is { bytes: usize },
-    Refused { number: u8, place: usize },
-}
+use chars::Character;
+use form::refusals::{Refusal, Refused};
+use snbt_quotes::escapes::escape_at;
 
 // An escape as the front of a content: one that the content's end cuts is none, refusal 17 (rule 12).
-fn escaped_at(text: &[u8], at: usize, end: usize) -> Decoded
+fn escaped_at(text: &[u8], at: usize, end: usize) -> Result<Character, Refused>
     requires { (at < end) × (end ≤ length text.now) }
     ensures { decoded_out result ≡ escaped (escape_of (part text.now (at + 1) (end - (at + 1))) at) at }
 {
-    match escape_at(text, at, end) {
-        Escape::Stands { scalar, bytes } => Decoded::Is { scalar, bytes },
-        Escape::Bad { number, place } => Decoded::Refused { number, place },
-        Escape::Cut => Decoded::Refused {
-            number: form::UNKNOWN_ESCAPE,
-            place: at,
-        },
-    }
+    escape_at(text, at, end)?.ok_or(Refused {
+        refusal: Refusal::UnknownEscape,
+        place: at,
+    })
 }
 
 // A character as the front of a content, in the bytes before an end.
-fn written_at(text: &[u8], at: usize, end: usize) -> Decoded
+fn written_at(text: &[u8], at: usize, end: usize) -> Result<Character, Refused>
     requires { (at < end) × (end ≤ length text.now) }
     ensures { decoded_out result ≡ character_of (utf8_of (part text.now at (end - at))) }
 {
-    match chars::utf8_at(&text[..end], at) {
-        chars::Front::Is(scalar, bytes) => Decoded::Is { scalar, bytes },
-        chars::Front::Stuck => Decoded::Refused {
-            number: form::BAD_TEXT,
-            place: 0,
-        },
-    }
+    chars::utf8_at(&text[..end], at).ok_or(Refused {
+        refusal: Refusal::BadText,
+        place: 0,
+    })
 }
 
 // Whether a byte begins an escape: a backslash within quotes (rule 12).
 fn opens_escape(quoted: bool, b: u8) -> bool
     ensures { result ≡ (quoted && eqb b 92) }
 {
-    if quoted {
-        return b == 92;
-    }
-    false
+    quoted && b == b'\\'
 }
 
 // What a content begins with at a place: an escape or a character (rule 12).
-fn front_at(text: &[u8], at: usize, end: usize, quoted: bool) -> Decoded
+fn front_at(text: &[u8], at: usize, end: usize, quoted: bool) -> Result<Character, Refused>
     requires { (at < end) × (end ≤ length text.now) }
     ensures { decoded_out result ≡ front_of quoted (part text.now at (end - at)) at }
 {
@@ -79,30 +56,25 @@ fn front_at(text: &[u8], at: usize, end: usize, quoted: bool) -> Decoded
 }
 
 // The length of a string token's content in rule 2's form, or an escape's refusal (rule 12).
-pub fn content_length(text: &[u8], start: usize, end: usize, quoted: bool) -> Contents
+pub fn content_length(text: &[u8], start: usize, end: usize, quoted: bool) -> Result<usize, Refused>
     requires { (start ≤ end) × (end ≤ length text.now) }
     ensures { content_out result ≡ length_of (content_of text.now quoted start end) }
 {
     let mut i = start;
     let mut n: usize = 0;
+    // A `while`: the next turn begins where a run, an escape or a character ends.
     while i < end {
         let j = plain::plain_end(92, 92, text, i, end);
-        n = n + (j - i);
+        n += j - i;
         i = j;
         if i == end {
             continue;
         }
-        match front_at(text, i, end, quoted) {
-            Decoded::Is { scalar, bytes } => {
-                n = n + chars::length_of(scalar);
-                i = i + bytes;
-            }
-            Decoded::Refused { number, place } => {
-                return Contents::Refused { number, place };
-            }
-        }
+        let front = front_at(text, i, end, quoted)?;
+        n += chars::length_of(front.value);
+        i += front.size;
     }
-    Contents::Is { bytes: n }
+    Ok(n)
 }
 
 // A scalar value in rule 2's form, at a place of the output that has room for it; the place behind it.
@@ -110,10 +82,7 @@ fn put_value(c: u32, out: &mut [u8], at: usize) -> usize
     requires { (c < 1114112) × (at + length (scalar_bytes c) ≤ length out.old) }
     ensures { (result ≡ at + length (scalar_bytes c)) × (out.new ≡ over out.old at (scalar_bytes c)) }
 {
-    match chars::put_scalar(c, out, at) {
-        chars::Put::To(next) => next,
-        chars::Put::Full => at,
-    }
+    chars::put_scalar(c, out, at).unwrap_or(at)
 }
 
 // A string token's content in rule 2's form, at a place of the output that has room for it; the place behind it (rule 12).
@@ -130,64 +99,64 @@ pub fn put_content(
 {
     let mut i = start;
     let mut to = at;
+    // A `while`, as in `content_length`.
     while i < end {
         let j = plain::plain_end(92, 92, text, i, end);
         slices::copy(text, i, j - i, out, to);
-        to = to + (j - i);
+        to += j - i;
         i = j;
         if i == end {
             continue;
         }
-        match front_at(text, i, end, quoted) {
-            Decoded::Is { scalar, bytes } => {
-                to = put_value(scalar, out, to);
-                i = i + bytes;
-            }
-            Decoded::Refused {
-                number: _,
-                place: _,
-            } => {
-                return to;
-            }
-        }
+        let Ok(front) = front_at(text, i, end, quoted) else {
+            return to;
+        };
+        to = put_value(front.value, out, to);
+        i += front.size;
     }
     to
 }
 
 // A content into the output from 0 on, or refusal 13 where there is no room for it.
-fn put_fitted(text: &[u8], start: usize, end: usize, quoted: bool, out: &mut [u8]) -> Contents
+fn put_fitted(
+    text: &[u8],
+    start: usize,
+    end: usize,
+    quoted: bool,
+    out: &mut [u8],
+) -> Result<usize, Refused>
     requires { (start ≤ end) × (end ≤ length text.now) }
     ensures { Gives (fitted (content_of text.now quoted start end) (length out.old)) out.old (content_out result) out.new }
 {
-    match content_length(text, start, end, quoted) {
-        Contents::Is { bytes } => {
-            if out.len() < bytes {
-                return Contents::Refused {
-                    number: form::OUTPUT_FULL,
-                    place: 0,
-                };
-            }
-            put_content(text, start, end, quoted, out, 0);
-            Contents::Is { bytes }
-        }
-        Contents::Refused { number, place } => Contents::Refused { number, place },
+    let bytes = content_length(text, start, end, quoted)?;
+    if out.len() < bytes {
+        return Err(Refused {
+            refusal: Refusal::OutputFull,
+            place: 0,
+        });
     }
+    put_content(text, start, end, quoted, out, 0);
+    Ok(bytes)
 }
 
 // A single content (rule 12): refusal 9, then 15, then an escape's, then 13.
-pub fn content(text: &[u8], start: usize, end: usize, quoted: bool, out: &mut [u8]) -> Contents
+pub fn content(
+    text: &[u8],
+    start: usize,
+    end: usize,
+    quoted: bool,
+    out: &mut [u8],
+) -> Result<usize, Refused>
     ensures { Gives (single text.now start end quoted (length out.old)) out.old (content_out result) out.new }
 {
-    match snbt_text::judged_text(text) {
-        Text::Fine => {
-            if snbt_text::in_order(text, start, end) {
-                return put_fitted(text, start, end, quoted, out);
-            }
-            Contents::Refused {
-                number: form::BAD_TEXT,
-                place: 0,
-            }
-        }
-        Text::Refused { number } => Contents::Refused { number, place: 0 },
+    if let Err(refusal) = snbt_text::judged_text(text) {
+        return Err(Refused { refusal, place: 0 });
     }
+    if snbt_text::in_order(text, start, end) {
+        return put_fitted(text, start, end, quoted, out);
+    }
+    Err(Refused {
+        refusal: Refusal::BadText,
+        place: 0,
+    })
 }

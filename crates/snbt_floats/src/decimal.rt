@@ -71,28 +71,19 @@ pub fn decimal(negative: bool, w: u64, down: bool, p: usize) -> f64
     if negative { -r } else { r }
 }
 
-// The value of a decimal, or that its digits or its power lie beyond what one rounding can do.
-#[derive(Drop)]
-pub enum Scaled {
-    Value(f64),
-    Beyond,
-}
-
-// Rule 13 for any digits and any power: a signed zero, the nearest double, or beyond.
-pub fn scaled_or_beyond(negative: bool, w: u64, down: bool, p: u64) -> Scaled
+// Rule 13 for any digits and any power: a signed zero or the nearest double. None: the digits or the power lie beyond what one rounding
+// can do.
+pub fn scaled_or_beyond(negative: bool, w: u64, down: bool, p: u64) -> Option<f64>
     ensures { (place : ℕ) → scaled_out result place ≡ scaled negative w (signed down p) place }
 {
     if w == 0 {
         if negative {
-            return Scaled::Value(-0.0);
+            return Some(-0.0);
         }
-        return Scaled::Value(0.0);
+        return Some(0.0);
     }
-    if 9007199254740992 < w {
-        return Scaled::Beyond;
+    if 9007199254740992 < w || 22 < p {
+        return None;
     }
-    if 22 < p {
-        return Scaled::Beyond;
-    }
-    Scaled::Value(decimal(negative, w, down, p as usize))
+    Some(decimal(negative, w, down, p as usize))
 }

@@ -7,8 +7,9 @@ ghost use Rattle.std.specs.Float.Ieee.Nearest.{closest};
 ghost use Rattle.snbt_form.specs.Values.{signed};
 ghost use Rattle.snbt_floats.specs.Ties.{CaseIs, EvenOf};
 
-// Where the dropped bits of a number lie by the half, which is half of what its lowest kept bit is worth (request [9]).
-#[derive(Drop)]
+// Where the dropped bits of a number lie by the half, which is half of what its lowest kept bit is worth (request [9]). No `Ordering`: the
+// three cases are read by the request's names.
+#[derive(Clone, Copy)]
 enum Case {
     BelowHalf,
     AboveHalf,
@@ -20,12 +21,12 @@ fn case_of(dropped: u64, half: u64) -> Case
     ensures { CaseIs dropped half result }
 {
     if dropped < half {
-        return Case::BelowHalf;
+        Case::BelowHalf
+    } else if half < dropped {
+        Case::AboveHalf
+    } else {
+        Case::OnHalf
     }
-    if half < dropped {
-        return Case::AboveHalf;
-    }
-    Case::OnHalf
 }
 
 // Of two neighbours, a number and the next, the even one (request [9]).
@@ -33,10 +34,7 @@ fn even_of(kept: u64) -> u64
     requires { kept < 2 ^ 63 }
     ensures { EvenOf kept result }
 {
-    if kept % 2 == 0 {
-        return kept;
-    }
-    kept + 1
+    if kept % 2 == 0 { kept } else { kept + 1 }
 }
 
 // The whole number nearest to n / 2^d, a tie to the even one (rule 13): the d bits that are dropped lie below the half, above it, or on it,

@@ -12,6 +12,8 @@ use Rattle.snbt_tokens.specs.Quiet.{Quiet}
 use Rattle.snbt_tokens.specs.declared.Token.{Token}
 use Rattle.snbt_tokens.specs.declared.Token.TheVariants.{OpenCurly, ClosedCurly, OpenSquare, ClosedSquare, Comma, Colon, Semicolon, Str, Byte, Short, Int, Long, Float, Double}
 use Rattle.snbt_tokens.specs.declared.TokenData.{TokenData as Data}
+use Rattle.std.specs.Prelude.{Result, Ok}
+use Rattle.form.specs.declared.refusals.Refused.{Refused}
 use Rattle.snbt_tokens.specs.declared.Lexed.{Lexed as Answer}
 use Rattle.snbt_lexer.proofs.Quiet.{token-quiet}
 
@@ -38,11 +40,11 @@ quiet_of (Float x) h = h (float x) refl
 quiet_of (Double x) h = h (double x) refl
 
 -- Of `token_at`.
-pub at-quiet : (set : Stops) (t : List ℕ) (p : ℕ) (d : Data) (n : ℕ) (r : Answer) → r ≡ Answer.Found d n → lexed_out r ≡ token_at set t p → Quiet d.token
+pub at-quiet : (set : Stops) (t : List ℕ) (p : ℕ) (d : Data) (n : ℕ) (r : Result Answer Refused) → r ≡ Ok (Answer.Found d n) → lexed_out r ≡ token_at set t p → Quiet d.token
 at-quiet set t p d n r e h = quiet_of d.token (λ k q. token-quiet set t p (data_is d) n (rw (← h, e) refl) k q)
 
 -- Of `token`.
-pub found-quiet : (set : Stops) (t : List ℕ) (p : ℕ) (d : Data) (n : ℕ) (r : Answer) → r ≡ Answer.Found d n → lexed_out r ≡ lexed t p set → Quiet d.token
+pub found-quiet : (set : Stops) (t : List ℕ) (p : ℕ) (d : Data) (n : ℕ) (r : Result Answer Refused) → r ≡ Ok (Answer.Found d n) → lexed_out r ≡ lexed t p set → Quiet d.token
 unfolding lexed
 found-quiet set t p d n r e h =
     quiet_of d.token (λ k q. token-quiet set t p (data_is d) n (behind (judged_text t) (guard (on_character t p) bad_text 0) (token_at set t p) (found (data_is d) n) (rw (← h, e) refl)) k q)

@@ -8,28 +8,19 @@ use mathlib.Core.List.{List}
 use native.Mathlib.Omega.{arith}
 use borrow.Author.Tests.{le-leb, lt-leb, ne_eqb, leb-true}
 use lib.Dec.{leb, eqb}
-use lib.IntN.{ℤ}
 use lib.ListN.{length, get_or}
-use mir.Syntax.{w64}
-use mir.Val.{to_z, of_z, SFits}
-use mir.ValLaws.{to_z-of_z}
 use Rattle.form.specs.Answer.{Out, got, no, ◌>>=◌, bad_text}
 use Rattle.form.specs.Spans.{part}
 use Rattle.form.proofs.Picks.{and_left}
 use Rattle.snbt_form.specs.Numbers.{Number, is_digit, number}
 use Rattle.snbt_form.specs.Lexing.{Stops, Token, string, numeral, Lexed, ended, Word, word, quoted, made, unquoted_at, quoted_at, token_by, skip, token_at, begins, on_character, judged_text, lexed}
 use Rattle.snbt_form.proofs.Moves.{word-reach, EndsIn, quoted-ends, from-got}
-use Rattle.snbt_tokens.specs.declared.Width.{Width}
-use Rattle.snbt_quotes.specs.Answers.{quoted_out}
-use Rattle.snbt_quotes.specs.declared.Quoted.{Quoted as Answer}
-use Rattle.snbt_quotes.specs.declared.Quoted.TheVariants.{Closed, Refused}
+use Rattle.snbt_quotes.specs.Answers.{quoted_is, quoted_out}
+use Rattle.std.specs.Prelude.{Result, Ok, Err}
+use Rattle.form.specs.Refusals.{number_of}
+use Rattle.form.specs.declared.refusals.Refused.{Refused}
+use Rattle.snbt_quotes.specs.declared.Closed.{Closed}
 use Rattle.snbt_lexer.specs.Answers.{numeral_at}
-
--- ---- a number
-
--- what the machine reads back of a whole number
-pub whole-kept : (k : ℤ → Number) (z : ℤ) (i w n : ℕ) (r : Out Lexed) → SFits w64 z → r ≡ got (made (numeral (k (to_z w64 (of_z w64 z)))) i w n) → r ≡ got (made (numeral (k z)) i w n)
-whole-kept k z i w n r f e = e ∙ ap (λ (y : ℤ). got (made (numeral (k y)) i w n)) (to_z-of_z w64 z f)
 
 -- ---- an unquoted token
 
@@ -52,18 +43,18 @@ module _ (set : Stops) (t : List ℕ) (i : ℕ) (w : Word) (is : w ≡ word set 
 
 -- ---- a quoted token
 
-module _ (t : List ℕ) (i : ℕ) (x : Answer) (is : quoted_out x ≡ quoted t i) where
-  pub closed-within : (e : ℕ) (w : Width) → i < length t → x ≡ Closed e w → e < length t
-  closed-within e w h f =
-      (from-got (EndsIn (i + 1) (length t)) (quoted t i) (record { end = e; width = w.0 }) (quoted-ends t i h) (sym is ∙ ap quoted_out f)).1
+module _ (t : List ℕ) (i : ℕ) (x : Result Closed Refused) (is : quoted_out x ≡ quoted t i) where
+  pub closed-within : (c : Closed) → i < length t → x ≡ Ok c → c.end < length t
+  closed-within c h f =
+      (from-got (EndsIn (i + 1) (length t)) (quoted t i) (quoted_is c) (quoted-ends t i h) (sym is ∙ ap quoted_out f)).1
 
-  pub quoted-closed : (e : ℕ) (w : Width) (r : Out Lexed) → x ≡ Closed e w → r ≡ got (made (string true (i + 1) e) i w.0 (e + 1)) → r ≡ quoted_at t i
+  pub quoted-closed : (c : Closed) (r : Out Lexed) → x ≡ Ok c → r ≡ got (made (string true (i + 1) c.end) i c.width.0 (c.end + 1)) → r ≡ quoted_at t i
   unfolding quoted_at
-  quoted-closed e w r f q = rw (sym is ∙ ap quoted_out f) q
+  quoted-closed c r f q = rw (sym is ∙ ap quoted_out f) q
 
-  pub quoted-refused : (n p : ℕ) → x ≡ Refused n p → no n p ≡ quoted_at t i
+  pub quoted-refused : (e : Refused) → x ≡ Err e → no (number_of e.refusal) e.place ≡ quoted_at t i
   unfolding quoted_at
-  quoted-refused n p f = rw (sym is ∙ ap quoted_out f) refl
+  quoted-refused e f = rw (sym is ∙ ap quoted_out f) refl
 
 -- ---- a token by its first byte
 

@@ -1,34 +1,11 @@
 -- One byte of rule 11, from what the code's tests and calls say of it.
 -- Assumes nothing.
-use Prim.Native.Nat.{ℕ, ◌≤◌, ◌<◌}
-use mathlib.Core.Path.{◌≡◌, refl, sym, ◌∙◌}
+use Prim.Native.Nat.{ℕ}
+use mathlib.Core.Path.{◌≡◌, refl}
 use mathlib.Core.Bool.{Bool, true, false, not, ◌||◌}
-use native.Mathlib.Omega.{arith}
 use borrow.Author.Tests.{eq-eqb, ne_eqb}
 use Rattle.form.specs.Answer.{pick}
-use Rattle.snbt_form.specs.Lexing.{Stops, Scan, among, stop_set, within_quotes, stops, marked, grown, after}
-
--- ---- a quote is open, or not
-
-pub in-single : (s : Scan) → s.single ≡ true → true ≡ within_quotes s
-in-single s e = rw e refl
-
-pub in-double : (s : Scan) → s.single ≡ false → s.double ≡ within_quotes s
-in-double s e = rw e refl
-
-module _ (set : Stops) (s : Scan) (b : ℕ) (w : Bool) (is : w ≡ within_quotes s) where
-  pub stops-quoted : w ≡ true → false ≡ stops set s b
-  stops-quoted e = rw (sym is ∙ e) refl
-
-  module _ (out : w ≡ false) where
-    pub stops-curly : 0 < s.curly → false ≡ stops set s b
-    stops-curly h = rw (sym is ∙ out, ne_eqb s.curly 0 (λ z. omega (arith, z, h))) refl
-
-    pub stops-square : s.curly ≤ 0 → 0 < s.square → false ≡ stops set s b
-    stops-square h k = rw (sym is ∙ out, eq-eqb s.curly 0 (omega arith), ne_eqb s.square 0 (λ z. omega (arith, z, k))) refl
-
-    pub stops-level : (r : Bool) → s.curly ≤ 0 → s.square ≤ 0 → r ≡ among (stop_set set) b → r ≡ stops set s b
-    stops-level r h k e = rw (sym is ∙ out, eq-eqb s.curly 0 (omega arith), eq-eqb s.square 0 (omega arith)) e
+use Rattle.snbt_form.specs.Lexing.{Scan, marked, grown, after}
 
 -- ---- the scan after a byte
 

@@ -8,37 +8,24 @@ ghost use Rattle.snbt_lexer.specs.Runs.{ordinary, run_end};
 use snbt_tokens::Stops;
 
 // ASCII whitespace; 0x0B is none (rule 10).
+#[tactic(auto, unfolding(snbt_form::specs::Lexing::among))]
 pub fn is_blank(b: u8) -> bool
     ensures { result ≡ blank b }
 {
-    match b {
-        9 | 10 | 12 | 13 | 32 => true,
-        _ => false,
-    }
+    matches!(b, 9 | 10 | 12 | 13 | 32)
 }
 
 // Whether a byte is in a set of stop characters (rule 11).
+#[tactic(auto, unfolding(snbt_form::specs::Lexing::among))]
 pub fn is_stop(set: Stops, b: u8) -> bool
     ensures { result ≡ among (stop_set (stops_is set)) b }
 {
     match set {
-        Stops::Default => match b {
-            b',' | b';' | b'[' | b']' | b'{' | b'}' => true,
-            _ => false,
-        },
+        Stops::Default => matches!(b, b',' | b';' | b'[' | b']' | b'{' | b'}'),
         Stops::Key => b == b':',
-        Stops::Value => match b {
-            b',' | b'}' => true,
-            _ => false,
-        },
-        Stops::First => match b {
-            b',' | b';' | b']' => true,
-            _ => false,
-        },
-        Stops::Later => match b {
-            b',' | b']' => true,
-            _ => false,
-        },
+        Stops::Value => matches!(b, b',' | b'}'),
+        Stops::First => matches!(b, b',' | b';' | b']'),
+        Stops::Later => matches!(b, b',' | b']'),
     }
 }
 
@@ -46,12 +33,7 @@ pub fn is_stop(set: Stops, b: u8) -> bool
 fn is_ordinary(b: u8) -> bool
     ensures { result ≡ ordinary b }
 {
-    match b {
-        45..=57 => true,
-        60..=90 => true,
-        94..=122 => true,
-        _ => false,
-    }
+    matches!(b, 45..=57 | 60..=90 | 94..=122)
 }
 
 // The first place from a place on at which no such byte stands.
@@ -59,12 +41,8 @@ pub fn run_end(text: &[u8], at: usize) -> usize
     ensures { result ≡ run_end text.now at }
 {
     let mut i = at;
-    while i < text.len() {
-        if is_ordinary(text[i]) {
-            i += 1;
-        } else {
-            return i;
-        }
+    while i < text.len() && is_ordinary(text[i]) {
+        i += 1;
     }
     i
 }
@@ -74,12 +52,8 @@ pub fn skip_blank(text: &[u8], at: usize) -> usize
     ensures { result ≡ skip text.now at }
 {
     let mut i = at;
-    while i < text.len() {
-        if is_blank(text[i]) {
-            i += 1;
-        } else {
-            return i;
-        }
+    while i < text.len() && is_blank(text[i]) {
+        i += 1;
     }
     i
 }

@@ -6,16 +6,14 @@ pub mod characters;
 pub mod words;
 
 ghost use Rattle.std.specs.Prelude.{◌≡◌, ◌+◌, ◌≤◌, ◌<◌, ◌^◌, ◌||◌, eqb, length};
-ghost use Rattle.form.specs.Answer.{got};
 ghost use Rattle.snbt_form.specs.Numbers.{is_digit};
-ghost use Rattle.snbt_form.specs.Lexing.{made, unquoted_at, quoted_at, token_by, token_at, lexed};
-ghost use Rattle.snbt_numbers.specs.Answers.{number_out};
-ghost use Rattle.snbt_tokens.specs.Answers.{token_is, lexed_out, stops_is};
-ghost use Rattle.snbt_lexer.specs.Answers.{numeral_at, PeekedIs};
+ghost use Rattle.snbt_form.specs.Lexing.{numeral, made, unquoted_at, quoted_at, token_by, token_at, lexed};
+ghost use Rattle.snbt_numbers.specs.Answers.{number_is};
+ghost use Rattle.snbt_tokens.specs.Answers.{token_is, lexed_is, lexed_out, stops_is};
+ghost use Rattle.snbt_lexer.specs.Answers.{PeekedIs};
 
+use form::refusals::{Refusal, Refused};
 use snbt_numbers::Number;
-use snbt_quotes::Quoted;
-use snbt_text::Text;
 use snbt_tokens::{Index, Lexed, Stops, Token, TokenData, Width};
 
 // The byte that the next token begins with, and that token's index.
@@ -27,7 +25,7 @@ pub struct Peeked {
 
 // A token with its index and its width, and the next place (rule 10).
 fn found(token: Token, index: Index, char_width: Width, next: usize) -> Lexed
-    ensures { lexed_out result ≡ got (made (token_is token) index.0 char_width.0 next) }
+    ensures { lexed_is result ≡ made (token_is token) index.0 char_width.0 next }
 {
     Lexed::Found {
         data: TokenData {
@@ -42,23 +40,22 @@ fn found(token: Token, index: Index, char_width: Width, next: usize) -> Lexed
 // A sign: a token of one character at an index (rule 10).
 fn sign(token: Token, index: Index) -> Lexed
     requires { index.0 + 1 < 2 ^ 64 }
-    ensures { lexed_out result ≡ got (made (token_is token) index.0 1 (index.0 + 1)) }
+    ensures { lexed_is result ≡ made (token_is token) index.0 1 (index.0 + 1) }
 {
     found(token, index, Width(1), index.0 + 1)
 }
 
-// A number's token with its index and its width, or its refusal (rule 13).
-fn numeral_found(n: Number, index: Index, char_width: Width, next: usize) -> Lexed
-    ensures { lexed_out result ≡ numeral_at (number_out n) index.0 char_width.0 next }
+// A number's token (rule 13).
+fn numeral_of(n: Number) -> Token
+    ensures { token_is result ≡ numeral (number_is n) }
 {
     match n {
-        Number::Byte(z) => found(Token::Byte(z), index, char_width, next),
-        Number::Short(z) => found(Token::Short(z), index, char_width, next),
-        Number::Int(z) => found(Token::Int(z), index, char_width, next),
-        Number::Long(z) => found(Token::Long(z), index, char_width, next),
-        Number::Float(x) => found(Token::Float(x), index, char_width, next),
-        Number::Double(x) => found(Token::Double(x), index, char_width, next),
-        Number::Refused { number, place } => Lexed::Refused { number, place },
+        Number::Byte(z) => Token::Byte(z),
+        Number::Short(z) => Token::Short(z),
+        Number::Int(z) => Token::Int(z),
+        Number::Long(z) => Token::Long(z),
+        Number::Float(x) => Token::Float(x),
+        Number::Double(x) => Token::Double(x),
     }
 }
 
@@ -66,17 +63,11 @@ fn numeral_found(n: Number, index: Index, char_width: Width, next: usize) -> Lex
 fn opens_number(b: u8) -> bool
     ensures { result ≡ (eqb b 45 || is_digit b) }
 {
-    if b == 45 {
-        return true;
-    }
-    if b < 48 {
-        return false;
-    }
-    b <= 57
+    matches!(b, b'-' | b'0'..=b'9')
 }
 
 // The unquoted token at i: a number or a string (rules 11 and 13).
-fn unquoted_at(text: &[u8], i: usize, set: Stops) -> Lexed
+fn unquoted_at(text: &[u8], i: usize, set: Stops) -> Result<Lexed, Refused>
     requires { i < length text.now }
     ensures { lexed_out result ≡ unquoted_at (stops_is set) text.now i }
 {
@@ -84,53 +75,45 @@ fn unquoted_at(text: &[u8], i: usize, set: Stops) -> Lexed
     let end = w.end;
     let width = w.width;
     if opens_number(text[i]) {
-        return numeral_found(
-            snbt_numbers::number_at(text, i, end),
-            Index(i),
-            width,
-            w.next,
-        );
+        let token = numeral_of(snbt_numbers::number_at(text, i, end)?);
+        return Ok(found(token, Index(i), width, w.next));
     }
     let token = Token::Str {
         quoted: false,
         start: i,
         end,
     };
-    found(token, Index(i), width, w.next)
+    Ok(found(token, Index(i), width, w.next))
 }
 
 // The quoted token at i, its content between the quotes (rule 12).
-fn quoted_found(text: &[u8], i: usize) -> Lexed
+fn quoted_found(text: &[u8], i: usize) -> Result<Lexed, Refused>
     requires { i < length text.now }
     ensures { lexed_out result ≡ quoted_at text.now i }
 {
-    match snbt_quotes::quoted_at(text, i) {
-        Quoted::Closed { end, width } => {
-            let token = Token::Str {
-                quoted: true,
-                start: i + 1,
-                end,
-            };
-            found(token, Index(i), width, end + 1)
-        }
-        Quoted::Refused { number, place } => Lexed::Refused { number, place },
-    }
+    let q = snbt_quotes::quoted_at(text, i)?;
+    let token = Token::Str {
+        quoted: true,
+        start: i + 1,
+        end: q.end,
+    };
+    Ok(found(token, Index(i), q.width, q.end + 1))
 }
 
 // The token at i, which is not blank, by its first byte (rule 10).
-fn token_by(text: &[u8], i: usize, set: Stops, b: u8) -> Lexed
+fn token_by(text: &[u8], i: usize, set: Stops, b: u8) -> Result<Lexed, Refused>
     requires { i < length text.now }
     ensures { lexed_out result ≡ token_by (stops_is set) text.now i b }
 {
     match b {
-        b',' => sign(Token::Comma, Index(i)),
-        b':' => sign(Token::Colon, Index(i)),
-        b';' => sign(Token::Semicolon, Index(i)),
-        b'[' => sign(Token::OpenSquare, Index(i)),
-        b']' => sign(Token::ClosedSquare, Index(i)),
-        b'{' => sign(Token::OpenCurly, Index(i)),
-        b'}' => sign(Token::ClosedCurly, Index(i)),
-        34 | 39 => quoted_found(text, i),
+        b',' => Ok(sign(Token::Comma, Index(i))),
+        b':' => Ok(sign(Token::Colon, Index(i))),
+        b';' => Ok(sign(Token::Semicolon, Index(i))),
+        b'[' => Ok(sign(Token::OpenSquare, Index(i))),
+        b']' => Ok(sign(Token::ClosedSquare, Index(i))),
+        b'{' => Ok(sign(Token::OpenCurly, Index(i))),
+        b'}' => Ok(sign(Token::ClosedCurly, Index(i))),
+        b'"' | b'\'' => quoted_found(text, i),
         _ => unquoted_at(text, i, set),
     }
 }
@@ -151,31 +134,29 @@ pub fn peek_at(text: &[u8], start: usize) -> Peeked
 }
 
 // The next token from a place on, or the end, in a text that was judged (rules 10 to 13): the parser asks this.
-pub fn token_at(text: &[u8], start: usize, set: Stops) -> Lexed
+pub fn token_at(text: &[u8], start: usize, set: Stops) -> Result<Lexed, Refused>
     requires { start ≤ length text.now }
     ensures { lexed_out result ≡ token_at (stops_is set) text.now start }
 {
     let i = characters::skip_blank(text, start);
     if text.len() <= i {
-        return Lexed::Ended { place: text.len() };
+        return Ok(Lexed::Ended { place: text.len() });
     }
     token_by(text, i, set, text[i])
 }
 
 // The next token of a text and a place that nobody has judged: 9, then 15, then the token, its refusal or the end (rule 10).
-pub fn token(text: &[u8], start: usize, set: Stops) -> Lexed
+pub fn token(text: &[u8], start: usize, set: Stops) -> Result<Lexed, Refused>
     ensures { lexed_out result ≡ lexed text.now start (stops_is set) }
 {
-    match snbt_text::judged_text(text) {
-        Text::Refused { number } => Lexed::Refused { number, place: 0 },
-        Text::Fine => {
-            if snbt_text::on_character(text, start) {
-                return token_at(text, start, set);
-            }
-            Lexed::Refused {
-                number: form::BAD_TEXT,
-                place: 0,
-            }
-        }
+    if let Err(refusal) = snbt_text::judged_text(text) {
+        return Err(Refused { refusal, place: 0 });
     }
+    if snbt_text::on_character(text, start) {
+        return token_at(text, start, set);
+    }
+    Err(Refused {
+        refusal: Refusal::BadText,
+        place: 0,
+    })
 }

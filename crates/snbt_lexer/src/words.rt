@@ -34,39 +34,21 @@ pub struct Word {
 fn in_quotes(st: State) -> bool
     ensures { result ≡ within_quotes (scan_of st) }
 {
-    if st.single {
-        return true;
-    }
-    st.double
+    st.single || st.double
 }
 
 // Whether a byte ends the token: a stop character at level 0 outside quotes, also behind a backslash (rule 11).
 fn ends(st: State, set: Stops, b: u8) -> bool
     ensures { result ≡ stops (stops_is set) (scan_of st) b }
 {
-    if in_quotes(st) {
-        return false;
-    }
-    if 0 < st.curly {
-        return false;
-    }
-    if 0 < st.square {
-        return false;
-    }
-    is_stop(set, b)
+    !in_quotes(st) && st.curly == 0 && st.square == 0 && is_stop(set, b)
 }
 
 // A quote opens or closes, unless a backslash stands before it or the other sort is open (rule 11).
 fn toggled(own: bool, escape: bool, other: bool) -> bool
     ensures { result ≡ pick (escape || other) own (not own) }
 {
-    if escape {
-        return own;
-    }
-    if other {
-        return own;
-    }
-    !own
+    if escape || other { own } else { !own }
 }
 
 // A level after a byte: one up at the opening brace, one down at the closing one, never below 0; unchanged within quotes (rule 11).
@@ -78,15 +60,12 @@ fn level(within: bool, opening: u8, closing: u8, b: u8, n: usize) -> usize
         return n;
     }
     if b == opening {
-        return n + 1;
+        n + 1
+    } else if b == closing {
+        n.saturating_sub(1)
+    } else {
+        n
     }
-    if b != closing {
-        return n;
-    }
-    if n == 0 {
-        return 0;
-    }
-    n - 1
 }
 
 // The state after a byte at i that is neither backslash nor quote: one that is not blank extends the token (rule 11).
@@ -114,16 +93,16 @@ fn after_byte(st: State, b: u8, i: usize) -> State
     ensures { scan_of result ≡ after (scan_of st) b i }
 {
     let mut n = st;
-    if b == 92 {
+    if b == b'\\' {
         n.escape = true;
         return n;
     }
-    if b == 39 {
+    if b == b'\'' {
         n.single = toggled(st.single, st.escape, st.double);
         n.escape = false;
         return n;
     }
-    if b == 34 {
+    if b == b'"' {
         n.double = toggled(st.double, st.escape, st.single);
         n.escape = false;
         return n;
@@ -171,6 +150,7 @@ fn word_from(text: &[u8], start: usize, set: Stops) -> Word
         end: i,
         width: Width(1),
     };
+    // A `while`: a run is passed at once.
     while i < text.len() {
         let j = run_end(text, i);
         if i < j {
@@ -194,14 +174,12 @@ pub fn word_at(text: &[u8], start: usize, set: Stops) -> Word
     ensures { word_is result ≡ word (stops_is set) text.now start }
 {
     let end = run_end(text, start + 1);
-    if end < text.len() {
-        if is_stop(set, text[end]) {
-            return Word {
-                end,
-                width: Width(end - start),
-                next: end,
-            };
-        }
+    if end < text.len() && is_stop(set, text[end]) {
+        return Word {
+            end,
+            width: Width(end - start),
+            next: end,
+        };
     }
     word_from(text, start, set)
 }

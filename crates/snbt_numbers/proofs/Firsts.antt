@@ -15,7 +15,7 @@ use Rattle.form.proofs.Picks.{or_assoc}
 use Rattle.snbt_form.specs.Numbers.{has, before, behind, is_point}
 use Rattle.snbt_numbers.specs.Rows.{either, FirstAt}
 use Rattle.snbt_numbers.proofs.Rows.{true-false}
-use Rattle.snbt_numbers.proofs.Slices.{slice_first, slice-take, slice-drop, slice-split}
+use Rattle.snbt_numbers.proofs.Slices.{slice-none, slice_first, slice-take, slice-drop, slice-split}
 
 -- ---- lists
 
@@ -169,3 +169,31 @@ is_y x y b e = ap (λ (t : Bool). eqb b x || t) (eq-eqb b y e) ∙ or-true (eqb 
 
 pub neither : (x y b : ℕ) → (b ≡ x → ⊥) → (b ≡ y → ⊥) → either x y b ≡ false
 neither x y b n m = ap (λ (t : Bool). t || eqb b y) (ne_eqb b x n) ∙ ne_eqb b y m
+
+-- ---- the loop that looks for it
+
+-- how many bytes stand before the first from i on
+abbrev pub ahead : ℕ → ℕ → List ℕ → ℕ → ℕ → ℕ
+ahead x y s i to = length (before (either x y) (slice i to s))
+
+module _ (x y : ℕ) (s : List ℕ) (at i to : ℕ) (low : at ≤ i) (k : to ≤ length s) (e : i + ahead x y s i to ≡ at + ahead x y s at to) where
+  -- the byte at i is the first
+  pub first-hit : i < to → either x y (get_or s i 0) ≡ true → FirstAt x y s at to i
+  first-hit h t =
+      let z : ahead x y s i to ≡ 0 =
+      ap (λ (l : List ℕ). length (before (either x y) l)) (slice_first i to s h k) ∙ first-here (either x y) (get_or s i 0) (slice (i + 1) to s) t in
+      record { is = omega (arith, z, e); low = low; high = omega arith }
+
+  -- or the next ones are looked at
+  pub first-next : i < to → either x y (get_or s i 0) ≡ false → i + 1 + ahead x y s (i + 1) to ≡ at + ahead x y s at to
+  first-next h t =
+      let z : ahead x y s i to ≡ suc (ahead x y s (i + 1) to) =
+      ap (λ (l : List ℕ). length (before (either x y) l)) (slice_first i to s h k) ∙ first-later (either x y) (get_or s i 0) (slice (i + 1) to s) t in
+      omega (arith, z, e)
+
+  -- or there is none left
+  pub first-end : i ≡ to → FirstAt x y s at to to
+  first-end h =
+      let z : ahead x y s i to ≡ 0 =
+      ap (λ (l : List ℕ). length (before (either x y) l)) (slice-none i to s (omega (arith, h))) ∙ first-none (either x y) in
+      record { is = omega (arith, z, e, h); low = omega (arith, low, h); high = omega arith }

@@ -16,7 +16,7 @@ use Rattle.snbt_form.specs.Values.{signed, scaled}
 use Rattle.snbt_form.specs.Numbers.{is_digit, is_point, has, negative, unsigned, digits, worth, decimal_of, decimal, real_number, decimal_number}
 use Rattle.snbt_numbers.specs.Rows.{cap, digits_of, RunAt, HeadAt, value_in, ending_of}
 use Rattle.snbt_numbers.specs.declared.runs.Row.{Row}
-use Rattle.snbt_numbers.specs.declared.digits.Digits.TheVariants.{Value}
+use Rattle.std.specs.Prelude.{Some}
 use Rattle.snbt_numbers.specs.declared.decimals.Ending.{Ending}
 use Rattle.snbt_numbers.specs.declared.decimals.Ending.TheVariants.{Float as EndsFloat, Double as EndsDouble, Digit as EndsDigit}
 use Rattle.snbt_numbers.proofs.Slices.{slice_first}
@@ -28,8 +28,8 @@ use Rattle.snbt_numbers.proofs.Grammar.{with-point, ended, decimal-number}
 use Rattle.snbt_numbers.proofs.OnePass.{ten-most, other, digits-lack, last-digit, run-no-point}
 
 -- a row of few digits, counted
-row-counted : (n v : ℕ) (l : List ℕ) → digits l ≡ true → v ≡ worth n l → v < 10 ^ 18 → Value v ≡ digits_of n l
-row-counted n v l d e h = let small : v ≡ min v cap = omega arith in rw (d, ← e) (ap Value small)
+row-counted : (n v : ℕ) (l : List ℕ) → digits l ≡ true → v ≡ worth n l → v < 10 ^ 18 → Some v ≡ digits_of n l
+row-counted n v l d e h = let small : v ≡ min v cap = omega arith in rw (d, ← e) (ap Some small)
 
 -- the ending of a token whose last byte is a digit
 ends-digit : (b : ℕ) → is_digit b ≡ true → EndsDigit ≡ ending_of b
@@ -66,7 +66,7 @@ module _ {s : List ℕ} {start end : ℕ} {b : Bool} {v at : ℕ} (k : end ≤ l
 
     -- the digits behind it
     module _ {r : Row} (q : RunAt s v (at + 1) end r) (g : at + 1 < r.end) (room : length s < 2 ^ 63) where
-      counted : Value r.value ≡ digits_of 0 (slice from at s ++ slice (at + 1) r.end s)
+      counted : Some r.value ≡ digits_of 0 (slice from at s ++ slice (at + 1) r.end s)
       counted =
           let first = row-counted 0 v (slice from at s) head.run.row head.run.is (ten-most v (18 - (end - at)) head.run.small (omega arith)) in
           row-counted v r.value (slice (at + 1) r.end s) q.row q.is (ten-most r.value (18 - (end - r.end)) q.small (omega arith))

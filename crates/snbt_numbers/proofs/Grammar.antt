@@ -18,10 +18,9 @@ use Rattle.form.proofs.Picks.{lt-or}
 use Rattle.snbt_form.specs.Values.{signed, scaled}
 use Rattle.snbt_form.specs.Numbers.{Number, is_digit, is_point, is_letter, empty, has, before, behind, digits, worth, whole_number, power, exponent, decimal_by, decimal_of, decimal, real_number}
 use Rattle.snbt_form.specs.Numbers.{decimal_number, number}
-use Rattle.snbt_numbers.specs.Rows.{cap, digits_of, either, FirstAt, counted, power_of, exponent_of, combine, value_in, ending_of}
-use Rattle.snbt_numbers.specs.declared.digits.Digits.TheVariants.{Value, Bad}
+use Rattle.snbt_numbers.specs.Rows.{cap, digits_of, either, FirstAt, powered, counted, power_of, exponent_of, combine, value_in, ending_of}
+use Rattle.std.specs.Prelude.{Option, Some, None}
 use Rattle.snbt_numbers.specs.declared.decimals.Exponent.{Exponent}
-use Rattle.snbt_numbers.specs.declared.decimals.Exponent.TheVariants.{Power, Wrong}
 use Rattle.snbt_numbers.specs.declared.decimals.Ending.{Ending}
 use Rattle.snbt_numbers.specs.declared.decimals.Ending.TheVariants.{Float as EndsFloat, Double as EndsDouble, Digit as EndsDigit, Other as EndsOther}
 use Rattle.snbt_numbers.proofs.Slices.{slice-none, slice-from}
@@ -35,34 +34,34 @@ module _ (s : Bool) (w n place : ℕ) (small : n < 2 ^ 63) where
   abbrev valued : ℤ → Out Float
   valued e = scaled s w (e -ℤ pos n) place
 
-  power-same : (d : Bool) (l : List ℕ) → combine s n (Value w) (power_of d l) place ≡ (power d l place >>= valued)
+  power-same : (d : Bool) (l : List ℕ) → combine s n (Some w) (power_of d l) place ≡ (power d l place >>= valued)
   power-same d l = go (empty l) (digits l)
     where
-      go : (x y : Bool) → combine s n (Value w) (pick x Wrong (counted d (pick y (Value (min (worth 0 l) cap)) Bad))) place
+      go : (x y : Bool) → combine s n (Some w) (pick x None (counted d (pick y (Some (min (worth 0 l) cap)) None))) place
           ≡ ((guard (not x && y) bad_number place >> got (signed d (worth 0 l))) >>= valued)
       go true y = refl
       go false true = exponent-capped s w d (worth 0 l) n place small
       go false false = refl
 
-  exponent_same : (l : List ℕ) → combine s n (Value w) (exponent_of l) place ≡ (exponent l place >>= valued)
+  exponent_same : (l : List ℕ) → combine s n (Some w) (exponent_of l) place ≡ (exponent l place >>= valued)
   exponent_same [] = refl
   exponent_same (b ∷ l) = go (eqb b 45) (eqb b 43)
     where
-      go : (x y : Bool) → combine s n (Value w) (pick x (power_of true l) (pick y (power_of false l) (power_of false (b ∷ l)))) place
+      go : (x y : Bool) → combine s n (Some w) (pick x (power_of true l) (pick y (power_of false l) (power_of false (b ∷ l)))) place
           ≡ (pick x (power true l place) (pick y (power false l place) (power false (b ∷ l) place)) >>= valued)
       go true y = power-same true l
       go false true = power-same false l
       go false false = power-same false (b ∷ l)
 
   -- with a letter, or without
-  either_same : (x : Bool) (l : List ℕ) → combine s n (Value w) (pick (not x) (Power false 0) (exponent_of l)) place ≡ (pick x (exponent l place) (got (pos 0)) >>= valued)
+  either_same : (x : Bool) (l : List ℕ) → combine s n (Some w) (pick (not x) (Some (powered false 0)) (exponent_of l)) place ≡ (pick x (exponent l place) (got (pos 0)) >>= valued)
   either_same true l = exponent_same l
   either_same false l = refl
 
 -- digits that were counted
-counted_same : (s : Bool) (w n place : ℕ) (x : Exponent) → combine s n (Value (min w cap)) x place ≡ combine s n (Value w) x place
-counted_same s w n place Wrong = refl
-counted_same s w n place (Power d e) = digits-capped s w (signed d e -ℤ pos n) place
+counted_same : (s : Bool) (w n place : ℕ) (x : Option Exponent) → combine s n (Some (min w cap)) x place ≡ combine s n (Some w) x place
+counted_same s w n place None = refl
+counted_same s w n place (Some x) = digits-capped s w (signed x.down x.e -ℤ pos n) place
 
 -- ---- the digits around the point
 
@@ -72,15 +71,15 @@ empty-length (b ∷ l) = sym (ne_eqb (suc (length l)) 0 (λ e. omega arith))
 
 -- the digits a, b and the exponent behind them, as the code has them and as the definition has them
 rows_same : (s : Bool) (a b l : List ℕ) (h : Bool) (n place : ℕ) → n ≡ length b → n < 2 ^ 63
-    → pick (empty (a ++ b)) (no bad_number place) (combine s n (digits_of 0 (a ++ b)) (pick (not h) (Power false 0) (exponent_of l)) place)
+    → pick (empty (a ++ b)) (no bad_number place) (combine s n (digits_of 0 (a ++ b)) (pick (not h) (Some (powered false 0)) (exponent_of l)) place)
     ≡ decimal_by s a b (pick h (exponent l place) (got (pos 0))) place
 rows_same s a b l h n place e g = go (empty (a ++ b)) (digits (a ++ b))
   where
-    go : (x y : Bool) → pick x (no bad_number place) (combine s n (pick y (Value (min (worth 0 (a ++ b)) cap)) Bad) (pick (not h) (Power false 0) (exponent_of l)) place)
+    go : (x y : Bool) → pick x (no bad_number place) (combine s n (pick y (Some (min (worth 0 (a ++ b)) cap)) None) (pick (not h) (Some (powered false 0)) (exponent_of l)) place)
         ≡ (guard (not x && y) bad_number place >> (pick h (exponent l place) (got (pos 0)) >>= (λ (z : ℤ). scaled s (worth 0 (a ++ b)) (z -ℤ pos (length b)) place)))
     go true y = refl
     go false true =
-        counted_same s (worth 0 (a ++ b)) n place (pick (not h) (Power false 0) (exponent_of l))
+        counted_same s (worth 0 (a ++ b)) n place (pick (not h) (Some (powered false 0)) (exponent_of l))
         ∙ either_same s (worth 0 (a ++ b)) n place g h l
         ∙ rw e refl
     go false false = refl

@@ -7,6 +7,7 @@ use Prim.Native.Nat.{ℕ}
 use lib.Dec.{T}
 use lib.IntN.{pos}
 use lib.Ieee.{Float, fin, binary64, is_nan}
+use Rattle.std.specs.Prelude.{Ok}
 use Rattle.form.specs.Answer.{got}
 use Rattle.snbt_floats.proofs.Rounded.{rounded-no-nan}
 use Rattle.snbt_form.specs.Numbers.{Number, byte, short, int, long, float, double, no_nan, number}
@@ -14,7 +15,7 @@ use Rattle.snbt_form.proofs.Gives.{gives-it}
 use Rattle.snbt_form.proofs.Carried.{Carries, number-carries}
 use Rattle.snbt_numbers.specs.Answers.{number_out, quiet}
 use Rattle.snbt_numbers.specs.declared.Number.{Number as Answer}
-use Rattle.snbt_numbers.specs.declared.Number.TheVariants.{Byte, Short, Int, Long, Float as Float64, Double as Double64, Refused}
+use Rattle.snbt_numbers.specs.declared.Number.TheVariants.{Byte, Short, Int, Long, Float as Float64, Double as Double64}
 
 -- A double that is no NaN.
 abbrev real : Float → Type 0
@@ -38,11 +39,10 @@ pub number-no-nan : (l : List ℕ) (place : ℕ) (n : Number) → number l place
 number-no-nan l place n e = carries-real n (gives-it e (number-carries real (rounded-no-nan binary64) zero-real l place))
 
 -- So does the code's number that meets the definition.
-pub number-quiet : (r : Answer) (l : List ℕ) (place : ℕ) → number_out r ≡ number l place → quiet r
+pub number-quiet : (r : Answer) (l : List ℕ) (place : ℕ) → number_out (Ok r) ≡ number l place → quiet r
 number-quiet (Byte z) l place e = tt
 number-quiet (Short z) l place e = tt
 number-quiet (Int z) l place e = tt
 number-quiet (Long z) l place e = tt
 number-quiet (Float64 x) l place e = number-no-nan l place (float x) (sym e)
 number-quiet (Double64 x) l place e = number-no-nan l place (double x) (sym e)
-number-quiet (Refused n p) l place e = tt

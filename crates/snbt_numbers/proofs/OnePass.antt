@@ -19,7 +19,7 @@ use Rattle.snbt_form.specs.Values.{signed}
 use Rattle.snbt_form.specs.Numbers.{byte, short, int, long, float, double, is_digit, is_point, is_letter, is_suffix, has, before, negative, digits, worth, suffixed, number}
 use Rattle.snbt_numbers.specs.Rows.{whole_digits, either, not_digit, RunAt}
 use Rattle.snbt_numbers.specs.declared.runs.Row.{Row}
-use Rattle.snbt_numbers.specs.declared.digits.Digits.TheVariants.{Value}
+use Rattle.std.specs.Prelude.{Some}
 use Rattle.snbt_numbers.proofs.Slices.{slice-none, slice_first, slice-one, slice-last}
 use Rattle.snbt_numbers.proofs.Rows.{true-false, digits_append, worth-append, whole_is}
 use Rattle.snbt_numbers.proofs.Firsts.{has-behind, place_found, place-lacks, the-point}
@@ -178,7 +178,7 @@ module _ {s : List ℕ} {start end from : ℕ} {b : Bool} (t : Begins s start en
     pub run_small : leb r.value (pick b (2 ^ 63) (2 ^ 63 - 1)) ≡ true
     run_small = in-range b r.value (ten-most r.value (18 - (end - r.end)) p.small (omega arith))
 
-    run-whole : from < r.end → Value r.value ≡ whole_digits b (slice from r.end s)
+    run-whole : from < r.end → Some r.value ≡ whole_digits b (slice from r.end s)
     run-whole g =
         whole_is b (slice from r.end s) r.value (some_bytes from r.end s g (le_trans p.high t.within)) p.row
         (ap (λ (n : ℕ). leb n (pick b (2 ^ 63) (2 ^ 63 - 1))) (sym p.is) ∙ run_small) p.is
@@ -191,7 +191,7 @@ module _ {s : List ℕ} {start end from : ℕ} {b : Bool} (t : Begins s start en
         let some : from < end = omega arith in
         let digit : is_digit last ≡ true = last-digit from end s some k (ap (λ (n : ℕ). digits (slice from n s)) (sym q) ∙ p.row) in
         ap got (sym (plain last (signed b r.value) (digit-no-suffix last digit)))
-        ∙ whole-number start end end from start b (Value r.value) s (omega (arith, from_le.0)) k
+        ∙ whole-number start end end from start b (Some r.value) s (omega (arith, from_le.0)) k
         (ap (λ (x : Bool). pick x (end - 1) end) (sym (digit-no-suffix last digit))) t.sign t.first
         (run-whole g ∙ ap (λ (n : ℕ). whole_digits b (slice from n s)) q)
         ∙ number-without start end start s t.order k (ap (λ (n : ℕ). has is_point (slice start n s)) (sym q) ∙ run-no-point)
@@ -209,6 +209,6 @@ module _ {s : List ℕ} {start end from : ℕ} {b : Bool} (t : Begins s start en
         let alone : has is_point (slice to end s) ≡ false =
         ap (λ (n : ℕ). has is_point (slice to n s)) (sym q) ∙ ap (has is_point) (slice-one to s room) ∙ ap (λ (y : Bool). y || false) (not-it is_suffix (get_or s to 0) 46 x refl) in
         ap (λ (n : ℕ). got (suffixed (get_or s n 0) (signed b r.value))) e
-        ∙ whole-number start end to from start b (Value r.value) s (omega arith) k
+        ∙ whole-number start end to from start b (Some r.value) s (omega arith) k
         (e ∙ ap (λ (y : Bool). pick y (end - 1) end) (sym (ap (λ (n : ℕ). is_suffix (get_or s n 0)) (sym e) ∙ x))) (t.sign ∙ sign-front start to end s low (omega arith) k) t.first (run-whole g)
         ∙ number-without start end start s t.order k (has-behind is_point start to end false s (omega arith) (omega arith) k run-no-point alone)

@@ -16,8 +16,7 @@ use Rattle.form.proofs.Picks.{lt-or}
 use Rattle.snbt_form.specs.Values.{signed}
 use Rattle.snbt_form.specs.Numbers.{Number, is_suffix, empty, last_of, but_last, negative, unsigned, digits, worth, whole_of, suffixed, stem, whole_number}
 use Rattle.snbt_numbers.specs.Rows.{whole_digits}
-use Rattle.snbt_numbers.specs.declared.digits.Digits.{Digits}
-use Rattle.snbt_numbers.specs.declared.digits.Digits.TheVariants.{Value, Bad}
+use Rattle.std.specs.Prelude.{Option, Some, None}
 use Rattle.snbt_numbers.proofs.Rows.{true-false}
 use Rattle.snbt_numbers.proofs.Slices.{slice-none, slice_first, slice-take}
 
@@ -92,25 +91,25 @@ pub some_bytes : (f t : ℕ) (s : List ℕ) → f < t → t ≤ length s → emp
 some_bytes f t s h k = ap empty (slice_first f t s h k)
 
 -- a counted magnitude as the definition's whole number
-unfoldable whole_out : Bool → Digits → ℕ → Out ℤ
-whole_out s (Value m) place = got (signed s m)
-whole_out s Bad place = no bad_number place
+unfoldable whole_out : Bool → Option ℕ → ℕ → Out ℤ
+whole_out s (Some m) place = got (signed s m)
+whole_out s None place = no bad_number place
 
 whole_same : (s : Bool) (l : List ℕ) (place : ℕ) → whole_of s l place ≡ whole_out s (whole_digits s l) place
 unfolding whole_of whole_out
 whole_same s l place = go (not (empty l) && digits l) (leb (worth 0 l) (pick s (2 ^ 63) (2 ^ 63 - 1)))
   where
-    go : (x y : Bool) → (guard x bad_number place >> (guard y bad_number place >> got (signed s (worth 0 l)))) ≡ whole_out s (pick x (pick y (Value (worth 0 l)) Bad) Bad) place
+    go : (x y : Bool) → (guard x bad_number place >> (guard y bad_number place >> got (signed s (worth 0 l)))) ≡ whole_out s (pick x (pick y (Some (worth 0 l)) None) None) place
     go true true = refl
     go true false = refl
     go false y = refl
 
 -- the answer by the last byte, the sign and the counted magnitude
-abbrev pub answered : ℕ → Bool → Digits → ℕ → Out Number
-answered last s (Value m) place = got (suffixed last (signed s m))
-answered last s Bad place = no bad_number place
+abbrev pub answered : ℕ → Bool → Option ℕ → ℕ → Out Number
+answered last s (Some m) place = got (suffixed last (signed s m))
+answered last s None place = no bad_number place
 
-pub whole-number : (f t to from place : ℕ) (b : Bool) (d : Digits) (s : List ℕ) → f < t → t ≤ length s
+pub whole-number : (f t to from place : ℕ) (b : Bool) (d : Option ℕ) (s : List ℕ) → f < t → t ≤ length s
     → to ≡ pick (is_suffix (get_or s (t - 1) 0)) (t - 1) t
     → b ≡ negative (slice f to s)
     → from ≡ pick b (f + 1) f
@@ -124,9 +123,9 @@ whole-number f t to from place b d s h k et eb ef ed =
     let bytes : unsigned (slice f to s) ≡ slice from to s = unsigned-part f to from s low high eb ef in
     rw (stem-part f t to s h k et, bytes, ← eb, whole_same b (slice from to s) place, ← ed, last_byte f t s h k) (out d)
   where
-    out : (d : Digits) → answered (get_or s (t - 1) 0) b d place ≡ (whole_out b d place >>= (λ (z : ℤ). got (suffixed (get_or s (t - 1) 0) z)))
-    out (Value m) = refl
-    out Bad = refl
+    out : (d : Option ℕ) → answered (get_or s (t - 1) 0) b d place ≡ (whole_out b d place >>= (λ (z : ℤ). got (suffixed (get_or s (t - 1) 0) z)))
+    out (Some m) = refl
+    out None = refl
 
 -- a token of no byte
 pub no_whole : (f t place : ℕ) (s : List ℕ) → t ≤ f → no bad_number place ≡ whole_number (slice f t s) place

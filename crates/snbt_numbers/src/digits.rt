@@ -6,13 +6,6 @@ ghost use Rattle.form.specs.Answer.{pick};
 ghost use Rattle.snbt_form.specs.Numbers.{negative};
 ghost use Rattle.snbt_numbers.specs.Rows.{digits_of};
 
-// The number of a row of digits, or that a byte of it is no digit.
-#[derive(Drop)]
-pub enum Digits {
-    Value(u64),
-    Bad,
-}
-
 // The number with one digit more behind it (rule 13), up to nineteen nines.
 fn next(n: u64, b: u8) -> u64
     requires { (48 ≤ b) × (b ≤ 57) }
@@ -24,25 +17,20 @@ fn next(n: u64, b: u8) -> u64
     n * 10 + (b - 48) as u64
 }
 
-// The bytes from at up to to as digits behind those of first (rule 13).
-pub fn digits_from(text: &[u8], first: u64, at: usize, to: usize) -> Digits
+// The bytes from at up to to as digits behind those of first (rule 13). None: a byte of them is no digit.
+pub fn digits_from(text: &[u8], first: u64, at: usize, to: usize) -> Option<u64>
     requires { (first ≤ 9999999999999999999) × (at ≤ to) × (to ≤ length text.now) }
     ensures { result ≡ digits_of first (slice at to text.now) }
 {
     let mut n = first;
-    let mut i = at;
-    while i < to {
+    for i in at..to {
         let b = text[i];
-        if b < 48 {
-            return Digits::Bad;
-        }
-        if 57 < b {
-            return Digits::Bad;
+        if b < 48 || 57 < b {
+            return None;
         }
         n = next(n, b);
-        i += 1;
     }
-    Digits::Value(n)
+    Some(n)
 }
 
 // Whether a minus stands first (rule 13).
@@ -50,10 +38,7 @@ pub fn minus_at(text: &[u8], at: usize, to: usize) -> bool
     requires { (at ≤ to) × (to ≤ length text.now) }
     ensures { result ≡ negative (slice at to text.now) }
 {
-    if to <= at {
-        return false;
-    }
-    text[at] == 45
+    at < to && text[at] == b'-'
 }
 
 // Where the digits start: behind the minus, if there is one (rule 13).

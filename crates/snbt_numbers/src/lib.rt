@@ -13,8 +13,10 @@ ghost use Rattle.snbt_form.specs.Numbers.{is_point, has, number};
 ghost use Rattle.snbt_numbers.specs.Answers.{number_out};
 ghost use Rattle.snbt_numbers.specs.Rows.{HeadAt};
 
-// A number token, or the number and the place of its refusal.
-#[derive(Drop)]
+use form::refusals::Refused;
+
+// A number token.
+#[derive(Clone, Copy)]
 pub enum Number {
     Byte(i64),
     Short(i64),
@@ -22,12 +24,11 @@ pub enum Number {
     Long(i64),
     Float(f64),
     Double(f64),
-    Refused { number: u8, place: usize },
 }
 
 // The number of the bytes from start up to end (rule 13); a refusal's place is the token's start. A number of up to 18
 // digits and without an exponent is read in one pass.
-pub fn number_at(text: &[u8], start: usize, end: usize) -> Number
+pub fn number_at(text: &[u8], start: usize, end: usize) -> Result<Number, Refused>
     requires { (start ≤ end) × (end ≤ length text.now) }
     ensures { number_out result ≡ number (take (end - start) (drop start text.now)) start }
 {
@@ -43,12 +44,12 @@ pub fn number_at(text: &[u8], start: usize, end: usize) -> Number
         return tail_number(text, negative, value, start, to, end);
     }
     if to == end {
-        return Number::Int(wholes::signed_i64(negative, value));
+        return Ok(Number::Int(wholes::signed_i64(negative, value)));
     }
     if to + 1 == end {
         let last = text[to];
         if wholes::is_suffix(last) {
-            return wholes::suffixed_number(last, negative, value);
+            return Ok(wholes::suffixed_number(last, negative, value));
         }
     }
     tail_number(text, negative, value, start, to, end)
@@ -62,7 +63,7 @@ fn tail_number(
     start: usize,
     at: usize,
     end: usize,
-) -> Number
+) -> Result<Number, Refused>
     requires { (end ≤ length text.now) × HeadAt text.now start end negative value at }
     ensures { number_out result ≡ number (take (end - start) (drop start text.now)) start }
 {
@@ -76,7 +77,7 @@ fn tail_number(
 }
 
 // The number of any token (rule 13), whose point, if it has one, is looked for from at on.
-fn any_number(text: &[u8], start: usize, at: usize, end: usize) -> Number
+fn any_number(text: &[u8], start: usize, at: usize, end: usize) -> Result<Number, Refused>
     requires { (start ≤ at) × (at ≤ end) × (end ≤ length text.now) × (has is_point (slice start at text.now) ≡ false) }
     ensures { number_out result ≡ number (take (end - start) (drop start text.now)) start }
 {

@@ -16,17 +16,12 @@ pub fn run_from(text: &[u8], first: u64, at: usize, to: usize) -> Row
     ensures { RunAt text.now first at to result }
 {
     let mut n = first;
-    let mut i = at;
-    while i < to {
+    for i in at..to {
         let b = text[i];
-        if b < 48 {
-            return Row { value: n, end: i };
-        }
-        if 57 < b {
+        if b < 48 || 57 < b {
             return Row { value: n, end: i };
         }
         n = n * 10 + (b - 48) as u64;
-        i += 1;
     }
-    Row { value: n, end: i }
+    Row { value: n, end: to }
 }

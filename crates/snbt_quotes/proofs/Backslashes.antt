@@ -8,15 +8,12 @@ use lib.Dec.{ltb, leb, eqb}
 use mathlib.Core.List.{List, [], ◌∷◌}
 use native.Mathlib.Omega.{arith}
 use native.Mathlib.Numerals.{sub-one}
-use borrow.Author.Tests.{lt-ltb, le-ltb, lt-leb, le-leb, ne_eqb}
+use borrow.Author.Tests.{lt-ltb, le-ltb, ne_eqb}
 use lib.ListN.{length, get_or}
-use Rattle.form.specs.Answer.{Out, got, no, pick, text_ends, unexpected_token, unknown_escape}
+use Rattle.form.specs.Answer.{Out, got, no, pick, text_ends, unexpected_token}
 use Rattle.form.specs.Spans.{part}
 use Rattle.form.proofs.Picks.{pick-lt, lt-or}
 use Rattle.snbt_form.specs.Lexing.{Escape, stands, bad, cut, among, hex_of, hexes, unicode, escape_of}
-use Rattle.snbt_quotes.specs.declared.escapes.Digits.{Digits}
-use Rattle.snbt_quotes.specs.declared.escapes.Digits.TheVariants.{Value, Stuck}
-use Rattle.snbt_quotes.specs.Answers.{hex_out}
 use Rattle.snbt_quotes.proofs.Parts.{part_none, part-first}
 
 -- ---- digits
@@ -87,10 +84,6 @@ pub escape-letter : (b p : ℕ) (l : List ℕ) → (b ≡ 117 → ⊥) → escap
 unfolding escape_of
 escape-letter b p l n = rw (ne_eqb b 117 n) refl
 
--- a letter that is k, and stands for w
-pub letter-is : (b k p v w : ℕ) {x : Escape} → x ≡ stands v 2 → b ≡ k → v ≡ w → stands w 2 ≡ escape_of (k ∷ []) p → x ≡ escape_of (b ∷ []) p
-letter-is b k p v w e d f s = rw d (e ∙ ap (λ (n : ℕ). stands n 2) f ∙ s)
-
 pub escape-cut : (t : List ℕ) (i e p : ℕ) → e ≤ i → escape_of (part t i (e - i)) p ≡ cut
 unfolding escape_of
 escape-cut t i e p h = rw (part_none t i e h) refl
@@ -105,25 +98,6 @@ module _ (t : List ℕ) (i e : ℕ) (h : i + 1 < e) (k : e ≤ length t) where
 
   pub escape-other : (get_or t (i + 1) 0 ≡ 117 → ⊥) → escape_of (get_or t (i + 1) 0 ∷ []) i ≡ escape_of (part t (i + 1) (e - (i + 1))) i
   escape-other u = sym (ap (λ (l : List ℕ). escape_of l i) behind ∙ escape-letter (get_or t (i + 1) 0) i _ u)
-
--- ---- four digits as a scalar value, by what a call told of them
-
-module _ {x : Out ℕ} (r : Digits) (p : ℕ) (d : hex_out r ≡ x) where
-  module _ (v : ℕ) (e : r ≡ Value v) where
-    value : x ≡ got v
-    value = sym d ∙ ap hex_out e
-
-    pub unicode-surrogate : 55296 ≤ v → v < 57344 → bad unknown_escape p ≡ unicode x p
-    unicode-surrogate h k = rw value (simp (le-leb 55296 v h, lt-ltb v 57344 k))
-
-    pub unicode-low : v < 55296 → stands v 6 ≡ unicode x p
-    unicode-low h = rw value (simp (lt-leb 55296 v h))
-
-    pub unicode-high : 57344 ≤ v → stands v 6 ≡ unicode x p
-    unicode-high h = rw value (simp (le-leb 55296 v (omega arith), le-ltb v 57344 h))
-
-  pub unicode-stuck : (n q : ℕ) → r ≡ Stuck n q → bad n q ≡ unicode x p
-  unicode-stuck n q e = let z : x ≡ no n q = sym d ∙ ap hex_out e in rw z refl
 
 -- ---- how far an escape reaches
 

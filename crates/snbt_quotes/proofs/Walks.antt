@@ -12,13 +12,19 @@ use Rattle.form.specs.Answer.{got, no, pick, quote_open}
 use Rattle.form.specs.Spans.{part}
 use Rattle.form.proofs.Drops.{drop1}
 use Rattle.snbt_form.specs.Lexing.{Escape, stands, begins, escape_of, on_escape, quoted_by, quoted}
-use Rattle.snbt_quotes.specs.declared.escapes.Escape.{Escape as Told}
-use Rattle.snbt_quotes.specs.declared.escapes.Escape.TheVariants.{Stands, Bad, Cut}
+use Rattle.std.specs.Prelude.{Option, Some, None, Result, Ok, Err}
+use Rattle.form.specs.Refusals.{number_of}
+use Rattle.form.specs.declared.refusals.Refused.{Refused}
+use Rattle.chars.specs.declared.Character.{Character}
 use Rattle.snbt_quotes.specs.Answers.{escape_is}
 use Rattle.plain.specs.Runs.{Plain}
 use Rattle.snbt_text.proofs.Texts.{begins-low}
 use Rattle.snbt_quotes.proofs.Parts.{part-rest}
 use Rattle.snbt_quotes.proofs.Backslashes.{escape-fits}
+
+-- what a call answers of an escape
+abbrev pub Told : Type 0
+Told = Result (Option Character) Refused
 
 -- a turn is left
 pub once : {A : Type 0} (f : ℕ) → 0 < f → ((g : ℕ) → f ≡ suc g → A) → A
@@ -30,10 +36,10 @@ module _ (t : List ℕ) (i : ℕ) (r : Told) (p : escape_is r ≡ escape_of (par
   told : escape_of (drop (i + 1) t) i ≡ escape_is r
   told = ap (λ (l : List ℕ). escape_of l i) (sym (part-rest t (i + 1))) ∙ sym p
 
-  reach : (c n : ℕ) → r ≡ Stands c n → i < length t → (2 ≤ n) × (i + n ≤ length t)
-  reach c n e h =
+  reach : (c : Character) → r ≡ Ok (Some c) → i < length t → (2 ≤ c.size) × (i + c.size ≤ length t)
+  reach c e h =
       let f = rw (told ∙ ap escape_is e) at (escape-fits (drop (i + 1) t) i) in
-      let k : n ≤ 1 + (length t - (i + 1)) = rw (length-drop (i + 1) t) at f.1 in
+      let k : c.size ≤ 1 + (length t - (i + 1)) = rw (length-drop (i + 1) t) at f.1 in
       (f.0, omega (arith, k))
 
 -- ---- the walk from a place
@@ -54,9 +60,9 @@ module _ (t : List ℕ) (start : ℕ) where
 
   -- what the escape at i makes of it: the walk goes on behind it, or the whole answer
   abbrev pub Stood : ℕ → ℕ → Told → Type 0
-  Stood i w (Stands c m) = (2 ≤ m) × (i + m ≤ length t) × Going (i + m) (w + m)
-  Stood i w (Bad m k) = no m k ≡ quoted t start
-  Stood i w Cut = no quote_open start ≡ quoted t start
+  Stood i w (Ok (Some c)) = (2 ≤ c.size) × (i + c.size ≤ length t) × Going (i + c.size) (w + c.size)
+  Stood i w (Err e) = no (number_of e.refusal) e.place ≡ quoted t start
+  Stood i w (Ok None) = no quote_open start ≡ quoted t start
 
   pub going_start : Going (start + 1) 1
   unfolding quoted
@@ -95,18 +101,19 @@ module _ (t : List ℕ) (start : ℕ) where
 
     -- by what a call answered of the escape at i
     pub going-told : Going i w → (b ≡ q → ⊥) → b ≡ 92 → (r : Told) → escape_is r ≡ escape_of (part t (i + 1) (length t - (i + 1))) i → Stood i w r
-    going-told g n e (Stands c m) p =
-        let k = reach t i (Stands c m) p c m refl h in (
+    going-told g n e (Ok (Some c)) p =
+        let m = c.size in
+        let k = reach t i (Ok (Some c)) p c refl h in (
           k.0,
           k.1,
           once g.turns (omega (arith, g.enough)) (λ f z. record {
             turns = f;
             enough = omega (arith, k.0, g.enough, z);
-            is = ap (λ (l : List ℕ). quoted_by f start q l (i + m) (w + m)) (sym (drop-drop m i t)) ∙ by-escape f g z n e (Stands c m) p;
+            is = ap (λ (l : List ℕ). quoted_by f start q l (i + m) (w + m)) (sym (drop-drop m i t)) ∙ by-escape f g z n e (Ok (Some c)) p;
           }),
         )
-    going-told g n e (Bad m k) p = once g.turns (omega (arith, g.enough)) (λ f z. by-escape f g z n e (Bad m k) p)
-    going-told g n e Cut p = once g.turns (omega (arith, g.enough)) (λ f z. by-escape f g z n e Cut p)
+    going-told g n e (Err x) p = once g.turns (omega (arith, g.enough)) (λ f z. by-escape f g z n e (Err x) p)
+    going-told g n e (Ok None) p = once g.turns (omega (arith, g.enough)) (λ f z. by-escape f g z n e (Ok None) p)
 
     pub going-character : Going i w → (b ≡ q → ⊥) → (b ≡ 92 → ⊥) → Going (i + 1) (w + begins b)
     going-character g n m =
@@ -140,3 +147,7 @@ module _ (t : List ℕ) (start : ℕ) where
   going-plain i j w h k p g =
       let e : i + (j - i) ≡ j = omega arith in
       rw e at (going-run (j - i) i w (omega arith) (rw e p) g)
+
+  -- the same with the width as a call told it
+  pub going-over : (i j w w' : ℕ) → i ≤ j → j ≤ length t → Plain 92 q t i j → w' ≡ w + (j - i) → Going i w → Going j w'
+  going-over i j w w' h k p e g = going-wide j (w + (j - i)) w' e (going-plain i j w h k p g)

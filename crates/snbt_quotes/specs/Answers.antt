@@ -1,27 +1,27 @@
 -- The answers of the code as those of rule 12's definitions, case by case.
 -- Assumes nothing.
-use Rattle.std.specs.Prelude.{ℕ}
-use Rattle.form.specs.Answer.{Out, got, no}
+use Rattle.std.specs.Prelude.{ℕ, Option, Some, None, Result, Ok, Err}
+use Rattle.form.specs.Answer.{Out}
+use Rattle.form.specs.Refusals.{number_of, out_of}
+use Rattle.form.specs.declared.refusals.Refused.{Refused}
+use Rattle.chars.specs.declared.Character.{Character}
 use Rattle.snbt_form.specs.Lexing as rule
-use Rattle.snbt_quotes.specs.declared.escapes.Digits.{Digits}
-use Rattle.snbt_quotes.specs.declared.escapes.Digits.TheVariants.{Value, Stuck}
-use Rattle.snbt_quotes.specs.declared.escapes.Escape.{Escape}
-use Rattle.snbt_quotes.specs.declared.escapes.Escape.TheVariants.{Stands, Bad, Cut}
-use Rattle.snbt_quotes.specs.declared.Quoted.{Quoted}
-use Rattle.snbt_quotes.specs.declared.Quoted.TheVariants.{Closed, Refused}
+use Rattle.snbt_quotes.specs.declared.Closed.{Closed}
 
 -- The number of four hexadecimal digits, or a refusal's number and place.
-abbrev pub hex_out : Digits → Out ℕ
-hex_out (Value v) = got v
-hex_out (Stuck n p) = no n p
+abbrev pub hex_out : Result ℕ Refused → Out ℕ
+hex_out r = out_of (λ (v : ℕ). v) r
 
 -- What a backslash begins.
-abbrev pub escape_is : Escape → rule.Escape
-escape_is (Stands c n) = rule.stands c n
-escape_is (Bad n p) = rule.bad n p
-escape_is Cut = rule.cut
+abbrev pub escape_is : Result (Option Character) Refused → rule.Escape
+escape_is (Ok (Some c)) = rule.stands c.value c.size
+escape_is (Ok None) = rule.cut
+escape_is (Err e) = rule.bad (number_of e.refusal) e.place
 
--- Where a quoted content ends and the token's width, or a refusal's number and place.
-abbrev pub quoted_out : Quoted → Out rule.Quoted
-quoted_out (Closed e w) = got (record { end = e; width = w.0 })
-quoted_out (Refused n p) = no n p
+-- Where a quoted content ends, and the token's width.
+abbrev pub quoted_is : Closed → rule.Quoted
+quoted_is q = record { end = q.end; width = q.width.0 }
+
+-- The same, or a refusal's number and place.
+abbrev pub quoted_out : Result Closed Refused → Out rule.Quoted
+quoted_out r = out_of quoted_is r

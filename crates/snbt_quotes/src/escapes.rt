@@ -1,148 +1,97 @@
 // Escapes (rule 12): what a backslash begins.
 ghost use Rattle.std.specs.Prelude.{◌≡◌, [], ◌∷◌, ◌+◌, ◌-◌, ◌≤◌, ◌<◌, length};
 ghost use Rattle.form.specs.Spans.{part};
-ghost use Rattle.snbt_form.specs.Lexing.{hex_of, hexes, stands, unicode, escape_of};
+ghost use Rattle.snbt_form.specs.Lexing.{hex_of, hexes, unicode, escape_of};
 ghost use Rattle.snbt_quotes.specs.Answers.{hex_out, escape_is};
 
-// The number of four hexadecimal digits, or a refusal.
-#[derive(Drop)]
-enum Digits {
-    Value(u32),
-    Stuck { number: u8, place: usize },
-}
-
-// What a backslash begins: an escape's scalar value and its bytes, a refusal, or nothing where the bytes end behind it (rule 12).
-#[derive(Drop)]
-pub enum Escape {
-    Stands { scalar: u32, bytes: usize },
-    Bad { number: u8, place: usize },
-    Cut,
-}
+use chars::Character;
+use form::refusals::{Refusal, Refused};
 
 // A hexadecimal digit of either case, and 16 for any other byte (rule 12).
+#[tactic(auto, unfolding(snbt_form::specs::Lexing::hex_of))]
 fn hex(b: u8) -> u8
     ensures { result ≡ hex_of b }
 {
-    if b < 48 {
-        return 16;
+    match b {
+        b'0'..=b'9' => b - b'0',
+        b'A'..=b'F' => b - b'A' + 10,
+        b'a'..=b'f' => b - b'a' + 10,
+        _ => 16,
     }
-    if b < 58 {
-        return b - 48;
-    }
-    if b < 65 {
-        return 16;
-    }
-    if b < 71 {
-        return b - 55;
-    }
-    if b < 97 {
-        return 16;
-    }
-    if b < 103 {
-        return b - 87;
-    }
-    16
 }
 
 // Four hexadecimal digits from a place on; 20 where the bytes end among them, 19 at any other byte (rule 12).
-fn hexes_at(text: &[u8], at: usize, end: usize) -> Digits
+fn hexes_at(text: &[u8], at: usize, end: usize) -> Result<u32, Refused>
     requires { (at ≤ end) × (end ≤ length text.now) }
     ensures { hex_out result ≡ hexes 4 0 (part text.now at (end - at)) at }
 {
     let mut v: u32 = 0;
-    let mut i = at;
-    let mut left: usize = 4;
-    while 0 < left {
+    for i in at..at + 4 {
         if end <= i {
-            return Digits::Stuck {
-                number: form::TEXT_ENDS,
+            return Err(Refused {
+                refusal: Refusal::TextEnds,
                 place: i,
-            };
+            });
         }
         let h = hex(text[i]);
         if 16 <= h {
-            return Digits::Stuck {
-                number: form::UNEXPECTED_TOKEN,
+            return Err(Refused {
+                refusal: Refusal::UnexpectedToken,
                 place: i,
-            };
+            });
         }
-        v = v * 16 + (h as u32);
-        i = i + 1;
-        left = left - 1;
+        v = v * 16 + h as u32;
     }
-    Digits::Value(v)
+    Ok(v)
 }
 
 // `\uXXXX` with its backslash at a place: a surrogate is no scalar value, refusal 17.
-fn unicode_at(text: &[u8], at: usize, end: usize) -> Escape
+fn unicode_at(text: &[u8], at: usize, end: usize) -> Result<Option<Character>, Refused>
     requires { (at + 2 ≤ end) × (end ≤ length text.now) }
     ensures { escape_is result ≡ unicode (hexes 4 0 (part text.now (at + 2) (end - (at + 2))) (at + 2)) at }
 {
-    match hexes_at(text, at + 2, end) {
-        Digits::Value(v) => {
-            if 0xD800 <= v {
-                if v < 0xE000 {
-                    return Escape::Bad {
-                        number: form::UNKNOWN_ESCAPE,
-                        place: at,
-                    };
-                }
-            }
-            Escape::Stands {
-                scalar: v,
-                bytes: 6,
-            }
-        }
-        Digits::Stuck { number, place } => Escape::Bad { number, place },
+    let v = hexes_at(text, at + 2, end)?;
+    if 0xD800 <= v && v < 0xE000 {
+        return Err(Refused {
+            refusal: Refusal::UnknownEscape,
+            place: at,
+        });
     }
+    Ok(Some(Character { value: v, size: 6 }))
 }
 
-// An escape of one letter, which takes two bytes.
-fn of_letter(scalar: u32) -> Escape
-    ensures { escape_is result ≡ stands scalar 2 }
-{
-    Escape::Stands { scalar, bytes: 2 }
-}
-
-// The escapes of one letter, with their backslash at a place; any other letter is refusal 17 (rule 12).
-fn letter(b: u8, at: usize) -> Escape
+// The escapes of one letter, which take two bytes, with their backslash at a place; any other letter is refusal 17 (rule 12).
+#[tactic(auto, unfolding(snbt_form::specs::Lexing::escape_of, snbt_form::specs::Lexing::among))]
+fn letter(b: u8, at: usize) -> Result<Option<Character>, Refused>
     requires { b ≡ 117 → ⊥ }
     ensures { escape_is result ≡ escape_of (b ∷ []) at }
 {
-    if b == 34 {
-        return of_letter(b as u32);
-    }
-    if b == 39 {
-        return of_letter(b as u32);
-    }
-    if b == 92 {
-        return of_letter(b as u32);
-    }
-    if b == 110 {
-        return of_letter(10);
-    }
-    if b == 114 {
-        return of_letter(13);
-    }
-    if b == 116 {
-        return of_letter(9);
-    }
-    Escape::Bad {
-        number: form::UNKNOWN_ESCAPE,
-        place: at,
-    }
+    let value = match b {
+        b'"' | b'\'' | b'\\' => u32::from(b),
+        b'n' => 10,
+        b'r' => 13,
+        b't' => 9,
+        _ => {
+            return Err(Refused {
+                refusal: Refusal::UnknownEscape,
+                place: at,
+            });
+        }
+    };
+    Ok(Some(Character { value, size: 2 }))
 }
 
-// The escape whose backslash stands at a place, in the bytes before an end (rule 12).
-pub fn escape_at(text: &[u8], at: usize, end: usize) -> Escape
+// The escape whose backslash stands at a place, in the bytes before an end (rule 12): its scalar value and its bytes, or none where they
+// end behind the backslash.
+pub fn escape_at(text: &[u8], at: usize, end: usize) -> Result<Option<Character>, Refused>
     requires { (at < end) × (end ≤ length text.now) }
     ensures { escape_is result ≡ escape_of (part text.now (at + 1) (end - (at + 1))) at }
 {
     if end <= at + 1 {
-        return Escape::Cut;
+        return Ok(None);
     }
     let b = text[at + 1];
-    if b == 117 {
+    if b == b'u' {
         return unicode_at(text, at, end);
     }
     letter(b, at)

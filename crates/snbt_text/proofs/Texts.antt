@@ -6,13 +6,14 @@ use mathlib.Core.Bool.{Bool, true, false, ◌&&◌}
 use mathlib.Core.List.{List}
 use native.Mathlib.Omega.{arith}
 use borrow.Author.Tests.{lt-ltb, le-leb, lt-leb, leb-true}
-use lib.Dec.{leb, ltb, eqb}
-use lib.ListN.{length, get_or, get_or-eq_default}
+use lib.Dec.{leb, ltb}
+use lib.ListN.{length}
 use Rattle.form.specs.Answer.{no, pick, guard, text_limit, over_limit, bad_text}
 use Rattle.form.specs.Strings.{utf8_bytes}
 use Rattle.form.specs.Decoding.{utf8_of, utf8_verdict, is_good, Judged}
 use Rattle.form.proofs.Picks.{and_left, and_right}
-use Rattle.mutf8.specs.declared.Checked.{Checked}
+use Rattle.std.specs.Prelude.{Result}
+use Rattle.mutf8.specs.declared.Unreadable.{Unreadable}
 use Rattle.mutf8.specs.Answers.{verdict_of}
 use Rattle.snbt_form.specs.Lexing.{begins, judged_text, on_character}
 
@@ -32,21 +33,12 @@ unfolding judged_text
 text-long t h = rw (lt-leb (length t) text_limit h) refl
 
 -- by what a call answered
-pub text-judged : (t : List ℕ) (r v : Checked) → length t ≤ text_limit → Judged utf8_bytes utf8_of t (verdict_of r) → r ≡ v
+pub text-judged : (t : List ℕ) (r v : Result (Unit {0}) Unreadable) → length t ≤ text_limit → Judged utf8_bytes utf8_of t (verdict_of r) → r ≡ v
     → guard (is_good (verdict_of v)) bad_text 0 ≡ judged_text t
 unfolding judged_text
 text-judged t r v h j e =
     let z : is_good (verdict_of v) ≡ is_good (utf8_verdict t) = ap is_good (sym (ap verdict_of e) ∙ j.is) in
     rw (le-leb (length t) text_limit h, z) refl
-
-pub off-beyond : (t : List ℕ) (p : ℕ) → length t < p → false ≡ on_character t p
-off-beyond t p h = rw (lt-leb p (length t) h) refl
-
-pub on-end : (t : List ℕ) (p : ℕ) → p ≡ length t → true ≡ on_character t p
-on-end t p e = rw (le-leb p (length t) (omega arith), get_or-eq_default t 0 {n = p} (omega arith)) refl
-
-pub on-within : (t : List ℕ) (p n : ℕ) → p ≤ length t → n ≡ begins (get_or t p 0) → eqb n 1 ≡ on_character t p
-on-within t p n h e = rw (le-leb p (length t) h, e) refl
 
 -- two places in order are within the text
 pub ordered : (t : List ℕ) (s e : ℕ) → (on_character t s && (on_character t e && leb s e)) ≡ true → (s ≤ e) × (e ≤ length t)

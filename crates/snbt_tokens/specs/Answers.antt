@@ -1,6 +1,9 @@
 -- The code's tokens and answers as those of the definitions, case by case.
 -- Assumes nothing.
-use Rattle.form.specs.Answer.{Out, got, no}
+use Rattle.std.specs.Prelude.{Result}
+use Rattle.form.specs.Answer.{Out}
+use Rattle.form.specs.Refusals.{out_of}
+use Rattle.form.specs.declared.refusals.Refused.{Refused}
 use Rattle.snbt_form.specs.Numbers as numbers
 use Rattle.snbt_form.specs.Lexing as rule
 use Rattle.snbt_form.specs.Text as text
@@ -8,7 +11,7 @@ use Rattle.snbt_tokens.specs.declared.Token.{Token}
 use Rattle.snbt_tokens.specs.declared.Token.TheVariants.{OpenCurly, ClosedCurly, OpenSquare, ClosedSquare, Comma, Colon, Semicolon, Str, Byte, Short, Int, Long, Float, Double}
 use Rattle.snbt_tokens.specs.declared.TokenData.{TokenData}
 use Rattle.snbt_tokens.specs.declared.Lexed.{Lexed}
-use Rattle.snbt_tokens.specs.declared.Lexed.TheVariants.{Found, Ended, Refused}
+use Rattle.snbt_tokens.specs.declared.Lexed.TheVariants.{Found, Ended}
 use Rattle.snbt_tokens.specs.declared.Last.{Last}
 use Rattle.snbt_tokens.specs.declared.Last.TheVariants.{Other, Comma as Behind}
 use Rattle.snbt_tokens.specs.declared.Stops.{Stops}
@@ -35,11 +38,14 @@ token_is (Double x) = rule.numeral (numbers.double x)
 abbrev pub data_is : TokenData → rule.TokenData
 data_is d = record { token = token_is d.token; index = d.index.0; width = d.char_width.0 }
 
--- The lexer's answer: a token and the next place, the end, or a refusal's number and place.
-abbrev pub lexed_out : Lexed → Out rule.Lexed
-lexed_out (Found d n) = got (rule.found (data_is d) n)
-lexed_out (Ended p) = got (rule.ended p)
-lexed_out (Refused n p) = no n p
+-- What stands next: a token and the next place, or the end.
+abbrev pub lexed_is : Lexed → rule.Lexed
+lexed_is (Found d n) = rule.found (data_is d) n
+lexed_is (Ended p) = rule.ended p
+
+-- The lexer's answer: what stands next, or a refusal's number and place.
+abbrev pub lexed_out : Result Lexed Refused → Out rule.Lexed
+lexed_out r = out_of lexed_is r
 
 -- A stop set.
 abbrev pub stops_is : Stops → rule.Stops

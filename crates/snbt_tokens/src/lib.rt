@@ -41,12 +41,11 @@ pub struct TokenData {
     pub char_width: Width,
 }
 
-// A token and the next place; the end of the text; a refusal.
+// What stands next: a token, with the place behind it, or the end of the text.
 #[derive(Clone, Copy)]
 pub enum Lexed {
     Found { data: TokenData, next: usize },
     Ended { place: usize },
-    Refused { number: u8, place: usize },
 }
 
 // The sets of characters that stop an unquoted token: by default, and as rule 15 names them.

@@ -56,7 +56,7 @@ number_at_spec =
     (λ c κs.
     run_small (begins c.before.before.before.before.before.before.before.before) c.run_from-row.ensures)
     (λ c.
-    c.suffixed_number.ensures
+    ap got c.suffixed_number.ensures
     ∙ short-suffixed (begins c.before.before.before.before.before.before.before.before.before) c.run_from-row.ensures c.if-to-from.false c.if-to-end-2.true
     (sym c.is_suffix.ensures ∙ c.if-is_suffix.true))
     (λ c κs. (c.requires.1, heads c.before.before.before))

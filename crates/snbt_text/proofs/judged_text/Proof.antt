@@ -14,5 +14,5 @@ judged_text_spec =
     (λ c κs. search rules)  -- check-utf8-requires
     (λ c. search rules)  -- enum_told
     (λ c. search rules)  -- enum-told-2
-    (λ c. text-judged _ _ _ (omega arith) c.before.check_utf8.ensures c.in-Good.is)  -- returns-2
-    (λ c. text-judged _ _ _ (omega arith) c.before.check_utf8.ensures c.in-Bad.is))  -- returns-3
+    (λ c. text-judged _ _ _ (omega arith) c.before.check_utf8.ensures c.in-Ok.is)  -- returns-2
+    (λ c. text-judged _ _ _ (omega arith) c.before.check_utf8.ensures c.in-Err.is))  -- returns-3

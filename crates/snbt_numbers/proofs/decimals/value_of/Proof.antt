@@ -3,10 +3,10 @@
 use borrow.Author.Rules.{rules}
 use borrow.Author.Tests.{eq-eqb, ne_eqb}
 use mathlib.Core.Path.{ap₂, ◌∙◌}
-use Prim.Native.Nat.{◌+◌, ◌-◌}
+use Prim.Native.Nat.{ℕ, ◌+◌, ◌-◌}
 use native.Mathlib.Omega.{arith}
 use Rattle.snbt_numbers.specs.Rows.{combine, value_in}
-use Rattle.snbt_numbers.specs.declared.digits.Digits.{Digits}
+use Rattle.std.specs.Prelude.{Option}
 use Rattle.snbt_numbers.specs.declared.decimals.Exponent.{Exponent}
 use Rattle.snbt_numbers.proofs.decimals.value_of.Statement.{statement}
 use Rattle.snbt_numbers.proofs.decimals.value_of.Tie as tie
@@ -27,4 +27,4 @@ value_of_spec =
     let a = c.args in
     simp (ne_eqb _ _ c.if-point-from-eq0.false)
     (c.combined.ensures place
-    ∙ ap₂ (λ (m : Digits) (x : Exponent). combine a.negative (a.ex - (a.point + 1)) m x place) c.mantissa-m.ensures c.exponent_from-x.ensures)))
+    ∙ ap₂ (λ (m : Option ℕ) (x : Option Exponent). combine a.negative (a.ex - (a.point + 1)) m x place) c.mantissa-m.ensures c.exponent_from-x.ensures)))
