@@ -4,26 +4,19 @@
 // quartz_nbt's where document 01 and it agree, and worked out from 01 elsewhere: tests/replay/texts.py made them.
 #![tactic(auto)]
 
+use form::refusals::Refused;
 use lines::Line;
-use snbt::Parsed;
 
 // Whether every byte is zero.
 fn is_zero(bytes: &[u8]) -> bool {
-    let mut i: usize = 0;
-    while i < bytes.len() {
-        if bytes[i] != 0 {
-            return false;
-        }
-        i += 1;
-    }
-    true
+    bytes.iter().all(|b| *b == 0)
 }
 
 // A refusal, and what it left.
-fn print_refusal(number: u8, place: usize, out: &[u8]) {
+fn print_refusal(refused: Refused, out: &[u8]) {
     io::write_all(1, b"refused");
-    lines::print_number(number as usize);
-    lines::print_number(place);
+    lines::print_number(refused.refusal.number() as usize);
+    lines::print_number(refused.place);
     if is_zero(out) {
         io::write_all(1, b" zero\n");
     } else {
@@ -34,17 +27,14 @@ fn print_refusal(number: u8, place: usize, out: &[u8]) {
 // The answer to a text. The bytes written are seen in the output: what lies behind the document is AA.
 fn print_parsed(text: &[u8], out: &mut [u8]) {
     match snbt::parse(text, out) {
-        Parsed::Document {
-            consumed,
-            written: _,
-        } => {
+        Ok(done) => {
             io::write_all(1, b"ok");
-            lines::print_number(consumed);
+            lines::print_number(done.consumed);
             io::write_all(1, b" ");
             lines::print_bytes(out);
             io::write_all(1, b"\n");
         }
-        Parsed::Refused { number, place } => print_refusal(number, place, out),
+        Err(refused) => print_refusal(refused, out),
     }
 }
 
@@ -66,12 +56,11 @@ fn put(text: &mut [u8], at: usize, b: u8) {
 
 // Puts the first n bytes of another buffer from a place on; the place behind them.
 fn append(text: &mut [u8], at: usize, more: &[u8], n: usize) -> usize {
-    let mut i: usize = 0;
-    while i < n && i < more.len() {
-        put(text, lines::sum(at, i), more[i]);
-        i += 1;
+    let count = n.min(more.len());
+    for (i, b) in more[..count].iter().enumerate() {
+        put(text, lines::sum(at, i), *b);
     }
-    lines::sum(at, i)
+    lines::sum(at, count)
 }
 
 // The last field of a line, from `from` on: what stands behind the run, whose end is `end`.
@@ -159,9 +148,7 @@ fn replay(
     out: &mut [u8],
 ) {
     let mut input = lines::start();
-    let mut turns = u64::MAX;
-    while 0 < turns {
-        turns -= 1;
+    for _ in 0..u64::MAX {
         match lines::next_line(chunk, input, line) {
             Line::End => return,
             Line::Long { input: rest } => {

@@ -15,7 +15,9 @@ use Rattle.snbt_form.specs.Text.{Block, Then, goes_on, closes, Last, otherwise, 
 use Rattle.snbt_keys.specs.Keys.{Kept, names_in}
 use Rattle.snbt_keys.proofs.Runs.{kept-none}
 use Rattle.snbt_placing.specs.declared.Done.{Done}
-use Rattle.snbt_placing.specs.declared.Done.TheVariants.{To, No}
+use Rattle.std.specs.Prelude.{Result, Ok, Err}
+use Rattle.form.specs.Refusals.{number_of}
+use Rattle.form.specs.declared.refusals.Refused.{Refused}
 use Rattle.snbt_entries.specs.declared.Block.{Block as Open}
 use Rattle.snbt_entries.specs.declared.EntryTurn.{EntryTurn}
 use Rattle.snbt_entries.specs.Entries.{Entered, entry_turn, CloseIs}
@@ -107,8 +109,8 @@ module _ {t o₀ k₀ : List ℕ} {b : Open} {start at left : ℕ} {o k : List �
   entering-refused : (a q : ℕ) → here ≡ no a q → whole_block ≡ no a q
   entering-refused a q e = turn (λ f h r. sym r ∙ ap (λ x. after_entries s.done (x >>= after f)) e)
 
-  pub entering-no : (a q : ℕ) (o' k' o'' k'' : List ℕ) → ParsedEntry t o k b last place used top left (EntryTurn.No a q) o' k' → ParsedEntries t o₀ k₀ b start at left (No a q) o'' k''
-  entering-no a q o' k' o'' k'' e = ap block_value (entering-refused a q (rw s.long at e))
+  pub entering-no : (x : Refused) (o' k' o'' k'' : List ℕ) → ParsedEntry t o k b last place used top left (Err x) o' k' → ParsedEntries t o₀ k₀ b start at left (Err x) o'' k''
+  entering-no x o' k' o'' k'' e = ap block_value (entering-refused (number_of x.refusal) x.place (rw s.long at e))
 
   -- where something was entered, up to `u`
   module _ (o' : List ℕ) (u : ℕ) (th : Then) (tr : Turned here o used u th o') where
@@ -173,9 +175,9 @@ module _ {t o₀ k₀ : List ℕ} {b : Open} {start at left : ℕ} {o k : List �
         sym (rest-on o' u (closes i m) g.turned f r)
         ∙ ap (after_entries es) (subst (λ (n : ℕ). close_at t n i m u ≡ x) long-at (e t)))
 
-    last_on : (r : Done) → CloseIs o' i m u r o'' → ParsedEntries t o₀ k₀ b start at left r o'' k'
-    last_on (No a q) e = ap block_value (closed-by (no a q) e)
-    last_on (To n q kind) (e, z₁, z₂, z₃, z₄, z₅) =
+    last_on : (r : Result Done Refused) → CloseIs o' i m u r o'' → ParsedEntries t o₀ k₀ b start at left r o'' k'
+    last_on (Err x) e = ap block_value (closed-by (no (number_of x.refusal) x.place) e)
+    last_on (Ok d) (e, z₁, z₂, z₃, z₄, z₅) =
         let laid-is : payload (tree.compound (◌and◌ es ended)) ≡ laid es ++ (0 ∷ []) = compound-bytes (◌and◌ es ended) ∙ laid-ended es in (
           record {
             value = record { tag = tree.compound (◌and◌ es ended); next = m; used = u + 1 };
@@ -193,19 +195,19 @@ module _ {t o₀ k₀ : List ℕ} {b : Open} {start at left : ℕ} {o k : List �
         )
 
   -- An entry and its comma.
-  pub entering-more : (o' k' : List ℕ) (c : _) (m u : ℕ) → ParsedEntry t o k b last place used top left (EntryTurn.More c m u) o' k'
+  pub entering-more : (o' k' : List ℕ) (c : _) (m u : ℕ) → ParsedEntry t o k b last place used top left (Ok (EntryTurn.More c m u)) o' k'
       → Entering t o₀ k₀ b start at left o' k' m u (top + 1) (after_comma c.0)
   entering-more o' k' c m u g = more-on o' k' c.0 m u (rw s.long at g)
 
   -- The last one.
-  pub entering-last : (o' k' o'' : List ℕ) (i : _) (m u : ℕ) (r : Done) → ParsedEntry t o k b last place used top left (EntryTurn.Last i m u) o' k'
+  pub entering-last : (o' k' o'' : List ℕ) (i : _) (m u : ℕ) (r : Result Done Refused) → ParsedEntry t o k b last place used top left (Ok (EntryTurn.Last i m u)) o' k'
       → CloseIs o' i.0 m u r o'' → ParsedEntries t o₀ k₀ b start at left r o'' k'
   entering-last o' k' o'' i m u r g e = last_on o' k' o'' i.0 m u (rw s.long at g) r e
 
 -- ---- a compound behind its `{`
 
 -- With a container left and room, a compound is its entries, read with one container fewer.
-pub compound-entries : (t o k : List ℕ) (b : Open) (p at left : ℕ) (r : Done) (o' k' : List ℕ) → (left ≡ 0 → ⊥) → at ≤ length o
+pub compound-entries : (t o k : List ℕ) (b : Open) (p at left : ℕ) (r : Result Done Refused) (o' k' : List ℕ) → (left ≡ 0 → ⊥) → at ≤ length o
     → ParsedEntries t o k b p at (left - 1) r o' k' → ParsedCompound t o k b.brace.0 p at b.base left r o' k'
 compound-entries t o k b p at left r o' k' h l v =
     rw (compound-in t (length o) left (inner t (length o) left) b.brace.0 p at h l, inner_is t (length o) left h) v

@@ -3,13 +3,11 @@
 use Prim.Native.Nat.{ℕ, ◌+◌, ◌*◌, ◌≤◌}
 use mathlib.Core.Path.{◌≡◌, refl, ap, ◌∙◌}
 use mathlib.Core.Bool.{Bool, true, false, ◌||◌}
-use mathlib.Core.List.{List, [], ◌∷◌}
+use mathlib.Core.List.{List}
 use native.Mathlib.Omega.{arith}
 use lib.Dec.{eqb}
 use lib.ListN.{length}
-use types.Run.{OneOf}
 use Rattle.form.specs.Answer.{Out, got, ◌>>◌, guard, mixed_list}
-use Rattle.form.specs.Tree.{kind_of}
 use Rattle.form.specs.Layout.{payload}
 use Rattle.form.proofs.Table.{over-length}
 use Rattle.snbt_form.proofs.Moves.{token-moves}
@@ -17,9 +15,10 @@ use Rattle.snbt_form.specs.Lexing.{Stops, TokenData, found, token_at}
 use Rattle.snbt_form.specs.Text.{Value, Reads, sign_of, value_by, value_at, scalar_value}
 use Rattle.snbt_tokens.specs.Answers.{token_is}
 use Rattle.snbt_tokens.specs.declared.Token.{Token}
-use Rattle.snbt_tokens.proofs.Rests.{tag_of, other_sign}
+use Rattle.snbt_tokens.specs.declared.Token.TheVariants.{OpenCurly, ClosedCurly, OpenSquare, ClosedSquare, Comma, Colon, Semicolon, Str, Byte, Short, Int, Long, Float, Double}
 use Rattle.snbt_placing.specs.declared.Done.{Done}
-use Rattle.snbt_placing.specs.declared.Done.TheVariants.{To, No}
+use Rattle.std.specs.Prelude.{Result, Ok, Err}
+use Rattle.form.specs.declared.refusals.Refused.{Refused}
 use Rattle.snbt_placing.specs.Done.{Did, Puts}
 use Rattle.snbt_due.specs.Due.{value_from}
 use Rattle.snbt_due.proofs.Reading.{from_found}
@@ -31,14 +30,37 @@ use Rattle.snbt.proofs.Sizes.{scalar-went}
 
 -- ---- what the arms of `{` and `[` leave of the tokens
 
-abbrev all_but_open : List ℕ
-all_but_open = 1 ∷ 3 ∷ 4 ∷ 5 ∷ 6 ∷ 7 ∷ 8 ∷ 9 ∷ 10 ∷ 11 ∷ 12 ∷ 13 ∷ []
+pub no-curly : (k : Token) → (k ≡ OpenCurly → ⊥) → eqb (sign_of (token_is k)) 123 ≡ false
+no-curly OpenCurly h = absurd (h refl)
+no-curly ClosedCurly h = refl
+no-curly OpenSquare h = refl
+no-curly ClosedSquare h = refl
+no-curly Comma h = refl
+no-curly Colon h = refl
+no-curly Semicolon h = refl
+no-curly (Str q a e) h = refl
+no-curly (Byte z) h = refl
+no-curly (Short z) h = refl
+no-curly (Int z) h = refl
+no-curly (Long z) h = refl
+no-curly (Float x) h = refl
+no-curly (Double x) h = refl
 
-pub no-curly : (k : Token) → OneOf all_but_open (tag_of k) → eqb (sign_of (token_is k)) 123 ≡ false
-no-curly k = other_sign 123 k all_but_open (search refl)
-
-pub no-square : (k : Token) → OneOf all_but_open (tag_of k) → eqb (sign_of (token_is k)) 91 ≡ false
-no-square k = other_sign 91 k all_but_open (search refl)
+pub no-square : (k : Token) → (k ≡ OpenSquare → ⊥) → eqb (sign_of (token_is k)) 91 ≡ false
+no-square OpenCurly h = refl
+no-square ClosedCurly h = refl
+no-square OpenSquare h = absurd (h refl)
+no-square ClosedSquare h = refl
+no-square Comma h = refl
+no-square Colon h = refl
+no-square Semicolon h = refl
+no-square (Str q a e) h = refl
+no-square (Byte z) h = refl
+no-square (Short z) h = refl
+no-square (Int z) h = refl
+no-square (Long z) h = refl
+no-square (Float x) h = refl
+no-square (Double x) h = refl
 
 -- ---- what was read, under another name
 
@@ -60,18 +82,17 @@ did-long {o = o} {at = at} d = ap length d.wrote ∙ over-length o at (payload d
 
 -- ---- a value held to its list's kind
 
-held_by : (b : Bool) (t o k : List ℕ) (top at p n u kind q : ℕ) (o' k' : List ℕ) (v : Value) → Did (got v) o at n u kind o' → Went t k top p n u k'
-    → ValueIs (guard b mixed_list q >> got v) t o k top at p (unless b (To n u kind) q) o' k'
-held_by true t o k top at p n u kind q o' k' v d w = (d, w)
-held_by false t o k top at p n u kind q o' k' v d w = refl
+held_by : (b : Bool) (t o k : List ℕ) (top at p : ℕ) (d : Done) (q : ℕ) (o' k' : List ℕ) (v : Value) → Did (got v) o at d.next d.used d.kind o' → Went t k top p d.next d.used k'
+    → ValueIs (guard b mixed_list q >> got v) t o k top at p (unless b (Ok d) q) o' k'
+held_by true t o k top at p d q o' k' v did w = (did, w)
+held_by false t o k top at p d q o' k' v did w = refl
 
-held-is : (want q : ℕ) (res : Out Value) (t o k : List ℕ) (top at p : ℕ) (r : Done) (o' k' : List ℕ)
+held-is : (want q : ℕ) (res : Out Value) (t o k : List ℕ) (top at p : ℕ) (r : Result Done Refused) (o' k' : List ℕ)
     → ValueIs res t o k top at p r o' k' → ValueIs (held want q res) t o k top at p (held_done want q r) o' k'
-held-is want q res t o k top at p (No a b) o' k' e = rw e refl
-held-is want q res t o k top at p (To n u kind) o' k' (d, w) =
-    let is = kind_of d.value.tag in
-    rw (d.same, d.kind_is)
-    (held_by (eqb want 0 || eqb is want) t o k top at p n u is q o' k' d.value (rw (d.same, d.kind_is) at d) w)
+held-is want q res t o k top at p (Err x) o' k' e = rw e refl
+held-is want q res t o k top at p (Ok d) o' k' (did, w) =
+    rw (did.same, ← did.kind_is)
+    (held_by (eqb want 0 || eqb d.kind want) t o k top at p d q o' k' did.value (rw did.same at did) w)
 
 -- ---- a value by its first token d, which is found at p
 
@@ -83,28 +104,28 @@ module _ (t o k : List ℕ) (set : Stops) (want p at top left : ℕ) (d : TokenD
   by_token = from_found t (length o) (value_at t (length o) left) set want p at d m is ∙ ap (λ (f : Reads). f want d m at) (value-unfold t (length o) left)
 
   -- reading on from the token is reading on from its place
-  on : (res : Out Value) (r : Done) (o' k' : List ℕ) → whole ≡ res → ValueIs res t o k top at m r o' k' → ValueIs whole t o k top at p r o' k'
-  on res (No a b) o' k' e v = e ∙ v
-  on res (To n u kind) o' k' e (did, w) =
+  on : (res : Out Value) (r : Result Done Refused) (o' k' : List ℕ) → whole ≡ res → ValueIs res t o k top at m r o' k' → ValueIs whole t o k top at p r o' k'
+  on res (Err x) o' k' e v = e ∙ v
+  on res (Ok y) o' k' e (did, w) =
       let z = token-moves set t p d m is h in
       (did-as e did, record { around = w.around; on = omega (arith, z.0, z.1, w.on); within = w.within; small = w.small })
 
-  pub by-compound : (r r' : Done) (o' k' : List ℕ) → sign_of d.token ≡ 123 → ParsedCompound t o k d.index m at top left r o' k'
+  pub by-compound : (r r' : Result Done Refused) (o' k' : List ℕ) → sign_of d.token ≡ 123 → ParsedCompound t o k d.index m at top left r o' k'
       → r' ≡ held_done want d.index r → ParsedValue t o k set want p at top left r' o' k'
   by-compound r r' o' k' s v e =
       rw e (on _ (held_done want d.index r) o' k' (by_token ∙ value-compound t (length o) left (inner t (length o) left) want d m at s)
       (held-is want d.index _ t o k top at m r o' k' v))
 
-  pub by-list : (r r' : Done) (o' k' : List ℕ) → sign_of d.token ≡ 91 → ParsedList t o k d.index m at top left r o' k'
+  pub by-list : (r r' : Result Done Refused) (o' k' : List ℕ) → sign_of d.token ≡ 91 → ParsedList t o k d.index m at top left r o' k'
       → r' ≡ held_done want d.index r → ParsedValue t o k set want p at top left r' o' k'
   by-list r r' o' k' s v e =
       rw e (on _ (held_done want d.index r) o' k' (by_token ∙ value-square t (length o) left (inner t (length o) left) want d m at s)
       (held-is want d.index _ t o k top at m r o' k' v))
 
-  pub by_scalar : (r : Done) (o' : List ℕ) → at ≤ 16 * p → eqb (sign_of d.token) 123 ≡ false → eqb (sign_of d.token) 91 ≡ false
+  pub by_scalar : (r : Result Done Refused) (o' : List ℕ) → at ≤ 16 * p → eqb (sign_of d.token) 123 ≡ false → eqb (sign_of d.token) 91 ≡ false
       → Puts (scalar_value t (length o) want d m at) o at r o' → ParsedValue t o k set want p at top left r o' k
-  by_scalar (No a b) o' l g s e = by_token ∙ value-scalar t (length o) left (inner t (length o) left) want d m at g s ∙ e.0
-  by_scalar (To n u kind) o' l g s did =
+  by_scalar (Err x) o' l g s e = by_token ∙ value-scalar t (length o) left (inner t (length o) left) want d m at g s ∙ e.0
+  by_scalar (Ok y) o' l g s did =
       let met = met_at set t p d m is h in
       let z = scalar-went met (length o) want at did.value did.same in
       let w = token-moves set t p d m is h in (

@@ -15,7 +15,9 @@ use Rattle.form.proofs.Table.{over_none, over-length, over-over}
 use Rattle.snbt_form.specs.Lexing.{first, later}
 use Rattle.snbt_form.specs.Text.{Value, Row, Reads, array_at, elements_by, square_at, value_at}
 use Rattle.snbt_placing.specs.declared.Done.{Done}
-use Rattle.snbt_placing.specs.declared.Done.TheVariants.{To, No}
+use Rattle.std.specs.Prelude.{Result, Ok, Err}
+use Rattle.form.specs.Refusals.{number_of}
+use Rattle.form.specs.declared.refusals.Refused.{Refused}
 use Rattle.snbt_placing.specs.Done.{Did, Agrees, Ahead, Wide, bytes, ints, longs}
 use Rattle.snbt_due.specs.Due.{value_from}
 use Rattle.snbt_lists.specs.declared.NextElement.{NextElement}
@@ -37,22 +39,24 @@ wide-le _ ints = omega arith
 wide-le _ longs = omega arith
 
 module _ (t o k : List ℕ) (brace p at top left : ℕ) (h : at + 16 ≤ 16 * p) where
-  pub list-array : (w m : ℕ) (r : Done) (o' : List ℕ) → OpenedIs t (length o) left brace p at (Opened.Array w m)
+  pub list-array : (w m : ℕ) (r : Result Done Refused) (o' : List ℕ) → OpenedIs t (length o) left brace p at (Ok (Opened.Array w m))
       → Agrees (array_at t (length o) w brace m at) o at r o' → Ahead m (length t) r → ParsedList t o k brace p at top left r o' k
-  list-array w m (No a b) o' (e, wide, g, l) s ahead = e (inner t (length o) left) ∙ s
-  list-array w m (To n u kind) o' (e, wide, g, l) d ahead =
+  list-array w m (Err x) o' (e, wide, g, l) s ahead = e (inner t (length o) left) ∙ s
+  list-array w m (Ok y) o' (e, wide, g, l) d ahead =
       let z = array-went t (length o) w brace (wide-le w wide) m at l d.value d.same in (
         did-as (e (inner t (length o) left)) d,
         record { around = refl; on = omega (arith, g, ahead.0); within = ahead.1; small = omega (arith, d.next_is, d.used_is, z, g, ahead.0) },
       )
 
-  pub list-empty : (m : ℕ) (r : Done) (o' : List ℕ) → OpenedIs t (length o) left brace p at (Opened.Empty m)
-      → Agrees (got (empty_at m at)) o at r o' → r ≡ To m (at + 5) 9 → ParsedList t o k brace p at top left r o' k
-  list-empty m r o' (e, room, g, l) s q =
-      rw q (did-as (e (inner t (length o) left)) (rw q at s), record { around = refl; on = omega (arith, g); within = l; small = omega (arith, g) })
+  pub list-empty : (m : ℕ) (d : Done) (o' : List ℕ) → OpenedIs t (length o) left brace p at (Ok (Opened.Empty m))
+      → Agrees (got (empty_at m at)) o at (Ok d) o' → (d.next ≡ m) × (d.used ≡ at + 5) × (d.kind ≡ 9) → ParsedList t o k brace p at top left (Ok d) o' k
+  list-empty m d o' (e, room, g, l) s q = (
+    did-as (e (inner t (length o) left)) s,
+    record { around = refl; on = omega (arith, q.0, g); within = omega (arith, q.0, l); small = omega (arith, q.0, q.1, g) },
+  )
 
   -- a list with a first element, whose elements are read with one container fewer
-  module _ (opened : OpenedIs t (length o) left brace p at Opened.First) where
+  module _ (opened : OpenedIs t (length o) left brace p at (Ok Opened.First)) where
     abbrev val : Reads
     val = value_at t (length o) (left - 1)
 
@@ -64,21 +68,15 @@ module _ (t o k : List ℕ) (brace p at top left : ℕ) (h : at + 16 ≤ 16 * p)
         opened.0 (inner t (length o) left)
         ∙ rw (inner_is t (length o) left (λ z. absurd (omega (arith, z, opened.1)))) refl
 
-    pub list-value-no : (a b : ℕ) → value_from t (length o) val first 0 p (at + 5) ≡ no a b → square ≡ no a b
-    list-value-no a b g = begun ∙ rw g refl
-
     -- behind the first element, which ends at n and takes the output up to u
     module _ (o₁ k₁ : List ℕ) (n u kind : ℕ) (did : Did (value_from t (length o) val first 0 p (at + 5)) o (at + 5) n u kind o₁) (went₁ : Went t k top p n u k₁) where
       on : square ≡ (elements_by t (length o) (suc (length t)) val kind n u
           >>= (λ r. got (record { tag = tree.list (more did.value.tag r.tags); next = r.next; used = r.used })))
       on = begun ∙ rw (did.same, did.kind_is, did.next_is, did.used_is) refl
 
-      pub list-elements-no : (a b : ℕ) → elements_by t (length o₁) (suc (length t)) (value_at t (length o₁) (left - 1)) kind n u ≡ no a b → square ≡ no a b
-      list-elements-no a b g = on ∙ rw (rw (did-long did) at g) refl
-
-      pub list-whole : (o₂ o₃ k₂ : List ℕ) (n₂ u₂ c : ℕ) → ParsedElements t o₁ k₁ kind n u top (left - 1) (Elements.To n₂ u₂ c) o₂ k₂
-          → o₃ ≡ over o₂ at (kind ∷ bytes_of 4 (c + 1)) → ParsedList t o k brace p at top left (To n₂ u₂ 9) o₃ k₂
-      list-whole o₂ o₃ k₂ n₂ u₂ c (ran, went, few) put =
+      pub list-whole : (o₂ o₃ k₂ : List ℕ) (r : Elements) → ParsedElements t o₁ k₁ kind n u top (left - 1) (Ok r) o₂ k₂
+          → o₃ ≡ over o₂ at (kind ∷ bytes_of 4 (r.count + 1)) → ParsedList t o k brace p at top left (Ok (record { next = r.next; used = r.used; kind = 9 })) o₃ k₂
+      list-whole o₂ o₃ k₂ r (ran, went, few) put =
           let v = did.value.tag in
           let ts = ran.row.tags in (
             record {
@@ -90,7 +88,7 @@ module _ (t o k : List ℕ) (brace p at top left : ℕ) (h : at + 16 ≤ 16 * p)
               size_is = omega (arith, ran.size_is, did.size_is, list-size v ts);
               fits = omega (arith, ran.fits, did-long did);
               wrote =
-                  list_over o o₁ o₂ o₃ at u kind c v ts (omega (arith, did.size_is, did.fits)) did.wrote did.size_is
+                  list_over o o₁ o₂ o₃ at u kind r.count v ts (omega (arith, did.size_is, did.fits)) did.wrote did.size_is
                   ran.wrote did.kind_is ran.count_is put;
             },
             record { around = went.around ∙ went₁.around; on = omega (arith, went₁.on, went.on); within = went.within; small = went.small },
@@ -183,10 +181,11 @@ module _ {t o₀ k₀ : List ℕ} {kind start at top left : ℕ} {o k : List ℕ
   listing-refused : (a b : ℕ) → ((f : ℕ) → elements_by t (length o₀) (suc f) reads kind place used ≡ no a b) → whole_list ≡ no a b
   listing-refused a b e = turn (λ f h r. sym r ∙ ap (after_tags s.done) (e f))
 
-  pub listing-no : (a b : ℕ) → ElementIs t place (NextElement.No a b) → whole_list ≡ no a b
-  listing-no a b e = listing-refused a b (λ f. e (length o₀) f reads kind used)
+  pub listing-no : (x : Refused) → ElementIs t place (Err x) → whole_list ≡ no (number_of x.refusal) x.place
+  listing-no x e = listing-refused (number_of x.refusal) x.place (λ f. e (length o₀) f reads kind used)
 
-  pub listing-end : (m : ℕ) → ElementIs t place (NextElement.End m) → ParsedElements t o₀ k₀ kind start at top left (Elements.To m used count) o k
+  pub listing-end : (m : ℕ) → ElementIs t place (Ok (NextElement.End m))
+      → ParsedElements t o₀ k₀ kind start at top left (Ok (record { next = m; used = used; count = count })) o k
   listing-end m (e, g, l) = (
     record {
       row = record { tags = s.done; next = m; used = used };
@@ -205,7 +204,7 @@ module _ {t o₀ k₀ : List ℕ} {kind start at top left : ℕ} {o k : List ℕ
   )
 
   -- a comma, and the next element from m on
-  module _ (m : ℕ) (next : ElementIs t place (NextElement.Is m)) where
+  module _ (m : ℕ) (next : ElementIs t place (Ok (NextElement.Is m))) where
     pub listing-value-no : (a b : ℕ) → value_from t (length o) (value_at t (length o) left) later kind m used ≡ no a b → whole_list ≡ no a b
     listing-value-no a b g = listing-refused a b (λ f. next.0 (length o₀) f reads kind used ∙ rw (rw listing-long at g) refl)
 
@@ -215,10 +214,10 @@ module _ {t o₀ k₀ : List ℕ} {kind start at top left : ℕ} {o k : List ℕ
         next.0 (length o₀) f reads kind used
         ∙ rw did.same (λ j. elements_by t (length o₀) f reads kind (sym did.next_is j) (sym did.used_is j) >>= more_tag did.value.tag)
 
-    pub listing-more : (o' k' : List ℕ) (n u kind' : ℕ) → ParsedValue t o k later kind m used top left (To n u kind') o' k'
-        → Listing t o₀ k₀ kind start at top left o' k' n u (count + 1)
-    listing-more o' k' n u kind' (value, went) =
-        let did : Did (value_from t (length o₀) reads later kind m used) o used n u kind' o' = rw listing-long at value in
+    pub listing-more : (o' k' : List ℕ) (d : Done) → ParsedValue t o k later kind m used top left (Ok d) o' k'
+        → Listing t o₀ k₀ kind start at top left o' k' d.next d.used (count + 1)
+    listing-more o' k' d (value, went) =
+        let did : Did (value_from t (length o₀) reads later kind m used) o used d.next d.used d.kind o' = rw listing-long at value in
         let v = did.value.tag in
         let all = ◌then◌ s.done (more v nil) in
         let bytes_are : element_bytes all ≡ element_bytes s.done ++ payload v =
@@ -227,7 +226,7 @@ module _ {t o₀ k₀ : List ℕ} {kind start at top left : ℕ} {o k : List ℕ
           turns = f;
           done = all;
           enough = omega (arith, h, next.1, went.on);
-          rest = sym (after_one_lem s.done v (elements_by t (length o₀) f reads kind n u)) ∙ ap (after_tags s.done) (sym (step f did)) ∙ r;
+          rest = sym (after_one_lem s.done v (elements_by t (length o₀) f reads kind d.next d.used)) ∙ ap (after_tags s.done) (sym (step f did)) ∙ r;
           count_is = omega (arith, s.count_is, many-then s.done (more v nil), one-many v);
           used_is = omega (arith, s.used_is, did.size_is, ap length bytes_are, length-append (element_bytes s.done) (payload v));
           fits = omega (arith, did.fits, listing-long);

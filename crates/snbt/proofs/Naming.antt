@@ -5,8 +5,8 @@ use mathlib.Core.Path.{◌≡◌, refl, sym, ap, ◌∙◌}
 use mathlib.Core.Bool.{◌||◌}
 use mathlib.Core.List.{List, [], ◌∷◌, ◌++◌}
 use native.Mathlib.Omega.{arith}
-use lib.ListN.{length, take, length-take}
-use Rattle.form.specs.Answer.{Out, got, no, ◌>>=◌, unmatched_brace}
+use lib.ListN.{length, take}
+use Rattle.form.specs.Answer.{Out, got, ◌>>=◌, unmatched_brace}
 use Rattle.form.specs.Spans.{over, part, same}
 use Rattle.form.proofs.Places.{part-over}
 use Rattle.form.specs.Tree.{kind_of}
@@ -23,6 +23,8 @@ use Rattle.snbt_due.specs.Due.{value_from}
 use Rattle.snbt_entries.specs.declared.Block.{Block as Open}
 use Rattle.snbt_entries.specs.declared.EntryTurn.{EntryTurn}
 use Rattle.snbt_entries.specs.declared.Key.{Key}
+use Rattle.std.specs.Prelude.{Result, Ok, Err}
+use Rattle.form.specs.declared.refusals.Refused.{Refused}
 use Rattle.snbt_entries.specs.Entries.{Entered, stops, enters, entry_turn, KeyedIs, Keyed, SettledIs}
 use Rattle.snbt.specs.Turns.{Turned, Went}
 use Rattle.snbt.specs.Steps.{Grown, ParsedEntry}
@@ -68,22 +70,14 @@ known-head x s ns = refl
 
 -- ---- a turn of a compound
 
--- A key lies in the buffer.
-pub keyed-within : {t : List ℕ} {brace : ℕ} {last : Last} {p : ℕ} {o k : List ℕ} {base top : ℕ} {buffer : List ℕ} {n i m : ℕ}
-    → Keyed t brace last p o k base top buffer n i m → n ≤ length buffer
-keyed-within {buffer = buffer} {n = n} k =
-    let e : n ≡ length (take n buffer) = k.fit.length_is ∙ ap length (sym k.fit.stands) in
-    omega (arith, simp length-take at e)
-
 module _ (t o k : List ℕ) (b : Open) (last : Last) (p at top left : ℕ) where
   abbrev turn : Out Entered
   turn = entry_turn t (length o) (value_at t (length o) left) b.brace.0 (names_in o k b.base (top - b.base)) last p at
 
   -- The `}` in the place of a key.
-  pub entry-end : (buffer : List ℕ) (key : Key) → (i : _) (m : ℕ) → key ≡ Key.End i m → KeyedIs t b.brace.0 last p o k b.base top buffer key
-      → at ≤ length o → at ≤ 16 * p → ParsedEntry t o k b last p at top left (EntryTurn.Last i m at) o k
-  entry-end buffer key i m is s f g =
-      let e = rw is at s in
+  pub entry-end : (buffer : List ℕ) (i : _) (m : ℕ) → KeyedIs t b.brace.0 last p o k b.base top buffer (Ok (Key.End i m))
+      → at ≤ length o → at ≤ 16 * p → ParsedEntry t o k b last p at top left (Ok (EntryTurn.Last i m at)) o k
+  entry-end buffer i m e f g =
       record {
         turned = record {
           entered = stops i.0 m;
@@ -110,9 +104,6 @@ module _ (t o k : List ℕ) (b : Open) (last : Last) (p at top left : ℕ) where
     begun =
         let z : at + (3 + length s) ≡ at + 3 + n = omega (arith, keyed.fit.length_is) in
         keyed.is (length o) (value_at t (length o) left) at ∙ rw z refl
-
-    pub entry-value-no : (o₁ : List ℕ) → length o₁ ≡ length o → (a q : ℕ) → value_from t (length o₁) (value_at t (length o₁) left) value 0 m (at + 3 + n) ≡ no a q → turn ≡ no a q
-    entry-value-no o₁ l a q e = begun ∙ rw (rw l at e) refl
 
     -- the name is put, the value is read on to q, up to u, and then the id is put
     module _ (o₁ o₂ o₃ k₂ : List ℕ) (q u kind : ℕ) (l : length o₁ ≡ length o) (l₂ : length k₂ ≡ length k)
@@ -193,9 +184,9 @@ module _ (t o k : List ℕ) (b : Open) (last : Last) (p at top left : ℕ) where
         }
 
         -- What follows it.
-        pub entry-settled : (r : EntryTurn) → SettledIs t q u b.brace.0 r → ParsedEntry t o k b last p at top left r o₃ k₃
-        entry-settled (EntryTurn.More c m' u') (e, h, w, z) = rw z (grown c.0 m' (e (length o)) h w)
-        entry-settled (EntryTurn.Last j m' u') (e, h, w, z) =
+        pub entry-settled : (r : Result EntryTurn Refused) → SettledIs t q u b.brace.0 r → ParsedEntry t o k b last p at top left r o₃ k₃
+        entry-settled (Ok (EntryTurn.More c m' u')) (e, h, w, z) = rw z (grown c.0 m' (e (length o)) h w)
+        entry-settled (Ok (EntryTurn.Last j m' u')) (e, h, w, z) =
             rw z (record {
               turned = turned (closes j.0 m') (e (length o));
               around = around;
@@ -203,4 +194,4 @@ module _ (t o k : List ℕ) (b : Open) (last : Last) (p at top left : ℕ) where
               within = w;
               small = omega (arith, went.small, h);
             })
-        entry-settled (EntryTurn.No a r) e = read ∙ rw (e (length o)) refl
+        entry-settled (Err x) e = read ∙ rw (e (length o)) refl

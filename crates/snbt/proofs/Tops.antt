@@ -9,7 +9,6 @@ use native.Mathlib.Omega.{arith}
 use borrow.Author.Tests.{eq-eqb, lt-leb}
 use lib.Dec.{eqb}
 use lib.ListN.{length, replicate}
-use types.Run.{OneOf}
 use Rattle.form.specs.Answer.{Out, got, no, unexpected_token, text_ends, depth_limit}
 use Rattle.form.specs.Numbers.{digits}
 use Rattle.form.specs.Spans.{over}
@@ -20,23 +19,17 @@ use Rattle.form.proofs.Picks.{lt-or}
 use Rattle.form.proofs.Table.{over-before}
 use Rattle.snbt_form.specs.Lexing.{default, TokenData, found, token_at, judged_text}
 use Rattle.snbt_form.specs.Text.{Value, Block, Reads, sign_of, due, compound_at, value_at, parsed, ParseIs, lengths_of, output_after, document_of}
-use Rattle.snbt_key_text.specs.Keys.{KeyRoom}
-use Rattle.snbt_tokens.specs.Answers.{token_is}
-use Rattle.snbt_tokens.specs.declared.Token.{Token}
-use Rattle.snbt_tokens.proofs.Rests.{tag_of, other_sign}
 use Rattle.snbt_placing.specs.declared.Done.{Done}
-use Rattle.snbt_placing.specs.declared.Done.TheVariants.{To, No}
+use Rattle.std.specs.Prelude.{Result, Ok, Err}
+use Rattle.form.specs.Refusals.{number_of}
+use Rattle.form.specs.declared.refusals.Refused.{Refused}
 use Rattle.snbt_due.proofs.Reading.{due-found}
-use Rattle.snbt.specs.Turns.{Ready, inner, block_value, root_of, Rooted}
+use Rattle.snbt.specs.Turns.{inner, block_value, root_of, Rooted}
 use Rattle.snbt.specs.Steps.{RootIs, ParsedCompound}
 use Rattle.snbt.proofs.Reading.{inner_is}
 use Rattle.snbt.proofs.Bytes.{compound-bytes}
 
 -- ---- scratch
-
--- Scratch of other bytes and the same lengths.
-pub ready-kept : {t k b k' b' : List ℕ} → Ready t k b → length k' ≡ length k → length b' ≡ length b → Ready t k' b'
-ready-kept {t} r e f = record { text_le = r.text_le; keys_ge = omega (arith, r.keys_ge, e); buffer_ge = subst (λ (x : ℕ). KeyRoom (length t) x) (sym f) r.buffer_ge }
 
 -- ---- a compound's value and its block
 
@@ -55,13 +48,6 @@ block-got (no n p) v e = absurd (got-no (sym e))
 
 -- ---- the root
 
--- what the arm of `{` leaves of the tokens
-abbrev all_but_curly : List ℕ
-all_but_curly = 1 ∷ 2 ∷ 3 ∷ 4 ∷ 5 ∷ 6 ∷ 7 ∷ 8 ∷ 9 ∷ 10 ∷ 11 ∷ 12 ∷ 13 ∷ []
-
-pub not-curly : (k : Token) → OneOf all_but_curly (tag_of k) → eqb (sign_of (token_is k)) 123 ≡ false
-not-curly k = other_sign 123 k all_but_curly (search refl)
-
 layout_is : (b : Block) → layout (document_of b) ≡ (10 ∷ 0 ∷ 0 ∷ []) ++ entry_bytes b.entries
 unfolding layout_in digits
 layout_is b = refl
@@ -75,11 +61,11 @@ module _ (t o k : List ℕ) (brace m : ℕ) where
   within : rooted ≡ compound_at t (length o) 512 (inner t (length o) 512) brace m 3
   within = ap (λ (v : Reads). compound_at t (length o) 512 v brace m 3) (sym (inner_is t (length o) 512 (λ z. absurd (omega (arith, z)))))
 
-  pub rooted-no : (a b : ℕ) (o₁ k₁ : List ℕ) → ParsedCompound t o k brace m 3 0 512 (No a b) o₁ k₁ → rooted ≡ no a b
-  rooted-no a b o₁ k₁ g = within ∙ block_no (compound_at t (length o) 512 (inner t (length o) 512) brace m 3) a b g
+  pub rooted-no : (x : Refused) (o₁ k₁ : List ℕ) → ParsedCompound t o k brace m 3 0 512 (Err x) o₁ k₁ → rooted ≡ no (number_of x.refusal) x.place
+  rooted-no x o₁ k₁ g = within ∙ block_no (compound_at t (length o) 512 (inner t (length o) 512) brace m 3) (number_of x.refusal) x.place g
 
-  pub rooted-did : (n u kind : ℕ) (o₁ k₁ o₂ : List ℕ) → ParsedCompound t o k brace m 3 0 512 (To n u kind) o₁ k₁ → o₂ ≡ over o₁ 0 (10 ∷ 0 ∷ 0 ∷ []) → Rooted rooted o n u o₂
-  rooted-did n u kind o₁ k₁ o₂ (did, went) e =
+  pub rooted-did : (d : Done) (o₁ k₁ o₂ : List ℕ) → ParsedCompound t o k brace m 3 0 512 (Ok d) o₁ k₁ → o₂ ≡ over o₁ 0 (10 ∷ 0 ∷ 0 ∷ []) → Rooted rooted o d.next d.used o₂
+  rooted-did d o₁ k₁ o₂ (did, went) e =
       let b = block-got (compound_at t (length o) 512 (inner t (length o) 512) brace m 3) did.value did.same in
       record {
         block = b.block;
@@ -94,7 +80,7 @@ module _ (t o k : List ℕ) (brace m : ℕ) where
       }
 
 -- What is said of an answer is said of the same one under another name.
-pub root-as : {res res' : Out Block} (o : List ℕ) (r : Done) (o' : List ℕ) → res ≡ res' → RootIs res' o r o' → RootIs res o r o'
+pub root-as : {res res' : Out Block} (o : List ℕ) (r : Result Done Refused) (o' : List ℕ) → res ≡ res' → RootIs res' o r o' → RootIs res o r o'
 root-as o r o' e v = subst (λ (x : Out Block). RootIs x o r o') (sym e) v
 
 module _ (t : List ℕ) (room : ℕ) where

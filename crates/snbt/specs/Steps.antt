@@ -1,11 +1,13 @@
 -- What the contracts of the parser's cycle cite: what each answer means, and what is left behind.
 -- Assumes nothing.
-use Rattle.std.specs.Prelude.{ℕ, suc, ◌+◌, ◌-◌, ◌*◌, ◌≤◌, ◌<◌, ◌≡◌, Bool, true, false, ◌||◌, List, [], eqb, length, take}
-use Rattle.form.specs.Answer.{Out, no, mixed_list}
+use Rattle.std.specs.Prelude.{ℕ, suc, ◌+◌, ◌-◌, ◌*◌, ◌≤◌, ◌<◌, ◌≡◌, Bool, true, false, ◌||◌, List, [], eqb, length, take, Result, Ok, Err}
+use Rattle.form.specs.Refusals.{number_of}
+use Rattle.form.specs.declared.refusals.Refusal.TheVariants.{MixedList}
+use Rattle.form.specs.declared.refusals.Refused.{Refused}
+use Rattle.form.specs.Answer.{Out, no}
 use Rattle.snbt_form.specs.Lexing.{Stops}
 use Rattle.snbt_form.specs.Text.{Value, Row, Block, goes_on, closes, Last, otherwise, elements_by, square_at, known, entries_by, compound_at, value_at}
 use Rattle.snbt_placing.specs.declared.Done.{Done}
-use Rattle.snbt_placing.specs.declared.Done.TheVariants.{To, No}
 use Rattle.snbt_due.specs.Due.{value_from}
 use Rattle.snbt_entries.specs.Entries.{Entered, entry_turn}
 use Rattle.snbt_entries.specs.declared.Block.{Block as Open}
@@ -36,64 +38,64 @@ pub record Closed (res : Out Entered) (t o k : List ℕ) (base at p : ℕ) (plac
   pub small : used + 1 ≤ 16 * m
 
 -- The answer of a turn of a compound, with the output and the keys behind it.
-abbrev pub TurnIs : Out Entered → List ℕ → List ℕ → List ℕ → ℕ → ℕ → ℕ → ℕ → EntryTurn → List ℕ → List ℕ → Type 0
-TurnIs res t o k base top at p (EntryTurn.More c m u) o' k' = Grown res t o k base top at p c.0 m u o' k'
-TurnIs res t o k base top at p (EntryTurn.Last i m u) o' k' = Closed res t o k base at p i.0 m u o' k'
-TurnIs res t o k base top at p (EntryTurn.No a b) o' k' = res ≡ no a b
+abbrev pub TurnIs : Out Entered → List ℕ → List ℕ → List ℕ → ℕ → ℕ → ℕ → ℕ → Result EntryTurn Refused → List ℕ → List ℕ → Type 0
+TurnIs res t o k base top at p (Ok (EntryTurn.More c m u)) o' k' = Grown res t o k base top at p c.0 m u o' k'
+TurnIs res t o k base top at p (Ok (EntryTurn.Last i m u)) o' k' = Closed res t o k base at p i.0 m u o' k'
+TurnIs res t o k base top at p (Err e) o' k' = res ≡ no (number_of e.refusal) e.place
 
 -- ---- values
 
-abbrev pub ValueIs : Out Value → List ℕ → List ℕ → List ℕ → ℕ → ℕ → ℕ → Done → List ℕ → List ℕ → Type 0
-ValueIs res t o k top at p (To n u kind) o' k' = Did res o at n u kind o' × Went t k top p n u k'
-ValueIs res t o k top at p (No a b) o' k' = res ≡ no a b
+abbrev pub ValueIs : Out Value → List ℕ → List ℕ → List ℕ → ℕ → ℕ → ℕ → Result Done Refused → List ℕ → List ℕ → Type 0
+ValueIs res t o k top at p (Ok d) o' k' = Did res o at d.next d.used d.kind o' × Went t k top p d.next d.used k'
+ValueIs res t o k top at p (Err e) o' k' = res ≡ no (number_of e.refusal) e.place
 
 -- The same of the elements of a list behind its first; there are no more of them than bytes of the text.
-abbrev pub RunIs : Out Row → List ℕ → List ℕ → List ℕ → ℕ → ℕ → ℕ → Elements → List ℕ → List ℕ → Type 0
-RunIs res t o k top at p (Elements.To n u c) o' k' = Ran res o at n u c o' × Went t k top p n u k' × (c ≤ n)
-RunIs res t o k top at p (Elements.No a b) o' k' = res ≡ no a b
+abbrev pub RunIs : Out Row → List ℕ → List ℕ → List ℕ → ℕ → ℕ → ℕ → Result Elements Refused → List ℕ → List ℕ → Type 0
+RunIs res t o k top at p (Ok r) o' k' = Ran res o at r.next r.used r.count o' × Went t k top p r.next r.used k' × (r.count ≤ r.next)
+RunIs res t o k top at p (Err e) o' k' = res ≡ no (number_of e.refusal) e.place
 
 -- ---- the members of the cycle, each with what it leaves in the output o and the keys k
 
 -- A value that is due at p, behind `at` bytes of the output, with so many keys and containers left.
-abbrev pub ParsedValue : (t o k : List ℕ) (set : Stops) (want p at top left : ℕ) → Done → (o' k' : List ℕ) → Type 0
+abbrev pub ParsedValue : (t o k : List ℕ) (set : Stops) (want p at top left : ℕ) → Result Done Refused → (o' k' : List ℕ) → Type 0
 ParsedValue t o k set want p at top left r o' k' = ValueIs (value_from t (length o) (value_at t (length o) left) set want p at) t o k top at p r o' k'
 
 -- What a `[` at `brace` opens.
-abbrev pub ParsedList : (t o k : List ℕ) (brace p at top left : ℕ) → Done → (o' k' : List ℕ) → Type 0
+abbrev pub ParsedList : (t o k : List ℕ) (brace p at top left : ℕ) → Result Done Refused → (o' k' : List ℕ) → Type 0
 ParsedList t o k brace p at top left r o' k' = ValueIs (square_at t (length o) left (inner t (length o) left) brace p at) t o k top at p r o' k'
 
 -- The elements of a list behind one of a kind.
-abbrev pub ParsedElements : (t o k : List ℕ) (kind p at top left : ℕ) → Elements → (o' k' : List ℕ) → Type 0
+abbrev pub ParsedElements : (t o k : List ℕ) (kind p at top left : ℕ) → Result Elements Refused → (o' k' : List ℕ) → Type 0
 ParsedElements t o k kind p at top left r o' k' =
     RunIs (elements_by t (length o) (suc (length t)) (value_at t (length o) left) kind p at) t o k top at p r o' k'
 
 -- The compound that a `{` at `brace` opens.
-abbrev pub ParsedCompound : (t o k : List ℕ) (brace p at top left : ℕ) → Done → (o' k' : List ℕ) → Type 0
+abbrev pub ParsedCompound : (t o k : List ℕ) (brace p at top left : ℕ) → Result Done Refused → (o' k' : List ℕ) → Type 0
 ParsedCompound t o k brace p at top left r o' k' =
     ValueIs (block_value (compound_at t (length o) left (inner t (length o) left) brace p at)) t o k top at p r o' k'
 
 -- The entries of an open compound.
-abbrev pub ParsedEntries : (t o k : List ℕ) (b : Open) (p at left : ℕ) → Done → (o' k' : List ℕ) → Type 0
+abbrev pub ParsedEntries : (t o k : List ℕ) (b : Open) (p at left : ℕ) → Result Done Refused → (o' k' : List ℕ) → Type 0
 ParsedEntries t o k b p at left r o' k' =
     ValueIs (block_value (entries_by t (length o) (suc (length t)) (value_at t (length o) left) b.brace.0 [] otherwise p at)) t o k b.base at p r o' k'
 
 -- One entry of it, or its end.
-abbrev pub ParsedEntry : (t o k : List ℕ) (b : Open) (last : Last) (p at top left : ℕ) → EntryTurn → (o' k' : List ℕ) → Type 0
+abbrev pub ParsedEntry : (t o k : List ℕ) (b : Open) (last : Last) (p at top left : ℕ) → Result EntryTurn Refused → (o' k' : List ℕ) → Type 0
 ParsedEntry t o k b last p at top left r o' k' =
     TurnIs (entry_turn t (length o) (value_at t (length o) left) b.brace.0 (names_in o k b.base (top - b.base)) last p at) t o k b.base top at p r o' k'
 
 -- An answer where a test holds, else refusal 11.
-abbrev pub unless : Bool → Done → ℕ → Done
+abbrev pub unless : Bool → Result Done Refused → ℕ → Result Done Refused
 unless true r p = r
-unless false r p = No mixed_list p
+unless false r p = Err (record { refusal = MixedList; place = p })
 
 -- The code's answer held to its list's kind.
-abbrev pub held_done : ℕ → ℕ → Done → Done
-held_done want p (To n u k) = unless (eqb want 0 || eqb k want) (To n u k) p
-held_done want p (No a b) = No a b
+abbrev pub held_done : ℕ → ℕ → Result Done Refused → Result Done Refused
+held_done want p (Ok d) = unless (eqb want 0 || eqb d.kind want) (Ok d) p
+held_done want p (Err e) = Err e
 
 -- ---- the whole
 
-abbrev pub RootIs : Out Block → List ℕ → Done → List ℕ → Type 0
-RootIs res o (To n u k) o' = Rooted res o n u o'
-RootIs res o (No a b) o' = res ≡ no a b
+abbrev pub RootIs : Out Block → List ℕ → Result Done Refused → List ℕ → Type 0
+RootIs res o (Ok d) o' = Rooted res o d.next d.used o'
+RootIs res o (Err e) o' = res ≡ no (number_of e.refusal) e.place

@@ -10,42 +10,38 @@ ghost use Rattle.snbt.specs.Answers.{parsed_out};
 ghost use Rattle.snbt.specs.Steps.{RootIs};
 ghost use Rattle.std.specs.Prelude.{length};
 
+use form::refusals::Refused;
 use snbt_placing::Done;
-use snbt_text::Text;
 
-// The answer of a parse: the bytes of the text consumed and those of the document written, or the number and the place of the refusal.
-#[derive(Drop)]
-pub enum Parsed {
-    Document { consumed: usize, written: usize },
-    Refused { number: u8, place: usize },
+// A document that was written: the bytes of the text consumed and those of the document.
+#[derive(Clone, Copy)]
+pub struct Parsed {
+    pub consumed: usize,
+    pub written: usize,
 }
 
 // A document from a text: refusals 9 and 15 first.
-fn judged(text: &[u8], out: &mut [u8]) -> Done
+fn judged(text: &[u8], out: &mut [u8]) -> Result<Done, Refused>
     ensures { RootIs (parsed text.now (length out.old)) out.old result out.new }
 {
-    if let Text::Refused { number } = snbt_text::judged_text(text) {
-        return Done::No { number, place: 0 };
+    if let Err(refusal) = snbt_text::judged_text(text) {
+        return Err(Refused { refusal, place: 0 });
     }
     scratch::stepped(text, out, 512)
 }
 
 // The document that a text means, with an empty root name; after a refusal the whole output is zero.
-pub fn parse(text: &[u8], out: &mut [u8]) -> Parsed
+pub fn parse(text: &[u8], out: &mut [u8]) -> Result<Parsed, Refused>
     ensures { ParseIs text.now out.old (parsed_out result) out.new }
 {
     match judged(text, out) {
-        Done::No { number, place } => {
+        Ok(done) => Ok(Parsed {
+            consumed: done.next,
+            written: done.used,
+        }),
+        Err(refused) => {
             slices::clear(out);
-            Parsed::Refused { number, place }
+            Err(refused)
         }
-        Done::To {
-            next,
-            used,
-            kind: _,
-        } => Parsed::Document {
-            consumed: next,
-            written: used,
-        },
     }
 }

@@ -1,48 +1,38 @@
 // The cycle of rules 14 and 15: values, lists and compounds call each other, and the containers that may still be opened, from 512,
 // become one fewer at each opening brace. The names are those of snbt.rs in the crate.
-ghost use Rattle.std.specs.Prelude.{◌≡◌, ◌+◌, ◌*◌, ◌≤◌, length};
+ghost use Rattle.std.specs.Prelude.{◌≡◌, ◌+◌, ◌*◌, ◌≤◌, length, Ok};
 ghost use Rattle.snbt_tokens.specs.Answers.{stops_is, last_is};
 ghost use Rattle.snbt_keys.specs.Keys.{Kept};
 ghost use Rattle.snbt.specs.Turns.{Ready};
 ghost use Rattle.snbt.specs.Steps.{ParsedValue, ParsedList, ParsedElements, ParsedCompound, ParsedEntries, ParsedEntry, held_done};
 
 use form::kinds;
+use form::refusals::{Refusal, Refused};
 use snbt_arrays::parse_prim_list;
 use snbt_entries::{Block, EntryTurn, Key};
 use snbt_lists::{NextElement, Opened};
 use snbt_placing::Done;
 use snbt_tokens::{Index, Last, Lexed, Stops, Token};
 
-// The elements of a list behind its first.
-#[derive(Drop)]
-enum Elements {
-    To {
-        next: usize,
-        used: usize,
-        count: usize,
-    },
-    No {
-        number: u8,
-        place: usize,
-    },
+// The elements of a list behind its first: the next place in the text, the next in the output, and how many there are.
+#[derive(Clone, Copy)]
+struct Elements {
+    next: usize,
+    used: usize,
+    count: usize,
 }
 
 // A value that differs from its list's kind is refusal 11 at its token.
-fn alike(done: Done, want: u8, index: Index) -> Done
-    ensures { result ≡ held_done want index.0 done }
+fn alike(done: Done, want: u8, index: Index) -> Result<Done, Refused>
+    ensures { result ≡ held_done want index.0 (Ok done) }
 {
-    match done {
-        Done::No { number, place } => Done::No { number, place },
-        Done::To { next, used, kind } => {
-            if snbt_placing::is_alike(want, kind) {
-                return Done::To { next, used, kind };
-            }
-            Done::No {
-                number: form::MIXED_LIST,
-                place: index.0,
-            }
-        }
+    if snbt_placing::is_alike(want, done.kind) {
+        return Ok(done);
     }
+    Err(Refused {
+        refusal: Refusal::MixedList,
+        place: index.0,
+    })
 }
 
 // A value from a place on, by its first token, which is made where it is used: it is large, and handing it on would copy it.
@@ -58,27 +48,27 @@ fn parse_value(
     top: usize,
     buffer: &mut [u8],
     left: usize,
-) -> Done
+) -> Result<Done, Refused>
     requires { (Ready text.now keys.old buffer.old) × (place ≤ length text.now) × (at ≤ 16 * place) × (3 * top ≤ place) }
     ensures { ParsedValue text.now out.old keys.old (stops_is set) want place at top left result out.new keys.new }
 {
-    match snbt_lexer::token_at(text, place, set) {
-        Lexed::Refused { number, place } => Done::No { number, place },
-        Lexed::Ended { place: _ } => Done::No {
-            number: form::TEXT_ENDS,
+    match snbt_lexer::token_at(text, place, set)? {
+        Lexed::Ended { place: _ } => Err(Refused {
+            refusal: Refusal::TextEnds,
             place: text.len(),
-        },
+        }),
         Lexed::Found { data: td, next } => {
-            let token = td.token;
             let index = td.index;
-            match token {
+            match td.token {
                 Token::OpenCurly => {
-                    let r = parse_compound_tag(text, index, next, out, at, keys, top, buffer, left);
-                    alike(r, want, index)
+                    let done = parse_compound_tag(
+                        text, index, next, out, at, keys, top, buffer, left,
+                    )?;
+                    alike(done, want, index)
                 }
                 Token::OpenSquare => {
-                    let r = parse_list(text, index, next, out, at, keys, top, buffer, left);
-                    alike(r, want, index)
+                    let done = parse_list(text, index, next, out, at, keys, top, buffer, left)?;
+                    alike(done, want, index)
                 }
                 _ => snbt_scalars::scalar(text, td, next, want, out, at),
             }
@@ -98,30 +88,27 @@ fn parse_list(
     top: usize,
     buffer: &mut [u8],
     left: usize,
-) -> Done
+) -> Result<Done, Refused>
     requires { (Ready text.now keys.old buffer.old) × (next ≤ length text.now) × (at + 16 ≤ 16 * next) × (3 * top ≤ next) }
     ensures { ParsedList text.now out.old keys.old brace.0 next at top left result out.new keys.new }
 {
-    match snbt_lists::opened_at(text, next, brace, left, out.len(), at) {
-        Opened::No { number, place } => Done::No { number, place },
+    match snbt_lists::opened_at(text, next, brace, left, out.len(), at)? {
         Opened::Array { width, next } => parse_prim_list(text, width, brace, next, out, at),
-        Opened::Empty { next } => snbt_lists::put_empty(out, at, next),
+        Opened::Empty { next } => Ok(snbt_lists::put_empty(out, at, next)),
         Opened::First => {
             let set = Stops::First;
             let inner = left - 1;
-            match parse_value(text, next, set, 0, out, at + 5, keys, top, buffer, inner) {
-                Done::No { number, place } => Done::No { number, place },
-                Done::To { next, used, kind } => {
-                    match parse_elements(text, next, kind, out, used, keys, top, buffer, inner) {
-                        Elements::No { number, place } => Done::No { number, place },
-                        Elements::To { next, used, count } => {
-                            snbt_lists::put_head(out, at, kind, count + 1);
-                            let kind = kinds::LIST;
-                            Done::To { next, used, kind }
-                        }
-                    }
-                }
-            }
+            let first = parse_value(text, next, set, 0, out, at + 5, keys, top, buffer, inner)?;
+            let kind = first.kind;
+            let rest = parse_elements(
+                text, first.next, kind, out, first.used, keys, top, buffer, inner,
+            )?;
+            snbt_lists::put_head(out, at, kind, rest.count + 1);
+            Ok(Done {
+                next: rest.next,
+                used: rest.used,
+                kind: kinds::LIST,
+            })
         }
     }
 }
@@ -138,7 +125,7 @@ fn parse_elements(
     top: usize,
     buffer: &mut [u8],
     left: usize,
-) -> Elements
+) -> Result<Elements, Refused>
     requires { (Ready text.now keys.old buffer.old) × (start ≤ length text.now) × (at ≤ length out.old) × (at ≤ 16 * start) × (3 * top ≤ start) }
     ensures { ParsedElements text.now out.old keys.old kind start at top left result out.new keys.new }
 {
@@ -146,23 +133,14 @@ fn parse_elements(
     let mut used = at;
     let mut count: usize = 0;
     loop {
-        match snbt_lists::element_behind(text, place) {
-            NextElement::No { number, place } => return Elements::No { number, place },
-            NextElement::End { next } => return Elements::To { next, used, count },
+        match snbt_lists::element_behind(text, place)? {
+            NextElement::End { next } => return Ok(Elements { next, used, count }),
             NextElement::Is { next } => {
                 let set = Stops::Later;
-                match parse_value(text, next, set, kind, out, used, keys, top, buffer, left) {
-                    Done::No { number, place } => return Elements::No { number, place },
-                    Done::To {
-                        next: n,
-                        used: u,
-                        kind: _,
-                    } => {
-                        place = n;
-                        used = u;
-                        count += 1;
-                    }
-                }
+                let done = parse_value(text, next, set, kind, out, used, keys, top, buffer, left)?;
+                place = done.next;
+                used = done.used;
+                count += 1;
             }
         }
     }
@@ -180,21 +158,21 @@ pub fn parse_compound_tag(
     top: usize,
     buffer: &mut [u8],
     left: usize,
-) -> Done
+) -> Result<Done, Refused>
     requires { (Ready text.now keys.old buffer.old) × (next ≤ length text.now) × (at ≤ 16 * next) × (3 * top ≤ next) }
     ensures { ParsedCompound text.now out.old keys.old brace.0 next at top left result out.new keys.new }
 {
     if left == 0 {
-        return Done::No {
-            number: form::TOO_DEEP,
+        return Err(Refused {
+            refusal: Refusal::TooDeep,
             place: brace.0,
-        };
+        });
     }
     if out.len() < at {
-        return Done::No {
-            number: form::OUTPUT_FULL,
+        return Err(Refused {
+            refusal: Refusal::OutputFull,
             place: brace.0,
-        };
+        });
     }
     let block = Block { brace, base: top };
     parse_entries(text, block, next, out, at, keys, buffer, left - 1)
@@ -211,7 +189,7 @@ fn parse_entries(
     keys: &mut [u32],
     buffer: &mut [u8],
     left: usize,
-) -> Done
+) -> Result<Done, Refused>
     requires { (Ready text.now keys.old buffer.old) × (next ≤ length text.now) × (at ≤ length out.old) × (at ≤ 16 * next) × (3 * block.base ≤ next) }
     ensures { ParsedEntries text.now out.old keys.old block next at left result out.new keys.new }
 {
@@ -220,8 +198,7 @@ fn parse_entries(
     let mut top = block.base;
     let mut last = Last::Other;
     loop {
-        match parse_entry(text, place, last, block, out, used, keys, top, buffer, left) {
-            EntryTurn::No { number, place } => return Done::No { number, place },
+        match parse_entry(text, place, last, block, out, used, keys, top, buffer, left)? {
             EntryTurn::Last { index, next, used } => return snbt_entries::close(
                 out, index, next, used,
             ),
@@ -253,26 +230,24 @@ fn parse_entry(
     top: usize,
     buffer: &mut [u8],
     left: usize,
-) -> EntryTurn
+) -> Result<EntryTurn, Refused>
     requires { (Ready text.now keys.old buffer.old) × (place ≤ length text.now) × (at ≤ 16 * place) × (3 * top ≤ place) × (Kept out.old keys.old block.base top at) }
     ensures { ParsedEntry text.now out.old keys.old block (last_is last) place at top left result out.new keys.new }
 {
-    match snbt_entries::key_at(text, place, last, block, out, keys, top, buffer) {
-        Key::No { number, place } => EntryTurn::No { number, place },
-        Key::End { index, next } => {
-            let used = at;
-            EntryTurn::Last { index, next, used }
-        }
+    match snbt_entries::key_at(text, place, last, block, out, keys, top, buffer)? {
+        Key::End { index, next } => Ok(EntryTurn::Last {
+            index,
+            next,
+            used: at,
+        }),
         Key::Is { size, spot, next } => {
             snbt_entries::put_name(out, at + 1, buffer, size);
             let from = at + 3 + size;
             let set = Stops::Value;
-            match parse_value(text, next, set, 0, out, from, keys, top, buffer, left) {
-                Done::No { number, place } => EntryTurn::No { number, place },
-                Done::To { next, used, kind } => {
-                    snbt_entries::settle(text, next, used, kind, block, out, at, keys, top, spot)
-                }
-            }
+            let v = parse_value(text, next, set, 0, out, from, keys, top, buffer, left)?;
+            snbt_entries::settle(
+                text, v.next, v.used, v.kind, block, out, at, keys, top, spot,
+            )
         }
     }
 }

@@ -17,6 +17,7 @@ use Rattle.form.specs.Layout.{payload, int_bytes, ints_bytes, array_bytes, ints_
 use Rattle.form.proofs.Digits.{digits-length}
 use Rattle.form.proofs.Table.{over_none, over-length, over-over, over-before}
 use Rattle.snbt_form.specs.Text.{Ints, Last, otherwise, after_comma, array_tag, ints_by, array_at}
+use Rattle.std.specs.Prelude.{Ok}
 use Rattle.snbt_arrays.specs.declared.elements.ElementTurn.TheVariants.{Comma, Element, End}
 use Rattle.snbt_placing.specs.Done.{Did, Wide, bytes, ints, longs}
 use Rattle.snbt_tokens.specs.declared.Index.{Index}
@@ -101,7 +102,7 @@ module _ {t o : List ℕ} {w brace start at : ℕ} {last : Last} {place used cou
       ∙ g.rest
 
   -- A comma.
-  pub gather-comma : {i : Index} {n : ℕ} {o'' : List ℕ} → TurnIs t w brace last place used o' (Comma i n) o'' → Gathering t o w brace start at (after_comma i.0) n used count o''
+  pub gather-comma : {i : Index} {n : ℕ} {o'' : List ℕ} → TurnIs t w brace last place used o' (Ok (Comma i n)) o'' → Gathering t o w brace start at (after_comma i.0) n used count o''
   gather-comma {i} {n} x =
       let on = x.0.on in
       record {
@@ -119,7 +120,7 @@ module _ {t o : List ℕ} {w brace start at : ℕ} {last : Last} {place used cou
       }
 
   -- An element.
-  pub gather-element : Wide w → {n : ℕ} {o'' : List ℕ} → TurnIs t w brace last place used o' (Element n) o'' → Gathering t o w brace start at otherwise n (used + w) (count + 1) o''
+  pub gather-element : Wide w → {n : ℕ} {o'' : List ℕ} → TurnIs t w brace last place used o' (Ok (Element n)) o'' → Gathering t o w brace start at otherwise n (used + w) (count + 1) o''
   gather-element k {n} (z, x, h, y) =
       let on = x.on in
       let more = ints_by t (length o) (g.turns - 1) w brace otherwise n (used + w) in
@@ -155,7 +156,7 @@ module _ {t o : List ℕ} {w brace start at : ℕ} {last : Last} {place used cou
       ended_is (sym g.rest ∙ ap (λ (y : Out Ints). ◌>>=◌ {B = Ints} y (behind_all g.done)) s)
 
   -- The closing brace: the count goes before the elements.
-  pub gather-end : Wide w → {n kind : ℕ} {o₁ o₂ : List ℕ} → TurnIs t w brace last place used o' (End n) o₁ → ((vs : List ℤ) → kind ≡ kind_of (array_tag w vs))
+  pub gather-end : Wide w → {n kind : ℕ} {o₁ o₂ : List ℕ} → TurnIs t w brace last place used o' (Ok (End n)) o₁ → ((vs : List ℤ) → kind ≡ kind_of (array_tag w vs))
       → o₂ ≡ over o₁ at (bytes_of 4 count) → Did (array_at t (length o) w brace start at) o at n used kind o₂
   gather-end k {n} {kind} {o₁} {o₂} x κ y =
       let done = g.done in

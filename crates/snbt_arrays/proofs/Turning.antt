@@ -3,25 +3,23 @@
 use Prim.Native.Nat.{ℕ, suc, ◌+◌, ◌≤◌, ◌<◌}
 use mathlib.Core.Bool.{Bool, true, false}
 use mathlib.Core.List.{List, [], ◌∷◌}
-use mathlib.Core.Path.{◌≡◌, refl, sym, ap, ◌∙◌, subst}
+use mathlib.Core.Path.{◌≡◌, refl, sym, ◌∙◌, subst}
 use native.Mathlib.Omega.{arith}
-use borrow.Author.Tests.{eq-eqb, ne_eqb, leb-true}
+use borrow.Author.Tests.{ne_eqb}
 use lib.Dec.{leb, eqb}
 use lib.IntN.{ℤ}
 use lib.ListN.{length}
-use Rattle.form.specs.Answer.{Out, got, no, ◌>>=◌, ◌>>◌, guard, mixed_list, output_full, unmatched_brace}
-use Rattle.form.specs.Spans.{over}
-use Rattle.form.specs.Layout.{int_bytes}
+use Rattle.form.specs.Answer.{Out, got, no, ◌>>=◌, ◌>>◌, guard, output_full, unmatched_brace}
 use Rattle.snbt_form.specs.Lexing.{TokenData, found, ended, later, token_at}
 use Rattle.snbt_form.proofs.Moves.{token-moves}
-use Rattle.snbt_form.specs.Text.{Ints, Last, otherwise, after_comma, no_comma, sign_of, in_range, element_int, due, ints_by}
+use Rattle.snbt_form.specs.Text.{Ints, Last, otherwise, after_comma, no_comma, sign_of, element_int, due, ints_by}
 use Rattle.snbt_tokens.specs.declared.Index.{Index}
-use Rattle.snbt_arrays.specs.declared.elements.Whole.TheVariants.{Is, Not}
+use Rattle.std.specs.Prelude.{Result, Ok, Err}
+use Rattle.form.specs.declared.refusals.Refused.{Refused}
 use Rattle.snbt_arrays.specs.declared.elements.ElementTurn.{ElementTurn}
-use Rattle.snbt_arrays.specs.declared.elements.ElementTurn.TheVariants.{Comma, Element, End, No}
+use Rattle.snbt_arrays.specs.declared.elements.ElementTurn.TheVariants.{Comma, Element, End}
 use Rattle.snbt_placing.specs.Done.{Wide, bytes, ints, longs}
-use Rattle.snbt_arrays.specs.Turns.{FittingIs, element_fits, PutIs, behind_all, ClosedIs, TurnIs}
-use Rattle.snbt_placing.proofs.Rooms.{range-fits}
+use Rattle.snbt_arrays.specs.Turns.{element_fits, PutIs, behind_all, ClosedIs, TurnIs}
 
 -- ---- widths
 
@@ -30,38 +28,12 @@ wide-range bytes = (omega arith, omega arith)
 wide-range ints = (omega arith, omega arith)
 wide-range longs = (omega arith, omega arith)
 
--- ---- an element's value
-
-module _ (own w : ℕ) (v v' : ℤ) (kept : v' ≡ v) where
-  -- Of the width and in its range.
-  pub fitting-is : own ≡ w → {r : Bool} → r ≡ in_range w v' → r ≡ true → FittingIs own w v (Is v')
-  fitting-is e i t =
-      let g : in_range w v' ≡ true = sym i ∙ t in
-      let h : in_range w v ≡ true = ap (in_range w) (sym kept) ∙ g in
-      ((λ p. rw (eq-eqb own w e, h) (ap got (sym kept))), range-fits w v' g)
-
-  -- Out of its range.
-  pub fitting-out : own ≡ w → {r : Bool} → r ≡ in_range w v' → r ≡ false → FittingIs own w v Not
-  fitting-out e i t p =
-      let h : in_range w v ≡ false = ap (in_range w) (sym kept) ∙ sym i ∙ t in
-      rw (eq-eqb own w e, h) refl
-
--- Of another width.
-pub fitting-other : (own w : ℕ) (v : ℤ) → (own ≡ w → ⊥) → FittingIs own w v Not
-fitting-other own w v e p = rw (ne_eqb own w e) refl
-
 -- ---- an element that is written
 
 module _ (o : List ℕ) (w : ℕ) (d : TokenData) (n u : ℕ) where
-  pub put-not : ((p : ℕ) → element_int w d.token p ≡ no mixed_list p) → element_fits (length o) w d u ≡ no mixed_list d.index
-  put-not e = rw (e d.index) refl
-
   module _ (z : ℤ) (e : (p : ℕ) → element_int w d.token p ≡ got z) {r : Bool} (h : r ≡ leb (u + w) (length o)) where
     pub put_full : r ≡ false → element_fits (length o) w d u ≡ no output_full d.index
     put_full f = let g : leb (u + w) (length o) ≡ false = sym h ∙ f in rw (e d.index, g) refl
-
-    pub put-done : r ≡ true → {o' : List ℕ} → o' ≡ over o u (int_bytes w z) → PutIs w d n u o (Element n) o'
-    put-done f x = let g : leb (u + w) (length o) ≡ true = sym h ∙ f in (z, rw (e d.index, g) refl, refl, leb-true (u + w) (length o) g, x)
 
 -- ---- one turn
 
@@ -121,22 +93,22 @@ module _ (t : List ℕ) (w brace : ℕ) (last : Last) (p u : ℕ) (o : List ℕ)
   moves : (p < n) × (n ≤ length t)
   moves = let m = token-moves later t p d n e inside in (omega (arith, m.0, m.1), m.2)
 
-  pub turn-comma : sign_of d.token ≡ 44 → (i : Index) → i.0 ≡ d.index → {o' : List ℕ} → o' ≡ o → TurnIs t w brace last p u o (Comma i n) o'
+  pub turn-comma : sign_of d.token ≡ 44 → (i : Index) → i.0 ≡ d.index → {o' : List ℕ} → o' ≡ o → TurnIs t w brace last p u o (Ok (Comma i n)) o'
   turn-comma s i j x = rw j (record { on = moves.0; within = moves.1; is = comma-next t (length o) w brace last p u d n e s }, x)
 
   -- The closing brace: the end, or 21 at a comma that stands last.
-  pub turn-closed : sign_of d.token ≡ 93 → (r : ElementTurn) {o' : List ℕ} → o' ≡ o → ClosedIs last n r → TurnIs t w brace last p u o r o'
-  turn-closed s (Comma i m) x c = absurd c
-  turn-closed s (Element m) x c = absurd c
-  turn-closed s (End m) {o'} x c =
-      subst (λ (m : ℕ). TurnIs t w brace last p u o (End m) o') (sym c.1)
+  pub turn-closed : sign_of d.token ≡ 93 → (r : Result ElementTurn Refused) {o' : List ℕ} → o' ≡ o → ClosedIs last n r → TurnIs t w brace last p u o r o'
+  turn-closed s (Ok (Comma i m)) x c = absurd c
+  turn-closed s (Ok (Element m)) x c = absurd c
+  turn-closed s (Ok (End m)) {o'} x c =
+      subst (λ (m : ℕ). TurnIs t w brace last p u o (Ok (End m)) o') (sym c.1)
       (record { on = moves.0; within = moves.1; is = λ f. closed-next t (length o) w brace last p u d n e s f ∙ rw c.0 refl }, x)
-  turn-closed s (No a b) x c = λ f. closed-next t (length o) w brace last p u d n e s f ∙ rw c refl
+  turn-closed s (Err r) x c = λ f. closed-next t (length o) w brace last p u d n e s f ∙ rw c refl
 
-  pub turn-put : (sign_of d.token ≡ 44 → ⊥) → (sign_of d.token ≡ 93 → ⊥) → (r : ElementTurn) (o' : List ℕ) → PutIs w d n u o r o' → TurnIs t w brace last p u o r o'
-  turn-put c b (Comma i m) o' x = absurd x
-  turn-put c b (Element m) o' (z, g, s, h, x) =
-      subst (λ (m : ℕ). TurnIs t w brace last p u o (Element m) o') (sym s)
+  pub turn-put : (sign_of d.token ≡ 44 → ⊥) → (sign_of d.token ≡ 93 → ⊥) → (r : Result ElementTurn Refused) (o' : List ℕ) → PutIs w d n u o r o' → TurnIs t w brace last p u o r o'
+  turn-put c b (Ok (Comma i m)) o' x = absurd x
+  turn-put c b (Ok (Element m)) o' (z, g, s, h, x) =
+      subst (λ (m : ℕ). TurnIs t w brace last p u o (Ok (Element m)) o') (sym s)
       (z, record { on = moves.0; within = moves.1; is = λ f. element-next t (length o) w brace last p u d n e c b f ∙ rw g refl }, h, x)
-  turn-put c b (End m) o' x = absurd x
-  turn-put c b (No a k) o' x = λ f. element-next t (length o) w brace last p u d n e c b f ∙ rw x refl
+  turn-put c b (Ok (End m)) o' x = absurd x
+  turn-put c b (Err r) o' x = λ f. element-next t (length o) w brace last p u d n e c b f ∙ rw x refl

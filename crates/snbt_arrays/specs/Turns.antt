@@ -1,26 +1,26 @@
 -- What the contracts of an array's elements cite: the value of one, and one turn of the array's loop (rule 14).
 -- Assumes nothing.
-use Rattle.std.specs.Prelude.{ℕ, suc, ◌+◌, ◌≤◌, ◌<◌, ◌≡◌, ◌&&◌, List, [], ◌∷◌, ◌++◌, length, leb, eqb, ℤ}
+use Rattle.std.specs.Prelude.{ℕ, suc, ◌+◌, ◌≤◌, ◌<◌, ◌≡◌, ◌&&◌, List, [], ◌∷◌, ◌++◌, length, leb, eqb, ℤ, Option, Some, None, Result, Ok, Err}
+use Rattle.form.specs.Refusals.{number_of}
+use Rattle.form.specs.declared.refusals.Refused.{Refused}
 use Rattle.form.specs.Answer.{Out, got, no, ◌>>=◌, ◌>>◌, guard, mixed_list, output_full}
 use Rattle.form.specs.Numbers.{FitsIn}
 use Rattle.form.specs.Spans.{over}
 use Rattle.form.specs.Layout.{int_bytes, ints_bytes}
 use Rattle.snbt_form.specs.Lexing.{Token, TokenData}
 use Rattle.snbt_form.specs.Text.{Ints, Last, otherwise, after_comma, no_comma, element_int, in_range, ints_by}
-use Rattle.snbt_arrays.specs.declared.elements.Whole.{Whole}
-use Rattle.snbt_arrays.specs.declared.elements.Whole.TheVariants.{Is, Not}
 use Rattle.snbt_arrays.specs.declared.elements.ElementTurn.{ElementTurn}
-use Rattle.snbt_arrays.specs.declared.elements.ElementTurn.TheVariants.{Comma, Element, End, No}
+use Rattle.snbt_arrays.specs.declared.elements.ElementTurn.TheVariants.{Comma, Element, End}
 
 -- What a token's value is as an element of w bytes; an integer that is one fits them.
-abbrev pub WholeIs : ℕ → Token → Whole → Type 0
-WholeIs w k (Is z) = ((p : ℕ) → element_int w k p ≡ got z) × FitsIn w z
-WholeIs w k Not = (p : ℕ) → element_int w k p ≡ no mixed_list p
+abbrev pub WholeIs : ℕ → Token → Option ℤ → Type 0
+WholeIs w k (Some z) = ((p : ℕ) → element_int w k p ≡ got z) × FitsIn w z
+WholeIs w k None = (p : ℕ) → element_int w k p ≡ no mixed_list p
 
 -- A whole number whose own width is `own`, as such an element.
-abbrev pub FittingIs : ℕ → ℕ → ℤ → Whole → Type 0
-FittingIs own w v (Is z) = ((p : ℕ) → (guard (eqb own w && in_range w v) mixed_list p >> got v) ≡ got z) × FitsIn w z
-FittingIs own w v Not = (p : ℕ) → (guard (eqb own w && in_range w v) mixed_list p >> got v) ≡ no mixed_list p
+abbrev pub FittingIs : ℕ → ℕ → ℤ → Option ℤ → Type 0
+FittingIs own w v (Some z) = ((p : ℕ) → (guard (eqb own w && in_range w v) mixed_list p >> got v) ≡ got z) × FitsIn w z
+FittingIs own w v None = (p : ℕ) → (guard (eqb own w && in_range w v) mixed_list p >> got v) ≡ no mixed_list p
 
 -- The rest of an array behind some elements.
 abbrev pub behind_all : List ℤ → Ints → Out Ints
@@ -40,29 +40,29 @@ element_fits room w d u = do
   got z
 
 -- The turn of an element is none of the other turns.
-abbrev pub PutIs : ℕ → TokenData → ℕ → ℕ → List ℕ → ElementTurn → List ℕ → Type 0
-PutIs w d n u o (Comma i m) o' = ⊥
-PutIs w d n u o (Element m) o' = (z : ℤ) × (element_fits (length o) w d u ≡ got z) × (m ≡ n) × (u + w ≤ length o) × (o' ≡ over o u (int_bytes w z))
-PutIs w d n u o (End m) o' = ⊥
-PutIs w d n u o (No a b) o' = element_fits (length o) w d u ≡ no a b
+abbrev pub PutIs : ℕ → TokenData → ℕ → ℕ → List ℕ → Result ElementTurn Refused → List ℕ → Type 0
+PutIs w d n u o (Ok (Comma i m)) o' = ⊥
+PutIs w d n u o (Ok (Element m)) o' = (z : ℤ) × (element_fits (length o) w d u ≡ got z) × (m ≡ n) × (u + w ≤ length o) × (o' ≡ over o u (int_bytes w z))
+PutIs w d n u o (Ok (End m)) o' = ⊥
+PutIs w d n u o (Err e) o' = element_fits (length o) w d u ≡ no (number_of e.refusal) e.place
 
 -- The closing brace ends the array at n, unless a comma stands last (21).
-abbrev pub ClosedIs : Last → ℕ → ElementTurn → Type 0
-ClosedIs last n (Comma i m) = ⊥
-ClosedIs last n (Element m) = ⊥
-ClosedIs last n (End m) = (no_comma last ≡ got tt) × (m ≡ n)
-ClosedIs last n (No a b) = no_comma last ≡ no a b
+abbrev pub ClosedIs : Last → ℕ → Result ElementTurn Refused → Type 0
+ClosedIs last n (Ok (Comma i m)) = ⊥
+ClosedIs last n (Ok (Element m)) = ⊥
+ClosedIs last n (Ok (End m)) = (no_comma last ≡ got tt) × (m ≡ n)
+ClosedIs last n (Err e) = no_comma last ≡ no (number_of e.refusal) e.place
 
 -- A comma and the closing brace change no output; an element stands in it from u on.
-abbrev pub TurnIs : List ℕ → ℕ → ℕ → Last → ℕ → ℕ → List ℕ → ElementTurn → List ℕ → Type 0
-TurnIs t w brace last p u o (Comma i n) o' =
+abbrev pub TurnIs : List ℕ → ℕ → ℕ → Last → ℕ → ℕ → List ℕ → Result ElementTurn Refused → List ℕ → Type 0
+TurnIs t w brace last p u o (Ok (Comma i n)) o' =
     OneTurn t p n (λ f. ints_by t (length o) f w brace last p u) (λ f. ints_by t (length o) f w brace (after_comma i.0) n u) × (o' ≡ o)
-TurnIs t w brace last p u o (Element n) o' =
+TurnIs t w brace last p u o (Ok (Element n)) o' =
     (z : ℤ) × OneTurn t p n (λ f. ints_by t (length o) f w brace last p u) (λ f. ints_by t (length o) f w brace otherwise n (u + w) >>= behind_all (z ∷ []))
     × (u + w ≤ length o) × (o' ≡ over o u (int_bytes w z))
-TurnIs t w brace last p u o (End n) o' =
+TurnIs t w brace last p u o (Ok (End n)) o' =
     OneTurn t p n (λ f. ints_by t (length o) f w brace last p u) (λ f. got (record { values = []; next = n; used = u })) × (o' ≡ o)
-TurnIs t w brace last p u o (No a b) o' = (f : ℕ) → ints_by t (length o) (suc f) w brace last p u ≡ no a b
+TurnIs t w brace last p u o (Err e) o' = (f : ℕ) → ints_by t (length o) (suc f) w brace last p u ≡ no (number_of e.refusal) e.place
 
 -- An array whose elements are read up to `place`: `done` are those so far, and they stand in the output behind the four bytes of the count.
 -- What the definition says from here on, behind `done`, is what it says from the start on; the turns left suffice.

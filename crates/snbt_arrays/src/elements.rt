@@ -5,39 +5,31 @@ ghost use Rattle.snbt_tokens.specs.Answers.{token_is, data_is, last_is};
 ghost use Rattle.snbt_placing.specs.Done.{Wide};
 ghost use Rattle.snbt_arrays.specs.Turns.{WholeIs, FittingIs, PutIs, ClosedIs, TurnIs};
 
+use form::refusals::{Refusal, Refused};
 use snbt_tokens::{Index, Last, Lexed, Stops, Token, TokenData};
 
-// An element's value, or that it is none.
-#[derive(Drop)]
-enum Whole {
-    Is(i64),
-    Not,
-}
-
-// What one turn finds: a comma, an element that it has written, the closing brace, or a refusal.
-#[derive(Drop)]
+// What one turn finds: a comma, an element that it has written, or the closing brace.
+#[derive(Clone, Copy)]
 pub enum ElementTurn {
     Comma { index: Index, next: usize },
     Element { next: usize },
     End { next: usize },
-    No { number: u8, place: usize },
 }
 
 // A whole number that stands in arrays of `own` bytes as an element of `width` bytes: it is of that width and in its range (refusal 11).
-fn fitting(v: i64, own: usize, width: usize) -> Whole
+fn fitting(v: i64, own: usize, width: usize) -> Option<i64>
     requires { Wide width }
     ensures { FittingIs own width v result }
 {
-    if own == width {
-        if snbt_placing::in_range(v, width) {
-            return Whole::Is(v);
-        }
+    if own == width && snbt_placing::in_range(v, width) {
+        Some(v)
+    } else {
+        None
     }
-    Whole::Not
 }
 
 // The value of a token as an element of `width` bytes: any other token than byte, int or long is none (refusal 11).
-fn element_value(token: Token, width: usize) -> Whole
+fn element_value(token: Token, width: usize) -> Option<i64>
     requires { Wide width }
     ensures { WholeIs width (token_is token) result }
 {
@@ -45,7 +37,7 @@ fn element_value(token: Token, width: usize) -> Whole
         Token::Byte(v) => fitting(v, 1, width),
         Token::Int(v) => fitting(v, 4, width),
         Token::Long(v) => fitting(v, 8, width),
-        _ => Whole::Not,
+        _ => None,
     }
 }
 
@@ -56,41 +48,38 @@ fn put_element(
     next: usize,
     out: &mut [u8],
     used: usize,
-) -> ElementTurn
+) -> Result<ElementTurn, Refused>
     requires { Wide width }
     ensures { PutIs width (data_is «data») next used out.old result out.new }
 {
-    let index = data.index;
-    let token = data.token;
-    match element_value(token, width) {
-        Whole::Is(v) => {
-            if snbt_placing::has_room(out.len(), used, width) {
-                raw::put_signed(out, used, width, v);
-                return ElementTurn::Element { next };
-            }
-            ElementTurn::No {
-                number: form::OUTPUT_FULL,
-                place: index.0,
-            }
-        }
-        Whole::Not => ElementTurn::No {
-            number: form::MIXED_LIST,
-            place: index.0,
-        },
+    let place = data.index.0;
+    let Some(v) = element_value(data.token, width) else {
+        return Err(Refused {
+            refusal: Refusal::MixedList,
+            place,
+        });
+    };
+    if snbt_placing::has_room(out.len(), used, width) {
+        raw::put_signed(out, used, width, v);
+        return Ok(ElementTurn::Element { next });
     }
+    Err(Refused {
+        refusal: Refusal::OutputFull,
+        place,
+    })
 }
 
 // The closing brace at an index: refusal 21 at a comma that stands last.
-fn closed(last: Last, index: Index) -> ElementTurn
+fn closed(last: Last, index: Index) -> Result<ElementTurn, Refused>
     requires { index.0 + 1 < 2 ^ 64 }
     ensures { ClosedIs (last_is last) (index.0 + 1) result }
 {
     match last {
-        Last::Other => ElementTurn::End { next: index.0 + 1 },
-        Last::Comma(comma) => ElementTurn::No {
-            number: form::TRAILING_COMMA,
+        Last::Other => Ok(ElementTurn::End { next: index.0 + 1 }),
+        Last::Comma(comma) => Err(Refused {
+            refusal: Refusal::TrailingComma,
             place: comma.0,
-        },
+        }),
     }
 }
 
@@ -104,7 +93,7 @@ pub fn element(
     place: usize,
     out: &mut [u8],
     used: usize,
-) -> ElementTurn
+) -> Result<ElementTurn, Refused>
     requires { (place ≤ length text.now) × Wide width }
     ensures { TurnIs text.now width brace.0 (last_is last) place used out.old result out.new }
 {
@@ -112,17 +101,16 @@ pub fn element(
     let index = peeked.index;
     let b = peeked.byte;
     match b {
-        b',' => ElementTurn::Comma {
+        b',' => Ok(ElementTurn::Comma {
             index,
             next: index.0 + 1,
-        },
+        }),
         b']' => closed(last, index),
-        _ => match snbt_lexer::token_at(text, place, Stops::Later) {
-            Lexed::Refused { number, place } => ElementTurn::No { number, place },
-            Lexed::Ended { place: _ } => ElementTurn::No {
-                number: form::UNMATCHED_BRACE,
+        _ => match snbt_lexer::token_at(text, place, Stops::Later)? {
+            Lexed::Ended { place: _ } => Err(Refused {
+                refusal: Refusal::UnmatchedBrace,
                 place: brace.0,
-            },
+            }),
             Lexed::Found { data, next } => put_element(data, width, next, out, used),
         },
     }

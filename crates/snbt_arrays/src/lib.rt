@@ -10,6 +10,7 @@ ghost use Rattle.snbt_placing.specs.Done.{Agrees, Ahead, Wide};
 
 use crate::elements::ElementTurn;
 use form::kinds;
+use form::refusals::{Refusal, Refused};
 use snbt_placing::Done;
 use snbt_tokens::{Index, Last};
 
@@ -26,7 +27,14 @@ fn array_kind(width: usize) -> u8
 }
 
 // The elements of an array from a place on, behind the room for their count, which is written when their end is found (rule 14).
-fn put_array(text: &[u8], width: u8, brace: Index, start: usize, out: &mut [u8], at: usize) -> Done
+fn put_array(
+    text: &[u8],
+    width: u8,
+    brace: Index,
+    start: usize,
+    out: &mut [u8],
+    at: usize,
+) -> Result<Done, Refused>
     requires { (start ≤ length text.now) × Wide width × (at + 4 ≤ length out.old) }
     ensures is { Agrees (array_at text.now (length out.old) width brace.0 start at) out.old at result out.new }
     ensures moves { Ahead start (length text.now) result }
@@ -37,7 +45,7 @@ fn put_array(text: &[u8], width: u8, brace: Index, start: usize, out: &mut [u8],
     let mut last = Last::Other;
     let mut count: usize = 0;
     loop {
-        match elements::element(text, wide, brace, last, place, out, used) {
+        match elements::element(text, wide, brace, last, place, out, used)? {
             ElementTurn::Comma { index, next } => {
                 last = Last::Comma(index);
                 place = next;
@@ -51,9 +59,8 @@ fn put_array(text: &[u8], width: u8, brace: Index, start: usize, out: &mut [u8],
             ElementTurn::End { next } => {
                 raw::put_number(out, at, 4, count as u64);
                 let kind = array_kind(wide);
-                return Done::To { next, used, kind };
+                return Ok(Done { next, used, kind });
             }
-            ElementTurn::No { number, place } => return Done::No { number, place },
         }
     }
 }
@@ -66,7 +73,7 @@ pub fn parse_prim_list(
     start: usize,
     out: &mut [u8],
     at: usize,
-) -> Done
+) -> Result<Done, Refused>
     requires { (start ≤ length text.now) × Wide width }
     ensures is { Agrees (array_at text.now (length out.old) width brace.0 start at) out.old at result out.new }
     ensures moves { Ahead start (length text.now) result }
@@ -74,8 +81,8 @@ pub fn parse_prim_list(
     if snbt_placing::has_room(out.len(), at, 4) {
         return put_array(text, width, brace, start, out, at);
     }
-    Done::No {
-        number: form::OUTPUT_FULL,
+    Err(Refused {
+        refusal: Refusal::OutputFull,
         place: brace.0,
-    }
+    })
 }

@@ -13,6 +13,7 @@ use Rattle.snbt_form.proofs.Moves.{token-moves}
 use Rattle.snbt_lexer.specs.Answers.{PeekedIs}
 use Rattle.snbt_lexer.specs.declared.Peeked.{Peeked}
 use Rattle.snbt_lexer.proofs.Fronts.{front-sign, front-token}
+use Rattle.std.specs.Prelude.{Ok}
 use Rattle.snbt_due.specs.declared.After.{After}
 use Rattle.snbt_due.specs.Due.{AfterIs}
 use Rattle.snbt_due.proofs.Steps.{after-comma, after-close, after-other}
@@ -29,19 +30,15 @@ module _ (t : List ℕ) (p : ℕ) (f : Peeked) (is : PeekedIs t p f) (h : p ≤ 
   -- ---- what follows an element or an entry
 
   module _ (closing n q : ℕ) where
-    pub front-comma : f.byte ≡ 44 → AfterIs t closing p n q (After.Comma f.index (f.index.0 + 1))
+    pub front-comma : f.byte ≡ 44 → AfterIs t closing p n q (Ok (After.Comma f.index (f.index.0 + 1)))
     front-comma e = after-comma t closing p n q (ahead comma) (f.index.0 + 1) (front-sign t p f is default comma (omega arith) e) h refl
 
-    closed : (k : Token) → 0 < sign_of k → (sign_of k ≡ 44 → ⊥) → closing ≡ sign_of k → f.byte ≡ closing → AfterIs t closing p n q (After.Close f.index (f.index.0 + 1))
+    closed : (k : Token) → 0 < sign_of k → (sign_of k ≡ 44 → ⊥) → closing ≡ sign_of k → f.byte ≡ closing → AfterIs t closing p n q (Ok (After.Close f.index (f.index.0 + 1)))
     closed k z g s e = after-close t closing p n q (ahead k) (f.index.0 + 1) (front-sign t p f is default k z (e ∙ s)) h g (sym s)
 
-    pub front-close : (closing ≡ 93) ⊎ (closing ≡ 125) → f.byte ≡ closing → AfterIs t closing p n q (After.Close f.index (f.index.0 + 1))
+    pub front-close : (closing ≡ 93) ⊎ (closing ≡ 125) → f.byte ≡ closing → AfterIs t closing p n q (Ok (After.Close f.index (f.index.0 + 1)))
     front-close (inl s) e = closed closed_square (omega arith) (λ z. omega (arith, z)) s e
     front-close (inr s) e = closed closed_curly (omega arith) (λ z. omega (arith, z)) s e
-
-    pub close-within : (closing ≡ 93) ⊎ (closing ≡ 125) → f.byte ≡ closing → f.index.0 + 1 ≤ length t
-    close-within (inl s) e = sign-within closed_square (omega arith) (e ∙ s)
-    close-within (inr s) e = sign-within closed_curly (omega arith) (e ∙ s)
 
     positive : (closing ≡ 93) ⊎ (closing ≡ 125) → 0 < closing
     positive (inl s) = omega (arith, s)

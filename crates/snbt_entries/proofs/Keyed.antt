@@ -1,45 +1,34 @@
 -- Keys where one is due, by what stands there: the `}`, an entry by its key's token, and a key that is new.
 -- Assumes nothing.
 use Prim.Native.Nat.{ℕ, ◌+◌, ◌-◌, ◌≤◌}
-use mathlib.Core.Path.{◌≡◌, refl, sym, ap, subst, ◌∙◌}
-use mathlib.Core.List.{List, [], ◌∷◌}
+use mathlib.Core.Path.{◌≡◌, refl, sym, ap, ◌∙◌}
+use mathlib.Core.List.{List}
 use native.Mathlib.Omega.{arith}
 use borrow.Author.Tests.{eqb-false}
-use types.Run.{OneOf}
 use lib.ListN.{length, take, length-take}
-use Rattle.form.specs.Answer.{Out, got, ◌>>◌, unmatched_brace}
-use Rattle.snbt_form.specs.Lexing.{Stops, key, value, TokenData, found, token_at}
+use Rattle.form.specs.Answer.{got, ◌>>◌, unmatched_brace}
+use Rattle.snbt_form.specs.Lexing.{key, value, TokenData, found, token_at}
 use Rattle.snbt_form.specs.Text.{Last, Reads, sign_of, no_comma, key_of}
 use Rattle.snbt_form.proofs.Moves.{token-moves}
-use Rattle.snbt_tokens.specs.Answers.{token_is, data_is}
+use Rattle.snbt_tokens.specs.Answers.{token_is}
 use Rattle.snbt_tokens.specs.declared.Token.{Token}
-use Rattle.snbt_tokens.specs.declared.TokenData.{TokenData as Data}
-use Rattle.snbt_tokens.proofs.Rests.{tag_of, other_sign}
-use Rattle.snbt_keys.specs.Keys.{FreeAt, SpotIs, names_in}
-use Rattle.snbt_keys.specs.declared.Spot.{Spot}
-use Rattle.snbt_key_text.specs.Keys.{KeyIn, KeyAgrees}
-use Rattle.snbt_key_text.specs.declared.KeyText.{KeyText}
+use Rattle.snbt_tokens.specs.declared.Token.TheVariants.{OpenCurly, ClosedCurly, OpenSquare, ClosedSquare, Comma, Colon, Semicolon, Str, Byte, Short, Int, Long, Float, Double}
+use Rattle.std.specs.Prelude.{Result, Ok, Err}
+use Rattle.form.specs.declared.refusals.Refused.{Refused}
+use mathlib.Core.Bool.{false}
+use lib.Dec.{eqb}
+use Rattle.snbt_keys.specs.Keys.{FreeAt, names_in}
+use Rattle.snbt_key_text.specs.Keys.{KeyIn}
 use Rattle.snbt_key_text.proofs.Keys.{key-stands}
-use Rattle.snbt_due.specs.Due.{DueIs, Met, value_from}
-use Rattle.snbt_due.specs.declared.Due.{Due}
+use Rattle.snbt_due.specs.Due.{Met, value_from}
 use Rattle.snbt_due.proofs.Reading.{due-found}
 use Rattle.snbt_due.proofs.Sizes.{met-within}
-use Rattle.snbt_entries.specs.declared.Colon.{Colon}
 use Rattle.snbt_entries.specs.declared.Key.{Key}
 use Rattle.snbt_entries.specs.Entries.{stops, entry_turn, ColonIs, Fit, NameIs, NamedIs, EndedIs, KeyedIs}
 use Rattle.snbt_entries.proofs.Turns.{entry_value, turn_end, turn-entry-no, turn-entry}
 use Rattle.snbt_entries.proofs.Sizes.{key-size}
 
--- ---- the answers of calls, by their case
-
-pub due-is : (t : List ℕ) (set : Stops) (p n q : ℕ) {r : Due} {d : Data} {m : ℕ} → r ≡ Due.Is d m → DueIs t set p n q r → token_at set t p ≡ got (found (data_is d) m)
-due-is t set p n q e h = subst (λ (r : Due). DueIs t set p n q r) e h
-
-pub key-taken : {res : Out (List ℕ)} {o buffer : List ℕ} {r : KeyText} {n : ℕ} → r ≡ KeyText.Is n → KeyAgrees res o r buffer → KeyIn res o n buffer
-key-taken {res} {o} {buffer} e h = subst (λ (r : KeyText). KeyAgrees res o r buffer) e h
-
-pub spot-free : {o k : List ℕ} {base top : ℕ} {s : List ℕ} {r : Spot} {i : ℕ} → r ≡ Spot.Free i → SpotIs o k base top s r → FreeAt o k base top s i
-spot-free {o} {k} {base} {top} {s} e h = subst (λ (r : Spot). SpotIs o k base top s r) e h
+-- ---- a key's content
 
 -- a key's content in the buffer
 module _ (t o buffer : List ℕ) (x : TokenData) (n : ℕ) (e : (room : ℕ) → KeyIn (key_of t room x.token x.index) o n buffer) where
@@ -53,16 +42,29 @@ module _ (t o buffer : List ℕ) (x : TokenData) (n : ℕ) (e : (room : ℕ) →
   key-within = omega (arith, simp length-take at key-length)
 
 -- What the arm of the `}` leaves is another token.
-abbrev all_but_closed : List ℕ
-all_but_closed = 0 ∷ 2 ∷ 3 ∷ 4 ∷ 5 ∷ 6 ∷ 7 ∷ 8 ∷ 9 ∷ 10 ∷ 11 ∷ 12 ∷ 13 ∷ []
-
-pub not-closed : (t : Token) → OneOf all_but_closed (tag_of t) → sign_of (token_is t) ≡ 125 → ⊥
-not-closed t o = eqb-false (sign_of (token_is t)) 125 (other_sign 125 t all_but_closed (search refl) o)
+pub not-closed : (k : Token) → (k ≡ ClosedCurly → ⊥) → sign_of (token_is k) ≡ 125 → ⊥
+not-closed k h = eqb-false (sign_of (token_is k)) 125 (by k h)
+  where
+    by : (k : Token) → (k ≡ ClosedCurly → ⊥) → eqb (sign_of (token_is k)) 125 ≡ false
+    by OpenCurly h = refl
+    by ClosedCurly h = absurd (h refl)
+    by OpenSquare h = refl
+    by ClosedSquare h = refl
+    by Comma h = refl
+    by Colon h = refl
+    by Semicolon h = refl
+    by (Str q a e) h = refl
+    by (Byte z) h = refl
+    by (Short z) h = refl
+    by (Int z) h = refl
+    by (Long z) h = refl
+    by (Float x) h = refl
+    by (Double x) h = refl
 
 -- ---- a key that is new, with the place behind its colon
 
 module _ (t : List ℕ) (x : TokenData) (next brace : ℕ) (met : Met t x next) (o k : List ℕ) (base top : ℕ) (buffer s : List ℕ) (n i m : ℕ) where
-  pub named-is : ((room : ℕ) → key_of t room x.token x.index ≡ got s) → n ≡ length s → take n buffer ≡ s → FreeAt o k base top s i → ColonIs t brace next (Colon.To m)
+  pub named-is : ((room : ℕ) → key_of t room x.token x.index ≡ got s) → n ≡ length s → take n buffer ≡ s → FreeAt o k base top s i → ColonIs t brace next (Ok m)
       → NameIs t x next brace o k base top buffer n i m
   named-is e l stands free g =
       let z = key-size met 0 x.index s (e 0) in
@@ -94,9 +96,9 @@ module _ (t : List ℕ) (brace : ℕ) (last : Last) (p : ℕ) (o k : List ℕ) (
   names = names_in o k base (top - base)
 
   -- an entry, by its key's token
-  pub keyed-named : (r : Key) → (sign_of d.token ≡ 125 → ⊥) → NamedIs t d m brace o k base top buffer r → KeyedIs t brace last p o k base top buffer r
-  keyed-named (Key.End i n) s l = absurd l
-  keyed-named (Key.Is n i m') s l =
+  pub keyed-named : (r : Result Key Refused) → (sign_of d.token ≡ 125 → ⊥) → NamedIs t d m brace o k base top buffer r → KeyedIs t brace last p o k base top buffer r
+  keyed-named (Ok (Key.End i n)) s l = absurd l
+  keyed-named (Ok (Key.Is n i m')) s l =
       record {
         name = l.name;
         is = λ room val u.
@@ -104,19 +106,19 @@ module _ (t : List ℕ) (brace : ℕ) (last : Last) (p : ℕ) (o k : List ℕ) (
             (value_from t room val value 0 m' (u + (3 + length l.name))) (l.is room val u);
         fit = fit-from (token-moves key t p d m e h).0 l.fit;
       }
-  keyed-named (Key.No a b) s l =
-      λ room val u. turn-entry-no t room val brace names last p u (record { td = d; next = m }) (due-found t room key p unmatched_brace brace d m e) s a b (l room val u)
+  keyed-named (Err y) s l =
+      λ room val u. turn-entry-no t room val brace names last p u (record { td = d; next = m }) (due-found t room key p unmatched_brace brace d m e) s _ _ (l room val u)
 
   -- the `}`
-  pub keyed-ended : (r : Key) → sign_of d.token ≡ 125 → EndedIs last d.index m r → KeyedIs t brace last p o k base top buffer r
+  pub keyed-ended : (r : Result Key Refused) → sign_of d.token ≡ 125 → EndedIs last d.index m r → KeyedIs t brace last p o k base top buffer r
   keyed-ended r s l = by r l
     where
       turn : (room : ℕ) (val : Reads) (u : ℕ) → entry_turn t room val brace names last p u ≡ (no_comma last >> got (stops d.index m))
       turn room val u = turn_end t room val brace names last p u (record { td = d; next = m }) (due-found t room key p unmatched_brace brace d m e) s
 
-      by : (r : Key) → EndedIs last d.index m r → KeyedIs t brace last p o k base top buffer r
-      by (Key.End j n) (z, i, q) =
+      by : (r : Result Key Refused) → EndedIs last d.index m r → KeyedIs t brace last p o k base top buffer r
+      by (Ok (Key.End j n)) (z, i, q) =
           let y = token-moves key t p d m e h in
           ((λ room val u. turn room val u ∙ rw (z, i, q) refl), omega (arith, q, y.0, y.1), omega (arith, q, y.2))
-      by (Key.Is n i m') l = absurd l
-      by (Key.No a b) l = λ room val u. turn room val u ∙ rw l refl
+      by (Ok (Key.Is n i m')) l = absurd l
+      by (Err y) l = λ room val u. turn room val u ∙ rw l refl

@@ -10,7 +10,7 @@ use native.Mathlib.Omega.{arith}
 use borrow.Author.Tests.{ne_eqb, lt-leb}
 use lib.Dec.{eqb}
 use lib.ListN.{length, get_or, take}
-use Rattle.form.specs.Answer.{got, name_twice}
+use Rattle.form.specs.Answer.{got}
 use Rattle.form.specs.Spans.{part, over}
 use Rattle.form.proofs.Spans.{part_length}
 use Rattle.snbt_form.specs.Numbers.{is_digit}
@@ -27,8 +27,10 @@ use Rattle.snbt_keys.specs.Keys.{FreeAt, names_in}
 use Rattle.snbt_due.specs.Due.{Met}
 use Rattle.snbt_due.proofs.Steps.{met_at}
 use Rattle.snbt_entries.specs.declared.Key.{Key}
-use Rattle.snbt_entries.specs.declared.WordKey.{WordKey}
-use Rattle.snbt_entries.specs.Words.{word_data, Worded, WordedIs}
+use Rattle.std.specs.Prelude.{Result, Err}
+use Rattle.form.specs.declared.refusals.Refusal.TheVariants.{NameTwice}
+use Rattle.form.specs.declared.refusals.Refused.{Refused}
+use Rattle.snbt_entries.specs.Words.{word_data, Worded}
 use Rattle.snbt_entries.specs.Entries.{NameIs, NamedIs, KeyedIs}
 use Rattle.snbt_entries.proofs.Turns.{entry-twice}
 use Rattle.snbt_entries.proofs.Colons.{colon-to}
@@ -133,10 +135,6 @@ module _ (t : List ℕ) (i j : ℕ) (first : 60 ≤ get_or t i 0) (run : Run t i
     content = own-content;
   }
 
--- The code's answer, by its case.
-pub word-found : {t : List ℕ} {i j : ℕ} {r : WordKey} → r ≡ WordKey.To j → WordedIs t i r → Worded t i j
-word-found {t} {i} e h = subst (λ (r : WordKey). WordedIs t i r) e h
-
 -- ---- its name
 
 module _ (t : List ℕ) (i j : ℕ) (w : Worded t i j) where
@@ -168,7 +166,7 @@ module _ (t : List ℕ) (i j : ℕ) (w : Worded t i j) where
   -- ---- and its entry
 
   module _ (o k : List ℕ) (base top : ℕ) (buffer : List ℕ) (s : take (j - i) buffer ≡ name) where
-    pub word-twice : known (take (j - i) buffer) (names_in o k base (top - base)) ≡ true → (brace : ℕ) → NamedIs t (word_data i j) j brace o k base top buffer (Key.No name_twice i)
+    pub word-twice : known (take (j - i) buffer) (names_in o k base (top - base)) ≡ true → (brace : ℕ) → NamedIs t (word_data i j) j brace o k base top buffer (Err (record { refusal = NameTwice; place = i }))
     word-twice h brace room val u =
         entry-twice t room val brace (names_in o k base (top - base)) (record { td = word_data i j; next = j }) u name (word-key room) (rw (← s) h)
 
@@ -179,7 +177,7 @@ module _ (t : List ℕ) (i j : ℕ) (w : Worded t i j) where
 
   -- ---- from a place before it
 
-  pub keyed-word : (p : ℕ) → i ≡ skip t p → p ≤ length t → (brace : ℕ) (last : Last) (o k : List ℕ) (base top : ℕ) (buffer : List ℕ) (r : Key)
+  pub keyed-word : (p : ℕ) → i ≡ skip t p → p ≤ length t → (brace : ℕ) (last : Last) (o k : List ℕ) (base top : ℕ) (buffer : List ℕ) (r : Result Key Refused)
       → NamedIs t (word_data i j) j brace o k base top buffer r → KeyedIs t brace last p o k base top buffer r
   unfolding token_at
   keyed-word p e h brace last o k base top buffer r l =

@@ -1,16 +1,16 @@
 -- What the contracts of entries around their values cite (rule 15): one turn of a compound, and what each answer means.
 -- Assumes nothing.
-use Rattle.std.specs.Prelude.{ℕ, ◌+◌, ◌-◌, ◌*◌, ◌≤◌, ◌<◌, ◌≡◌, Bool, true, false, List, [], ◌∷◌, eqb, length, take}
+use Rattle.std.specs.Prelude.{ℕ, ◌+◌, ◌-◌, ◌*◌, ◌≤◌, ◌<◌, ◌≡◌, Bool, true, false, List, [], ◌∷◌, eqb, length, take, Result, Ok, Err}
+use Rattle.form.specs.Refusals.{number_of}
+use Rattle.form.specs.declared.refusals.Refused.{Refused}
 use Rattle.form.specs.Answer.{Out, got, no, ◌>>=◌, ◌>>◌, unmatched_brace}
 use Rattle.form.specs.Spans.{over}
 use Rattle.form.specs.Tree as tree
 use Rattle.snbt_form.specs.Lexing.{key, value, TokenData}
 use Rattle.snbt_form.specs.Text.{Value, Next, Then, goes_on, closes, Last, no_comma, Reads, sign_of, due, following, colon_at, close_at, entry_at}
 use Rattle.snbt_placing.specs.declared.Done.{Done}
-use Rattle.snbt_placing.specs.declared.Done.TheVariants.{To, No}
 use Rattle.snbt_keys.specs.Keys.{FreeAt, names_in}
 use Rattle.snbt_due.specs.Due.{value_from}
-use Rattle.snbt_entries.specs.declared.Colon.{Colon}
 use Rattle.snbt_entries.specs.declared.Key.{Key}
 use Rattle.snbt_entries.specs.declared.EntryTurn.{EntryTurn}
 
@@ -41,9 +41,9 @@ module _ (t : List ℕ) (room : ℕ) where
 -- ---- keys
 
 -- The `:` behind a key, with the place behind it.
-abbrev pub ColonIs : List ℕ → ℕ → ℕ → Colon → Type 0
-ColonIs t brace p (Colon.To m) = ((room : ℕ) → colon_at t room brace p ≡ got m) × (p < m) × (m ≤ length t)
-ColonIs t brace p (Colon.No a b) = (room : ℕ) → colon_at t room brace p ≡ no a b
+abbrev pub ColonIs : List ℕ → ℕ → ℕ → Result ℕ Refused → Type 0
+ColonIs t brace p (Ok m) = ((room : ℕ) → colon_at t room brace p ≡ got m) × (p < m) × (m ≤ length t)
+ColonIs t brace p (Err e) = (room : ℕ) → colon_at t room brace p ≡ no (number_of e.refusal) e.place
 
 -- A key from place p on, with the place m behind its `:`: its name is in the buffer, and belongs at index i of the keys.
 pub record Fit (t : List ℕ) (p : ℕ) (o k : List ℕ) (base top : ℕ) (buffer name : List ℕ) (n i m : ℕ) : Type 0 where
@@ -70,34 +70,34 @@ pub record NameIs (t : List ℕ) (x : TokenData) (next brace : ℕ) (o k : List 
   pub fit : Fit t x.index o k base top buffer name n i m
 
 -- The answer by a key's token: such a key, or a refusal.
-abbrev pub NamedIs : List ℕ → TokenData → ℕ → ℕ → List ℕ → List ℕ → ℕ → ℕ → List ℕ → Key → Type 0
-NamedIs t x next brace o k base top buffer (Key.End i m) = ⊥
-NamedIs t x next brace o k base top buffer (Key.Is n i m) = NameIs t x next brace o k base top buffer n i m
-NamedIs t x next brace o k base top buffer (Key.No a b) =
-    (room : ℕ) (val : Reads) (u : ℕ) → entry_at t room val brace (names_in o k base (top - base)) (record { td = x; next = next }) u ≡ no a b
+abbrev pub NamedIs : List ℕ → TokenData → ℕ → ℕ → List ℕ → List ℕ → ℕ → ℕ → List ℕ → Result Key Refused → Type 0
+NamedIs t x next brace o k base top buffer (Ok (Key.End i m)) = ⊥
+NamedIs t x next brace o k base top buffer (Ok (Key.Is n i m)) = NameIs t x next brace o k base top buffer n i m
+NamedIs t x next brace o k base top buffer (Err e) =
+    (room : ℕ) (val : Reads) (u : ℕ) → entry_at t room val brace (names_in o k base (top - base)) (record { td = x; next = next }) u ≡ no (number_of e.refusal) e.place
 
 -- The `}` at i where a key is due, unless a comma stands last (21).
-abbrev pub EndedIs : Last → ℕ → ℕ → Key → Type 0
-EndedIs last i n (Key.End j m) = (no_comma last ≡ got tt) × (j.0 ≡ i) × (m ≡ n)
-EndedIs last i n (Key.Is k j m) = ⊥
-EndedIs last i n (Key.No a b) = no_comma last ≡ no a b
+abbrev pub EndedIs : Last → ℕ → ℕ → Result Key Refused → Type 0
+EndedIs last i n (Ok (Key.End j m)) = (no_comma last ≡ got tt) × (j.0 ≡ i) × (m ≡ n)
+EndedIs last i n (Ok (Key.Is k j m)) = ⊥
+EndedIs last i n (Err e) = no_comma last ≡ no (number_of e.refusal) e.place
 
 -- The answer where a key is due: the `}`, a key, or a refusal.
-abbrev pub KeyedIs : List ℕ → ℕ → Last → ℕ → List ℕ → List ℕ → ℕ → ℕ → List ℕ → Key → Type 0
-KeyedIs t brace last p o k base top buffer (Key.End i m) =
+abbrev pub KeyedIs : List ℕ → ℕ → Last → ℕ → List ℕ → List ℕ → ℕ → ℕ → List ℕ → Result Key Refused → Type 0
+KeyedIs t brace last p o k base top buffer (Ok (Key.End i m)) =
     ((room : ℕ) (val : Reads) (u : ℕ) → entry_turn t room val brace (names_in o k base (top - base)) last p u ≡ got (stops i.0 m)) × (p < m) × (m ≤ length t)
-KeyedIs t brace last p o k base top buffer (Key.Is n i m) = Keyed t brace last p o k base top buffer n i m
-KeyedIs t brace last p o k base top buffer (Key.No a b) =
-    (room : ℕ) (val : Reads) (u : ℕ) → entry_turn t room val brace (names_in o k base (top - base)) last p u ≡ no a b
+KeyedIs t brace last p o k base top buffer (Ok (Key.Is n i m)) = Keyed t brace last p o k base top buffer n i m
+KeyedIs t brace last p o k base top buffer (Err e) =
+    (room : ℕ) (val : Reads) (u : ℕ) → entry_turn t room val brace (names_in o k base (top - base)) last p u ≡ no (number_of e.refusal) e.place
 
 -- What follows an entry that ends at p, with u bytes used.
-abbrev pub SettledIs : List ℕ → ℕ → ℕ → ℕ → EntryTurn → Type 0
-SettledIs t p u brace (EntryTurn.More c m q) = ((room : ℕ) → following t room 125 p unmatched_brace brace ≡ got (goes_on c.0 m)) × (p < m) × (m ≤ length t) × (q ≡ u)
-SettledIs t p u brace (EntryTurn.Last i m q) = ((room : ℕ) → following t room 125 p unmatched_brace brace ≡ got (closes i.0 m)) × (p < m) × (m ≤ length t) × (q ≡ u)
-SettledIs t p u brace (EntryTurn.No a b) = (room : ℕ) → following t room 125 p unmatched_brace brace ≡ no a b
+abbrev pub SettledIs : List ℕ → ℕ → ℕ → ℕ → Result EntryTurn Refused → Type 0
+SettledIs t p u brace (Ok (EntryTurn.More c m q)) = ((room : ℕ) → following t room 125 p unmatched_brace brace ≡ got (goes_on c.0 m)) × (p < m) × (m ≤ length t) × (q ≡ u)
+SettledIs t p u brace (Ok (EntryTurn.Last i m q)) = ((room : ℕ) → following t room 125 p unmatched_brace brace ≡ got (closes i.0 m)) × (p < m) × (m ≤ length t) × (q ≡ u)
+SettledIs t p u brace (Err e) = (room : ℕ) → following t room 125 p unmatched_brace brace ≡ no (number_of e.refusal) e.place
 
 -- The end of a compound: its end byte is written, or has no room.
-abbrev pub CloseIs : List ℕ → ℕ → ℕ → ℕ → Done → List ℕ → Type 0
-CloseIs o p m u (To n q k) o' =
-    ((t : List ℕ) → close_at t (length o) p m u ≡ got (record { entries = tree.ended; next = m; used = u + 1 })) × (n ≡ m) × (q ≡ u + 1) × (k ≡ 10) × (q ≤ length o) × (o' ≡ over o u (0 ∷ []))
-CloseIs o p m u (No a b) o' = (t : List ℕ) → close_at t (length o) p m u ≡ no a b
+abbrev pub CloseIs : List ℕ → ℕ → ℕ → ℕ → Result Done Refused → List ℕ → Type 0
+CloseIs o p m u (Ok d) o' =
+    ((t : List ℕ) → close_at t (length o) p m u ≡ got (record { entries = tree.ended; next = m; used = u + 1 })) × (d.next ≡ m) × (d.used ≡ u + 1) × (d.kind ≡ 10) × (d.used ≤ length o) × (o' ≡ over o u (0 ∷ []))
+CloseIs o p m u (Err e) o' = (t : List ℕ) → close_at t (length o) p m u ≡ no (number_of e.refusal) e.place

@@ -1,10 +1,9 @@
 -- Keys by their tokens (rule 15): those that the lexer found, and the usual key, which is known without one.
 -- Assumes nothing.
-use Rattle.std.specs.Prelude.{ℕ, ◌+◌, ◌-◌, ◌≤◌, ◌<◌, ◌≡◌, false, List, length}
+use Rattle.std.specs.Prelude.{ℕ, ◌+◌, ◌-◌, ◌≤◌, ◌<◌, ◌≡◌, false, List, length, Option, Some, None}
 use Rattle.form.specs.Answer.{got}
 use Rattle.form.specs.Spans.{part}
 use Rattle.snbt_form.specs.Lexing.{default, key, string, colon, TokenData, found, skip, made, token_at, content_of}
-use Rattle.snbt_entries.specs.declared.WordKey.{WordKey}
 
 -- The token of an unquoted string from i up to j, of ASCII characters only.
 abbrev pub word_data : ℕ → ℕ → TokenData
@@ -21,6 +20,6 @@ pub record Worded (t : List ℕ) (i j : ℕ) : Type 0 where
   pub content : content_of t false i j ≡ got (part t i (j - i))
 
 -- A usual key that is found is one; nothing is said where none is found, since any key may go by its token.
-abbrev pub WordedIs : List ℕ → ℕ → WordKey → Type 0
-WordedIs t i (WordKey.To j) = Worded t i j
-WordedIs t i WordKey.Other = Unit {0}
+abbrev pub WordedIs : List ℕ → ℕ → Option ℕ → Type 0
+WordedIs t i (Some j) = Worded t i j
+WordedIs t i None = Unit {0}

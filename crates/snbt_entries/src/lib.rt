@@ -13,9 +13,8 @@ ghost use Rattle.snbt_entries.specs.Words.{word_data, Worded, WordedIs};
 ghost use Rattle.snbt_entries.specs.Entries.{ColonIs, NamedIs, EndedIs, KeyedIs, SettledIs, CloseIs};
 
 use form::kinds;
-use snbt_due::{After, Due};
-use snbt_key_text::KeyText;
-use snbt_keys::Spot;
+use form::refusals::{Refusal, Refused};
+use snbt_due::After;
 use snbt_placing::Done;
 use snbt_tokens::{Index, Last, Stops, Token, TokenData};
 
@@ -26,15 +25,8 @@ pub struct Block {
     pub base: usize,
 }
 
-// The `:` behind a key, by the place behind it.
-#[derive(Drop)]
-enum Colon {
-    To { next: usize },
-    No { number: u8, place: usize },
-}
-
 // What stands where a key is due: the `}`; or a key's length and its index among the keys, with the place behind its `:`.
-#[derive(Drop)]
+#[derive(Clone, Copy)]
 pub enum Key {
     End {
         index: Index,
@@ -45,21 +37,10 @@ pub enum Key {
         spot: usize,
         next: usize,
     },
-    No {
-        number: u8,
-        place: usize,
-    },
-}
-
-// The usual key of a text, by its end; any other goes by its token.
-#[derive(Drop)]
-enum WordKey {
-    To { end: usize },
-    Other,
 }
 
 // A turn of a compound: an entry and its comma; the last entry or none, and the `}`.
-#[derive(Drop)]
+#[derive(Clone, Copy)]
 pub enum EntryTurn {
     More {
         comma: Index,
@@ -71,29 +52,27 @@ pub enum EntryTurn {
         next: usize,
         used: usize,
     },
-    No {
-        number: u8,
-        place: usize,
-    },
 }
 
-// The `:` behind a key, known by its character; any other token is refusal 19.
-fn behind_key(text: &[u8], place: usize, brace: Index) -> Colon
+// The place behind the `:` of a key, known by its character; any other token is refusal 19.
+fn behind_key(text: &[u8], place: usize, brace: Index) -> Result<usize, Refused>
     requires { place ≤ length text.now }
     ensures { ColonIs text.now brace.0 place result }
 {
     let peeked = snbt_lexer::peek_at(text, place);
     let index = peeked.index;
     if peeked.byte == b':' {
-        return Colon::To { next: index.0 + 1 };
+        return Ok(index.0 + 1);
     }
-    match snbt_due::due_at(text, place, Stops::Default, form::UNMATCHED_BRACE, brace.0) {
-        Due::Is { td: _, next: _ } => Colon::No {
-            number: form::UNEXPECTED_TOKEN,
-            place: index.0,
-        },
-        Due::No { number, place: p } => Colon::No { number, place: p },
-    }
+    let unmatched = Refused {
+        refusal: Refusal::UnmatchedBrace,
+        place: brace.0,
+    };
+    snbt_due::due_at(text, place, Stops::Default, unmatched)?;
+    Err(Refused {
+        refusal: Refusal::UnexpectedToken,
+        place: index.0,
+    })
 }
 
 // An entry up to its value: the key (19, 12), whether it is there already (6), the `:`.
@@ -106,43 +85,36 @@ fn named(
     keys: &[u32],
     top: usize,
     buffer: &mut [u8],
-) -> Key
+) -> Result<Key, Refused>
     requires { (Met text.now (data_is td) next) × (Kept out.now keys.now block.base top (length out.now)) × (KeyRoom (length text.now) (length buffer.old)) }
     ensures { NamedIs text.now (data_is td) next block.brace.0 out.now keys.now block.base top buffer.new result }
 {
-    let index = td.index;
-    let brace = block.brace;
-    match snbt_key_text::take_key(text, td, buffer) {
-        KeyText::No { number, place } => Key::No { number, place },
-        KeyText::Is { bytes } => match snbt_keys::spot_of(
-            out, keys, block.base, top, buffer, bytes,
-        ) {
-            Spot::Taken => Key::No {
-                number: form::NAME_TWICE,
-                place: index.0,
-            },
-            Spot::Free { index: spot } => match behind_key(text, next, brace) {
-                Colon::No { number, place } => Key::No { number, place },
-                Colon::To { next: m } => Key::Is {
-                    size: bytes,
-                    spot,
-                    next: m,
-                },
-            },
-        },
-    }
+    let place = td.index.0;
+    let size = snbt_key_text::take_key(text, td, buffer)?;
+    let Some(spot) = snbt_keys::spot_of(out, keys, block.base, top, buffer, size) else {
+        return Err(Refused {
+            refusal: Refusal::NameTwice,
+            place,
+        });
+    };
+    let behind = behind_key(text, next, block.brace)?;
+    Ok(Key::Is {
+        size,
+        spot,
+        next: behind,
+    })
 }
 
 // The `}` where a key is due: refusal 21 at a comma that stands last.
-fn ended(last: Last, index: Index, next: usize) -> Key
+fn ended(last: Last, index: Index, next: usize) -> Result<Key, Refused>
     ensures { EndedIs (last_is last) index.0 next result }
 {
     match last {
-        Last::Other => Key::End { index, next },
-        Last::Comma(comma) => Key::No {
-            number: form::TRAILING_COMMA,
+        Last::Other => Ok(Key::End { index, next }),
+        Last::Comma(comma) => Err(Refused {
+            refusal: Refusal::TrailingComma,
             place: comma.0,
-        },
+        }),
     }
 }
 
@@ -156,45 +128,34 @@ fn any_key(
     keys: &[u32],
     top: usize,
     buffer: &mut [u8],
-) -> Key
+) -> Result<Key, Refused>
     requires { (place ≤ length text.now) × (Kept out.now keys.now block.base top (length out.now)) × (KeyRoom (length text.now) (length buffer.old)) }
     ensures { KeyedIs text.now block.brace.0 (last_is last) place out.now keys.now block.base top buffer.new result }
 {
-    let brace = block.brace;
-    match snbt_due::due_at(text, place, Stops::Key, form::UNMATCHED_BRACE, brace.0) {
-        Due::No { number, place: p } => Key::No { number, place: p },
-        Due::Is { td, next } => {
-            let token = td.token;
-            let index = td.index;
-            match token {
-                Token::ClosedCurly => ended(last, index, next),
-                _ => named(text, td, next, block, out, keys, top, buffer),
-            }
-        }
+    let unmatched = Refused {
+        refusal: Refusal::UnmatchedBrace,
+        place: block.brace.0,
+    };
+    let due = snbt_due::due_at(text, place, Stops::Key, unmatched)?;
+    let td = due.td;
+    match td.token {
+        Token::ClosedCurly => ended(last, td.index, due.next),
+        _ => named(text, td, due.next, block, out, keys, top, buffer),
     }
 }
 
 // The usual key of a text: a word of ordinary characters, no number, with its colon right behind it, and not longer than 65,535 bytes (12).
-fn word_key(text: &[u8], i: usize) -> WordKey
+fn word_key(text: &[u8], i: usize) -> Option<usize>
     ensures { WordedIs text.now i result }
 {
-    if text.len() <= i {
-        return WordKey::Other;
-    }
-    if text[i] < 60 {
-        return WordKey::Other;
+    if text.len() <= i || text[i] < 60 {
+        return None;
     }
     let end = snbt_lexer::characters::run_end(text, i);
-    if text.len() <= end {
-        return WordKey::Other;
+    if text.len() <= end || text[end] != b':' || form::STRING < end - i {
+        return None;
     }
-    if text[end] != b':' {
-        return WordKey::Other;
-    }
-    if form::STRING < end - i {
-        return WordKey::Other;
-    }
-    WordKey::To { end }
+    Some(end)
 }
 
 // An entry with such a key from i up to j, up to its value, without a token for the key: whether it is there already (6).
@@ -207,23 +168,23 @@ fn worded(
     base: usize,
     top: usize,
     buffer: &mut [u8],
-) -> Key
+) -> Result<Key, Refused>
     requires { (Worded text.now i j) × (Kept out.now keys.now base top (length out.now)) × (KeyRoom (length text.now) (length buffer.old)) }
     ensures { (brace : ℕ) → NamedIs text.now (word_data i j) j brace out.now keys.now base top buffer.new result }
 {
     let size = j - i;
     slices::copy(text, i, size, buffer, 0);
-    match snbt_keys::spot_of(out, keys, base, top, buffer, size) {
-        Spot::Taken => Key::No {
-            number: form::NAME_TWICE,
+    let Some(spot) = snbt_keys::spot_of(out, keys, base, top, buffer, size) else {
+        return Err(Refused {
+            refusal: Refusal::NameTwice,
             place: i,
-        },
-        Spot::Free { index: spot } => Key::Is {
-            size,
-            spot,
-            next: j + 1,
-        },
-    }
+        });
+    };
+    Ok(Key::Is {
+        size,
+        spot,
+        next: j + 1,
+    })
 }
 
 // Where a key is due: the usual key by itself, since most are such, any other by its token.
@@ -236,14 +197,14 @@ pub fn key_at(
     keys: &[u32],
     top: usize,
     buffer: &mut [u8],
-) -> Key
+) -> Result<Key, Refused>
     requires { (place ≤ length text.now) × (Kept out.now keys.now block.base top (length out.now)) × (KeyRoom (length text.now) (length buffer.old)) }
     ensures { KeyedIs text.now block.brace.0 (last_is last) place out.now keys.now block.base top buffer.new result }
 {
     let i = snbt_lexer::characters::skip_blank(text, place);
     match word_key(text, i) {
-        WordKey::To { end } => worded(text, i, end, out, keys, block.base, top, buffer),
-        WordKey::Other => any_key(text, place, last, block, out, keys, top, buffer),
+        Some(end) => worded(text, i, end, out, keys, block.base, top, buffer),
+        None => any_key(text, place, last, block, out, keys, top, buffer),
     }
 }
 
@@ -271,41 +232,43 @@ pub fn settle(
     keys: &mut [u32],
     top: usize,
     spot: usize,
-) -> EntryTurn
+) -> Result<EntryTurn, Refused>
     requires { (place ≤ length text.now) × (at + 1 ≤ length out.old) × (at ≤ 16777216) × (Comes (over out.old at (kind ∷ [])) keys.old block.base top spot (at + 1)) }
     ensures is { SettledIs text.now place used block.brace.0 result }
     ensures wrote { out.new ≡ over out.old at (kind ∷ []) }
     ensures put { Added out.new keys.old block.base top (at + 1) keys.new }
 {
-    let brace = block.brace;
     out[at] = kind;
     snbt_keys::add(out, keys, block.base, top, spot, (at + 1) as u32);
-    match snbt_due::following(text, place, b'}', form::UNMATCHED_BRACE, brace.0) {
-        After::Comma { index, next } => EntryTurn::More {
+    let unmatched = Refused {
+        refusal: Refusal::UnmatchedBrace,
+        place: block.brace.0,
+    };
+    match snbt_due::following(text, place, b'}', unmatched)? {
+        After::Comma { index, next } => Ok(EntryTurn::More {
             comma: index,
             next,
             used,
-        },
-        After::Close { index, next } => EntryTurn::Last { index, next, used },
-        After::No { number, place: p } => EntryTurn::No { number, place: p },
+        }),
+        After::Close { index, next } => Ok(EntryTurn::Last { index, next, used }),
     }
 }
 
 // The end byte of a compound, counted at its `}` (13).
-pub fn close(out: &mut [u8], index: Index, next: usize, used: usize) -> Done
+pub fn close(out: &mut [u8], index: Index, next: usize, used: usize) -> Result<Done, Refused>
     requires { used ≤ 16777216 }
     ensures { CloseIs out.old index.0 next used result out.new }
 {
     if out.len() < used + 1 {
-        return Done::No {
-            number: form::OUTPUT_FULL,
+        return Err(Refused {
+            refusal: Refusal::OutputFull,
             place: index.0,
-        };
+        });
     }
     out[used] = kinds::END;
-    Done::To {
+    Ok(Done {
         next,
         used: used + 1,
         kind: kinds::COMPOUND,
-    }
+    })
 }

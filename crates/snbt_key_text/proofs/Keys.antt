@@ -14,6 +14,9 @@ use Rattle.form.proofs.Places.{part-over}
 use Rattle.form.proofs.Spans.{part_length}
 use Rattle.snbt_form.specs.Lexing.{Token, open_curly, closed_curly, open_square, closed_square, comma, colon, semicolon, string, numeral, content_of}
 use Rattle.snbt_form.specs.Text.{string_of, key_of}
+use Rattle.snbt_tokens.specs.Answers.{token_is}
+use Rattle.snbt_tokens.specs.declared.Token as code
+use Rattle.snbt_tokens.specs.declared.Token.TheVariants.{OpenCurly, ClosedCurly, OpenSquare, ClosedSquare, Comma, Colon, Semicolon, Str, Byte, Short, Int, Long as LongInt, Float, Double}
 use Rattle.snbt_tokens.proofs.Rests.{Unstrung}
 use Rattle.snbt_contents.specs.Puts.{PutIs, Verbatim}
 use Rattle.snbt_contents.proofs.Fitted.{Long}
@@ -34,6 +37,23 @@ key-other t room colon p u = refl
 key-other t room semicolon p u = refl
 key-other t room (string q a e) p u = absurd u
 key-other t room (numeral n) p u = refl
+
+-- What the arm of a string leaves is none.
+pub unstrung : (k : code.Token) → ((q : Bool) (a e : ℕ) → k ≡ Str q a e → ⊥) → Unstrung (token_is k)
+unstrung OpenCurly h = tt
+unstrung ClosedCurly h = tt
+unstrung OpenSquare h = tt
+unstrung ClosedSquare h = tt
+unstrung Comma h = tt
+unstrung Colon h = tt
+unstrung Semicolon h = tt
+unstrung (Str q a e) h = h q a e refl
+unstrung (Byte z) h = tt
+unstrung (Short z) h = tt
+unstrung (Int z) h = tt
+unstrung (LongInt z) h = tt
+unstrung (Float x) h = tt
+unstrung (Double x) h = tt
 
 module _ (t : List ℕ) (q : Bool) (a e p room : ℕ) where
   pub key-string : (x : Token) → x ≡ string q a e → string_of t room q a e p ≡ key_of t room x p

@@ -6,25 +6,16 @@ use mathlib.Core.Bool.{Bool, true, false, ◌||◌}
 use mathlib.Core.Path.{◌≡◌, refl, sym, ◌∙◌}
 use native.Mathlib.Omega.{arith}
 use native.Mathlib.Numerals.{add-one}
-use lib.ListN.{length, get_or, take, drop, length-take, length-drop}
+use lib.ListN.{length, get_or, take, drop}
 use lib.Seq.{take-take}
-use Rattle.form.specs.Spans.{part, same}
+use Rattle.form.specs.Spans.{same}
 use Rattle.snbt_form.specs.Text.{known}
 use Rattle.snbt_keys.proofs.Orders.{true-false, not-true, same_self}
 use Rattle.form.proofs.Spans.{same_true}
-use Rattle.snbt_keys.specs.declared.Order.{Order}
-use Rattle.snbt_keys.specs.Keys.{size_at, name_at, names_in, OrderIs}
-
--- the order of a name, by the length that was read
-pub order-named : (o : List ℕ) (p n : ℕ) (s : List ℕ) (r : Order) → n ≡ size_at o p → OrderIs (part o (p + 2) n) s r → OrderIs (name_at o p) s r
-unfolding name_at
-order-named o p n s r e h = rw e at h
+use Rattle.snbt_keys.specs.Keys.{size_at, name_at, names_in}
 
 -- a name as a part of the output, by the length that was read
 module _ (o : List ℕ) (p n : ℕ) (e : n ≡ size_at o p) (h : p + (2 + size_at o p) ≤ length o) where
-  pub name-fits : n ≤ length (take (length o - (p + 2)) (drop (p + 2) o))
-  name-fits = simp (length-take, length-drop) (omega (arith, e))
-
   pub name-part : take n (take (length o - (p + 2)) (drop (p + 2) o)) ≡ name_at o p
   unfolding name_at
   name-part = take-take n (length o - (p + 2)) (drop (p + 2) o) (omega (arith, e)) ∙ rw e refl

@@ -15,7 +15,7 @@ use Rattle.snbt_keys.proofs.Shifts.{take_less, put_front, put-beyond}
 use Rattle.snbt_keys.proofs.Names.{names-alike, or-true, known-each, known-split, unknown-left, unknown-right}
 use Rattle.snbt_keys.proofs.Keys.{rising_none, rising-same, rising-more, same_name, names_same, known_more, name-before, name-here, name-behind, each, or-moved}
 use Rattle.snbt_keys.specs.Keys.{size_at, name_at, names_in, Rising, FreeIn, SpotIn, joint_of, Runs, Kept, FreeAt, SpotIs, put_in, Named, Comes, Added}
-use Rattle.snbt_keys.specs.declared.Spot.{Spot}
+use Rattle.std.specs.Prelude.{Option, Some, None}
 
 -- ---- where the second run begins
 
@@ -120,9 +120,9 @@ module _ {o k : List ℕ} {base top at : ℕ} (kept : Kept o k base top at) (s :
   taken-first e = known_both ∙ rw e refl
 
   -- one that it has not, by the second run's answer
-  pub spot-second : (r : Spot) → first-known ≡ false → SpotIn o k (joint_of base top) top s r → SpotIs o k base top s r
-  spot-second Spot.Taken e h = known_both ∙ rw h (or-true first-known)
-  spot-second (Spot.Free i) e h = record { new = known_both ∙ rw (e, h.new) refl; sides = h.sides }
+  pub spot-second : (r : Option ℕ) → first-known ≡ false → SpotIn o k (joint_of base top) top s r → SpotIs o k base top s r
+  spot-second None e h = known_both ∙ rw h (or-true first-known)
+  spot-second (Some i) e h = record { new = known_both ∙ rw (e, h.new) refl; sides = h.sides }
 
 -- ---- one key more
 

@@ -13,19 +13,9 @@ use Rattle.snbt_form.specs.Text.{known}
 use Rattle.snbt_keys.proofs.Orders.{true-false, below_self, below-trans, below_apart, above_apart}
 use Rattle.snbt_keys.proofs.Names.{known-here, known-not}
 use Rattle.snbt_keys.specs.Keys.{name_at, names_in, below, Rising, Sides, FreeIn, SpotIs}
-use Rattle.snbt_keys.specs.declared.Spot.{Spot}
+use Rattle.std.specs.Prelude.{Option, Some, None}
 
 module _ {o k : List ℕ} {base top at : ℕ} (run : Rising o k base top at) (s : List ℕ) where
-  pub sides-start : Sides o k base top s base top
-  sides-start =
-      record {
-        low = omega arith;
-        order = run.low;
-        high = omega arith;
-        before = λ j h l. absurd (omega arith);
-        behind = λ j h l. absurd (omega arith);
-      }
-
   module _ {a b m : ℕ} (sides : Sides o k base top s a b) (from : a ≤ m) (to : m < b) where
     -- the name in the middle is below the key: so are those before it
     pub sides-up : below (name_at o (get_or k m 0)) s ≡ true → Sides o k base top s (m + 1) b
@@ -90,13 +80,13 @@ sides-not {o} {k} {base} {top} {s} {i} {j} a b h =
     true-false (sym (below-trans s n s (a.behind i (omega arith) (omega (arith, b.high))) (b.before i a.low h)) ∙ below_self s)
 
 -- Two answers that the promise of `spot_of` allows are one.
-pub one_spot : (o k : List ℕ) (base top : ℕ) (s : List ℕ) (r r' : Spot) → SpotIs o k base top s r → SpotIs o k base top s r' → r ≡ r'
-one_spot o k base top s Spot.Taken Spot.Taken a b = refl
-one_spot o k base top s Spot.Taken (Spot.Free j) a b = true-false (sym a ∙ b.new)
-one_spot o k base top s (Spot.Free i) Spot.Taken a b = true-false (sym b ∙ a.new)
-one_spot o k base top s (Spot.Free i) (Spot.Free j) a b = go (lt-or i j) (lt-or j i)
+pub one_spot : (o k : List ℕ) (base top : ℕ) (s : List ℕ) (r r' : Option ℕ) → SpotIs o k base top s r → SpotIs o k base top s r' → r ≡ r'
+one_spot o k base top s None None a b = refl
+one_spot o k base top s None (Some j) a b = true-false (sym a ∙ b.new)
+one_spot o k base top s (Some i) None a b = true-false (sym b ∙ a.new)
+one_spot o k base top s (Some i) (Some j) a b = go (lt-or i j) (lt-or j i)
   where
-    go : (i < j) ⊎ (j ≤ i) → (j < i) ⊎ (i ≤ j) → Spot.Free i ≡ Spot.Free j
+    go : (i < j) ⊎ (j ≤ i) → (j < i) ⊎ (i ≤ j) → Some i ≡ Some j
     go (inl h) z = absurd (sides-not a.sides b.sides h)
     go (inr h) (inl m) = absurd (sides-not b.sides a.sides m)
-    go (inr h) (inr m) = let e : i ≡ j = omega arith in ap Spot.Free e
+    go (inr h) (inr m) = let e : i ≡ j = omega arith in ap Some e

@@ -1,11 +1,10 @@
 -- Keys in an output, kept by their places in two runs, each in ascending order of their bytes: what refusal 6 asks of a compound's keys (rule 15).
 -- Assumes nothing.
-use Rattle.std.specs.Prelude.{ℕ, zero, suc, ◌+◌, ◌-◌, ◌*◌, ◌/◌, ◌≤◌, ◌<◌, List, [], ◌∷◌, ◌++◌, Bool, true, false, ◌&&◌, ◌||◌, ◌≡◌, length, get_or, take, drop, ltb, eqb}
+use Rattle.std.specs.Prelude.{ℕ, zero, suc, ◌+◌, ◌-◌, ◌*◌, ◌/◌, ◌≤◌, ◌<◌, List, [], ◌∷◌, ◌++◌, Bool, true, false, ◌&&◌, ◌||◌, ◌≡◌, length, get_or, take, drop, ltb, eqb, Option, Some, None}
+use Rattle.std.specs.declared.cmp.Ordering.{Ordering}
 use Rattle.form.specs.Numbers.{big_endian}
 use Rattle.form.specs.Spans.{part, same}
 use Rattle.snbt_form.specs.Text.{known}
-use Rattle.snbt_keys.specs.declared.Order.{Order}
-use Rattle.snbt_keys.specs.declared.Spot.{Spot}
 
 -- The length that stands at place p.
 abbrev pub size_at : List ℕ → ℕ → ℕ
@@ -28,10 +27,10 @@ below (x ∷ xs) [] = false
 below (x ∷ xs) (y ∷ ys) = ltb x y || (eqb x y && below xs ys)
 
 -- The order of two lists, as the code says it.
-abbrev pub OrderIs : List ℕ → List ℕ → Order → Type 0
-OrderIs a b Order.Less = below a b ≡ true
-OrderIs a b Order.Same = a ≡ b
-OrderIs a b Order.More = below b a ≡ true
+abbrev pub OrderIs : List ℕ → List ℕ → Ordering → Type 0
+OrderIs a b Ordering.Less = below a b ≡ true
+OrderIs a b Ordering.Equal = a ≡ b
+OrderIs a b Ordering.Greater = below b a ≡ true
 
 -- ---- a run
 
@@ -57,9 +56,9 @@ pub record FreeIn (o k : List ℕ) (base top : ℕ) (s : List ℕ) (i : ℕ) : T
   pub sides : Sides o k base top s i i
 
 -- Where a key belongs in a run, or that it is there already.
-abbrev pub SpotIn : List ℕ → List ℕ → ℕ → ℕ → List ℕ → Spot → Type 0
-SpotIn o k base top s Spot.Taken = known s (names_in o k base (top - base)) ≡ true
-SpotIn o k base top s (Spot.Free i) = FreeIn o k base top s i
+abbrev pub SpotIn : List ℕ → List ℕ → ℕ → ℕ → List ℕ → Option ℕ → Type 0
+SpotIn o k base top s None = known s (names_in o k base (top - base)) ≡ true
+SpotIn o k base top s (Some i) = FreeIn o k base top s i
 
 -- ---- the two runs of a compound
 
@@ -83,9 +82,9 @@ pub record FreeAt (o k : List ℕ) (base top : ℕ) (s : List ℕ) (i : ℕ) : T
   pub sides : Sides o k (joint_of base top) top s i i
 
 -- Where a key belongs among those of the open compound, or that it is there already.
-abbrev pub SpotIs : List ℕ → List ℕ → ℕ → ℕ → List ℕ → Spot → Type 0
-SpotIs o k base top s Spot.Taken = known s (names_in o k base (top - base)) ≡ true
-SpotIs o k base top s (Spot.Free i) = FreeAt o k base top s i
+abbrev pub SpotIs : List ℕ → List ℕ → ℕ → ℕ → List ℕ → Option ℕ → Type 0
+SpotIs o k base top s None = known s (names_in o k base (top - base)) ≡ true
+SpotIs o k base top s (Some i) = FreeAt o k base top s i
 
 -- ---- one key more
 

@@ -2,84 +2,34 @@
 // by the bytes of the names. A key is looked up by halving; a new one is put into the second run, of fewer than 512 keys, at its index.
 #![tactic(auto)]
 
-ghost use Rattle.std.specs.Prelude.{◌≡◌, ◌∷◌, ◌++◌, false, ◌+◌, ◌-◌, ◌≤◌, ◌<◌, min, length, take, drop};
+ghost use Rattle.std.specs.Prelude.{◌≡◌, ◌∷◌, ◌++◌, false, ◌+◌, ◌-◌, ◌≤◌, ◌<◌, length, take, drop};
 ghost use Rattle.form.specs.Spans.{part};
 ghost use Rattle.snbt_form.specs.Text.{known};
 ghost use Rattle.snbt_keys.specs.Keys.{size_at, name_at, names_in, OrderIs, Rising, FreeIn, SpotIn, joint_of, Runs, Kept, SpotIs, put_in, Comes, Added, Lifted, Merging};
 
-// The order of two names.
-#[derive(Drop)]
-enum Order {
-    Less,
-    Same,
-    More,
-}
+use std::cmp::Ordering;
 
-// A key is there already, or belongs at an index.
-#[derive(Drop)]
-pub enum Spot {
-    Taken,
-    Free { index: usize },
-}
-
-// A place as an index.
-fn wide(x: u32) -> usize
-    ensures { result ≡ x }
-{
-    x as usize
-}
-
-// A length as a count.
-fn count(x: u16) -> usize
-    ensures { result ≡ x }
-{
-    x as usize
-}
-
-// The lesser of two counts.
-fn lesser(n: usize, m: usize) -> usize
-    ensures { result ≡ min n m }
-{
-    if n < m { n } else { m }
-}
-
-// The order of the n bytes at `at` and a key, its first `size` bytes: by the first that differs, then by the lengths.
-fn order_bytes(out: &[u8], at: usize, n: usize, key: &[u8], size: usize) -> Order
-    requires { (at + n ≤ length out.now) × (size ≤ length key.now) }
-    ensures { OrderIs (part out.now at n) (take size key.now) result }
-{
-    let common = lesser(n, size);
-    let mut i: usize = 0;
-    while i < common {
-        let x = out[at + i];
-        let y = key[i];
-        if x < y {
-            return Order::Less;
-        }
-        if y < x {
-            return Order::More;
-        }
-        i += 1;
-    }
-    if n < size {
-        return Order::Less;
-    }
-    if size < n {
-        return Order::More;
-    }
-    Order::Same
-}
-
-// The order of the name at a place and a key.
-fn order_name(out: &[u8], place: usize, key: &[u8], size: usize) -> Order
+// The order of the name at a place and a key, its first `size` bytes.
+fn order_name(out: &[u8], place: usize, key: &[u8], size: usize) -> Ordering
     requires { (place + (2 + size_at out.now place) ≤ length out.now) × (size ≤ length key.now) }
     ensures { OrderIs (name_at out.now place) (take size key.now) result }
 {
-    order_bytes(out, place + 2, count(raw::u16_at(out, place)), key, size)
+    let from = place + 2;
+    let to = from + raw::u16_at(out, place) as usize;
+    let name = &out[from..to];
+    let key = &key[..size];
+    name.cmp(&key)
 }
 
-// Where a key, the first `size` bytes, belongs among those of a run, or that it is there already.
-fn halve(out: &[u8], keys: &[u32], base: usize, top: usize, key: &[u8], size: usize) -> Spot
+// Where a key, the first `size` bytes, belongs among those of a run; none where it is there already.
+fn halve(
+    out: &[u8],
+    keys: &[u32],
+    base: usize,
+    top: usize,
+    key: &[u8],
+    size: usize,
+) -> Option<usize>
     requires { (Rising out.now keys.now base top (length out.now)) × (size ≤ length key.now) }
     ensures { SpotIn out.now keys.now base top (take size key.now) result }
 {
@@ -87,19 +37,19 @@ fn halve(out: &[u8], keys: &[u32], base: usize, top: usize, key: &[u8], size: us
     let mut high = top;
     while low < high {
         let mid = low + (high - low) / 2;
-        match order_name(out, wide(keys[mid]), key, size) {
-            Order::Less => {
+        match order_name(out, keys[mid] as usize, key, size) {
+            Ordering::Less => {
                 low = mid + 1;
             }
-            Order::More => {
+            Ordering::Greater => {
                 high = mid;
             }
-            Order::Same => {
-                return Spot::Taken;
+            Ordering::Equal => {
+                return None;
             }
         }
     }
-    Spot::Free { index: low }
+    Some(low)
 }
 
 // Where the second run of the keys from base up to top begins.
@@ -110,16 +60,21 @@ fn joint(base: usize, top: usize) -> usize
     base + (top - base) / 512 * 512
 }
 
-// Where a key, the first `size` bytes, belongs among those of the open compound, or that it is there already (refusal 6).
-pub fn spot_of(out: &[u8], keys: &[u32], base: usize, top: usize, key: &[u8], size: usize) -> Spot
+// Where a key, the first `size` bytes, belongs among those of the open compound; none where it is there already (refusal 6).
+pub fn spot_of(
+    out: &[u8],
+    keys: &[u32],
+    base: usize,
+    top: usize,
+    key: &[u8],
+    size: usize,
+) -> Option<usize>
     requires { (Kept out.now keys.now base top (length out.now)) × (size ≤ length key.now) }
     ensures { SpotIs out.now keys.now base top (take size key.now) result }
 {
     let mid = joint(base, top);
-    match halve(out, keys, base, mid, key, size) {
-        Spot::Taken => Spot::Taken,
-        Spot::Free { index: _ } => halve(out, keys, mid, top, key, size),
-    }
+    halve(out, keys, base, mid, key, size)?;
+    halve(out, keys, mid, top, key, size)
 }
 
 // Puts a place in at an index: those from the index on move up by one.
@@ -127,11 +82,7 @@ fn put_in(keys: &mut [u32], top: usize, index: usize, place: u32)
     requires { (index ≤ top) × (top < length keys.old) }
     ensures { keys.new ≡ take index keys.old ++ (place ∷ (part keys.old index (top - index) ++ drop (top + 1) keys.old)) }
 {
-    let mut i = top;
-    while index < i {
-        keys[i] = keys[i - 1];
-        i -= 1;
-    }
+    keys.copy_within(index..top, index + 1);
     keys[index] = place;
 }
 
@@ -140,30 +91,16 @@ fn lift(keys: &mut [u32], from: usize, to: usize, n: usize)
     requires { (from ≤ to) × (to + n ≤ length keys.old) }
     ensures { Lifted keys.old from to n keys.new }
 {
-    let mut i = to;
-    while from < i {
-        i -= 1;
-        keys[i + n] = keys[i];
-    }
+    keys.copy_within(from..to, from + n);
 }
 
-// Where the name at a place belongs among those of a run, which has it not: so `Taken` is never answered.
+// Where the name at a place belongs among those of a run, which has it not: so the run's end for want of an index is never answered.
 fn index_of(out: &[u8], keys: &[u32], base: usize, top: usize, place: usize) -> usize
     requires { (Rising out.now keys.now base top (length out.now)) × (place + (2 + size_at out.now place) ≤ length out.now) × (known (name_at out.now place) (names_in out.now keys.now base (top - base)) ≡ false) }
     ensures { FreeIn out.now keys.now base top (name_at out.now place) result }
 {
-    let at = place + 2;
-    match halve(
-        out,
-        keys,
-        base,
-        top,
-        &out[at..],
-        count(raw::u16_at(out, place)),
-    ) {
-        Spot::Taken => top,
-        Spot::Free { index } => index,
-    }
+    let size = raw::u16_at(out, place) as usize;
+    halve(out, keys, base, top, &out[place + 2..], size).unwrap_or(top)
 }
 
 // Merges the second run, 512 keys from `mid` on, into the first, but for its first n: from the last on, what lies above a key in the first
@@ -178,7 +115,7 @@ fn merge(out: &[u8], keys: &mut [u32], base: usize, mid: usize, n: usize) -> usi
     }
     let place = keys[mid + n];
     let high = merge(out, keys, base, mid, n + 1);
-    let index = index_of(out, keys, base, high, wide(place));
+    let index = index_of(out, keys, base, high, place as usize);
     lift(keys, index, high, n + 1);
     keys[index + n] = place;
     index

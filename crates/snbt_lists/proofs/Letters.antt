@@ -2,9 +2,9 @@
 -- Assumes nothing.
 use Prim.Native.Nat.{ℕ, ◌+◌}
 use mathlib.Core.Path.{◌≡◌, refl}
-use mathlib.Core.Bool.{Bool, true, false}
+use mathlib.Core.Bool.{Bool, false}
 use mathlib.Core.List.{List}
-use borrow.Author.Tests.{eq-eqb, ne_eqb}
+use borrow.Author.Tests.{eq-eqb}
 use lib.Dec.{eqb}
 use lib.ListN.{get_or}
 use Rattle.form.specs.Answer.{pick}
@@ -18,16 +18,7 @@ use Rattle.snbt_tokens.specs.declared.Token.TheVariants.{OpenCurly, ClosedCurly,
 abbrev pub width_of : ℕ → ℕ
 width_of b = pick (eqb b 66) 1 (pick (eqb b 73) 4 (pick (eqb b 76) 8 0))
 
-pub other-letter : (b : ℕ) → (b ≡ 66 → ⊥) → (b ≡ 73 → ⊥) → (b ≡ 76 → ⊥) → width_of b ≡ 0
-other-letter b f g h = rw (ne_eqb b 66 f, ne_eqb b 73 g, ne_eqb b 76 h) refl
-
 module _ (t : List ℕ) {k : Token} (q : Bool) (a e : ℕ) (is : k ≡ string q a e) where
-  pub quoted-none : q ≡ true → (room : ℕ) → letter_width t room k ≡ 0
-  quoted-none h room = rw (is, h) refl
-
-  pub longer-none : q ≡ false → (e ≡ a + 1 → ⊥) → (room : ℕ) → letter_width t room k ≡ 0
-  longer-none h l room = rw (is, h, ne_eqb e (a + 1) l) refl
-
   pub by-letter : q ≡ false → e ≡ a + 1 → (room : ℕ) → letter_width t room k ≡ width_of (get_or t a 0)
   by-letter h l room = rw (is, h, eq-eqb e (a + 1) l) refl
 

@@ -1,11 +1,10 @@
--- Laws of answers, ranges and room: two answers that are the same, an integer's range by its magnitude, and the room that is left behind a place.
+-- Laws of answers and ranges: two answers that are the same, and an integer's range by its magnitude.
 -- Assumes nothing.
-use Prim.Native.Nat.{ℕ, ◌+◌, ◌-◌, ◌/◌, ◌≤◌, ◌<◌}
+use Prim.Native.Nat.{ℕ, ◌/◌}
 use mathlib.Core.Bool.{Bool, true, false, not}
 use mathlib.Core.Path.{◌≡◌, refl, sym, ap}
-use native.Mathlib.Omega.{arith}
-use borrow.Author.Tests.{le-leb, lt-leb, leb-true, leb-false, ltb-true}
-use lib.Dec.{leb, ltb}
+use borrow.Author.Tests.{ltb-true}
+use lib.Dec.{ltb}
 use lib.IntN.{ℤ, pos, negsuc}
 use lib.Signed.{mag}
 use Rattle.form.specs.Answer.{Out, got, no}
@@ -38,15 +37,7 @@ pub not_taken : (b : Bool) → not b ≡ true → b ≡ false
 not_taken true e = sym e
 not_taken false e = refl
 
--- ---- room and range
-
--- The room less the size.
-pub room-less : (room at size : ℕ) → size ≤ room → leb at (room - size) ≡ leb (at + size) room
-room-less room at size h = go (leb at (room - size)) refl
-  where
-    go : (t : Bool) → leb at (room - size) ≡ t → t ≡ leb (at + size) room
-    go true e = let l : at ≤ room - size = leb-true at (room - size) e in sym (le-leb (at + size) room (omega arith))
-    go false e = let l : room - size < at = leb-false at (room - size) e in sym (lt-leb (at + size) room (omega arith))
+-- ---- range
 
 -- An integer's range is asked of its magnitude.
 pub range-mag : (w : ℕ) (v : ℤ) → ltb (mag v) (values_in w / 2) ≡ in_range w v

@@ -1,7 +1,10 @@
 -- What the contracts of values cite: each answer of the code as the definitions' one, and what is left in the output.
 -- Assumes nothing.
-use Rattle.std.specs.Prelude.{ℕ, ◌+◌, ◌≤◌, ◌<◌, ◌≡◌, ◌||◌, List, leb, eqb, length}
-use Rattle.form.specs.Answer.{Out, got, no, ◌>>=◌, ◌>>◌, guard, mixed_list, output_full}
+use Rattle.std.specs.Prelude.{ℕ, ◌+◌, ◌≤◌, ◌<◌, ◌≡◌, ◌||◌, List, Result, Ok, Err, leb, eqb, length}
+use Rattle.form.specs.Answer.{Out, got, no, ◌>>◌, guard, mixed_list, output_full}
+use Rattle.form.specs.Refusals.{number_of}
+use Rattle.form.specs.declared.refusals.Refusal.{Refusal}
+use Rattle.form.specs.declared.refusals.Refused.{Refused}
 use Rattle.form.specs.Spans.{over}
 use Rattle.form.specs.Tree.{kind_of}
 use Rattle.form.specs.Layout.{payload}
@@ -9,9 +12,6 @@ use Rattle.snbt_form.specs.Numbers.{no_nan}
 use Rattle.snbt_form.specs.Lexing.{Token, open_curly, closed_curly, open_square, closed_square, comma, colon, semicolon, string, numeral, TokenData}
 use Rattle.snbt_form.specs.Text.{Value}
 use Rattle.snbt_placing.specs.declared.Done.{Done}
-use Rattle.snbt_placing.specs.declared.Done.TheVariants.{To, No}
-use Rattle.snbt_placing.specs.declared.Admitted.{Admitted}
-use Rattle.snbt_placing.specs.declared.Admitted.TheVariants.{Yes, No as Barred}
 
 -- ---- what holds of every token of the lexer
 
@@ -45,19 +45,19 @@ pub record Did (res : Out Value) (o : List ℕ) (at next used kind : ℕ) (o' : 
   pub wrote : o' ≡ over o at (payload value.tag)
 
 -- The code's answer agrees with the definitions' one; of the output after a refusal nothing is said, since the parse then zeroes it.
-abbrev pub Agrees : Out Value → List ℕ → ℕ → Done → List ℕ → Type 0
-Agrees res o at (To n u k) o' = Did res o at n u k o'
-Agrees res o at (No a p) o' = res ≡ no a p
+abbrev pub Agrees : Out Value → List ℕ → ℕ → Result Done Refused → List ℕ → Type 0
+Agrees res o at (Ok d) o' = Did res o at d.next d.used d.kind o'
+Agrees res o at (Err e) o' = res ≡ no (number_of e.refusal) e.place
 
 -- The same of a scalar, which is put at once: a refusal leaves the output as it was.
-abbrev pub Puts : Out Value → List ℕ → ℕ → Done → List ℕ → Type 0
-Puts res o at (To n u k) o' = Did res o at n u k o'
-Puts res o at (No a p) o' = (res ≡ no a p) × (o' ≡ o)
+abbrev pub Puts : Out Value → List ℕ → ℕ → Result Done Refused → List ℕ → Type 0
+Puts res o at (Ok d) o' = Did res o at d.next d.used d.kind o'
+Puts res o at (Err e) o' = (res ≡ no (number_of e.refusal) e.place) × (o' ≡ o)
 
 -- A value that was accepted ends behind `start`, and within a text of m bytes.
-abbrev pub Ahead : ℕ → ℕ → Done → Type 0
-Ahead start m (To n u k) = (start < n) × (n ≤ m)
-Ahead start m (No a p) = Unit {0}
+abbrev pub Ahead : ℕ → ℕ → Result Done Refused → Type 0
+Ahead start m (Ok d) = (start < d.next) × (d.next ≤ m)
+Ahead start m (Err e) = Unit {0}
 
 -- A value of some kind and size may stand at u, or is refused: its kind (11), then its room (13).
 unfoldable pub admits : ℕ → ℕ → ℕ → ℕ → ℕ → ℕ → Out (Unit {0})
@@ -66,9 +66,9 @@ admits want kind room u size p = do
   guard (leb (u + size) room) output_full p
 
 -- The code's answer says so, wherever the value stands.
-abbrev pub AdmittedIs : ℕ → ℕ → ℕ → ℕ → ℕ → Admitted → Type 0
-AdmittedIs want kind room u size Yes = (p : ℕ) → admits want kind room u size p ≡ got tt
-AdmittedIs want kind room u size (Barred n) = (p : ℕ) → admits want kind room u size p ≡ no n p
+abbrev pub AdmittedIs : ℕ → ℕ → ℕ → ℕ → ℕ → Result (Unit {0}) Refusal → Type 0
+AdmittedIs want kind room u size (Ok _) = (p : ℕ) → admits want kind room u size p ≡ got tt
+AdmittedIs want kind room u size (Err r) = (p : ℕ) → admits want kind room u size p ≡ no (number_of r) p
 
 -- ---- arrays
 

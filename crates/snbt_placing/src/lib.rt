@@ -1,4 +1,4 @@
-// What is asked of a value before it is written (rule 15): its range, then its kind, then its room; and the answer that values share.
+// What is asked of a value before it is written (rule 15): its range, then its kind, then its room; and what is told of a value.
 // A place may lie past the output's end: there is no room there, and nothing overflows.
 #![tactic(auto)]
 
@@ -6,18 +6,14 @@ ghost use Rattle.std.specs.Prelude.{◌≡◌, ◌||◌, ◌+◌, ◌≤◌, ◌
 ghost use Rattle.snbt_form.specs.Text.{in_range};
 ghost use Rattle.snbt_placing.specs.Done.{AdmittedIs};
 
-// The next place in the text, the next in the output, and the kind; or a refusal.
-#[derive(Drop)]
-pub enum Done {
-    To { next: usize, used: usize, kind: u8 },
-    No { number: u8, place: usize },
-}
+use form::refusals::Refusal;
 
-// Whether a value may stand where it is due, or the number of its refusal.
-#[derive(Drop)]
-pub enum Admitted {
-    Yes,
-    No { number: u8 },
+// A value that was written: the next place in the text, the next in the output, and the kind.
+#[derive(Clone, Copy)]
+pub struct Done {
+    pub next: usize,
+    pub used: usize,
+    pub kind: u8,
 }
 
 // An integer is in the range of `width` bytes (rule 15).
@@ -33,35 +29,25 @@ pub fn in_range(v: i64, width: usize) -> bool
 pub fn has_room(room: usize, at: usize, size: usize) -> bool
     ensures { result ≡ leb (at + size) room }
 {
-    if size <= room {
-        return at <= room - size;
-    }
-    false
+    size <= room && at <= room - size
 }
 
 // A kind is the one that its list has; 0 is any (refusal 11).
 pub fn is_alike(want: u8, kind: u8) -> bool
     ensures { result ≡ (eqb want 0 || eqb kind want) }
 {
-    if want == 0 {
-        return true;
-    }
-    kind == want
+    want == 0 || kind == want
 }
 
 // Whether a value of a kind and a size may stand at `at`: its kind (refusal 11), then its room (refusal 13).
-pub fn admits(want: u8, kind: u8, room: usize, at: usize, size: usize) -> Admitted
+pub fn admits(want: u8, kind: u8, room: usize, at: usize, size: usize) -> Result<(), Refusal>
     ensures { AdmittedIs want kind room at size result }
 {
     if !is_alike(want, kind) {
-        return Admitted::No {
-            number: form::MIXED_LIST,
-        };
+        return Err(Refusal::MixedList);
     }
-    if has_room(room, at, size) {
-        return Admitted::Yes;
+    if !has_room(room, at, size) {
+        return Err(Refusal::OutputFull);
     }
-    Admitted::No {
-        number: form::OUTPUT_FULL,
-    }
+    Ok(())
 }

@@ -25,21 +25,21 @@ use Rattle.snbt_form.specs.Text.{Value, in_range, ranged, number_tag, string_of,
 use Rattle.snbt_tokens.proofs.Rests.{Sign}
 use Rattle.snbt_contents.specs.Puts.{PutIs, Verbatim}
 use Rattle.snbt_contents.proofs.Fitted.{Long}
+use Rattle.std.specs.Prelude.{Result}
+use Rattle.form.specs.declared.refusals.Refused.{Refused}
 use Rattle.snbt_placing.specs.declared.Done.{Done}
-use Rattle.snbt_placing.specs.declared.Admitted.{Admitted}
-use Rattle.snbt_placing.specs.declared.Admitted.TheVariants.{Yes, No as Barred}
-use Rattle.snbt_placing.specs.Done.{TokenFits, Spanned, Did, Puts, admits, AdmittedIs}
+use Rattle.snbt_placing.specs.Done.{TokenFits, Spanned, Did, Puts, admits}
 use Rattle.snbt_placing.proofs.Rooms.{range-fits}
 use Rattle.snbt_scalars.specs.Placed.{placed, whole_placed, string_placed}
 
 -- ---- kind and room
 
 -- Where a value is admitted, there is room for it.
-pub admitted-room : (want kind room u size : ℕ) {r : Admitted} → r ≡ Yes → AdmittedIs want kind room u size r → u + size ≤ room
+pub admitted-room : (want kind room u size p : ℕ) → admits want kind room u size p ≡ got tt → u + size ≤ room
 unfolding admits
-admitted-room want kind room u size e m = go (eqb want 0 || eqb kind want) (leb (u + size) room) refl ((subst (AdmittedIs want kind room u size) e m) 0)
+admitted-room want kind room u size p e = go (eqb want 0 || eqb kind want) (leb (u + size) room) refl e
   where
-    go : (x y : Bool) → leb (u + size) room ≡ y → (guard x mixed_list 0 >> guard y output_full 0) ≡ got tt → u + size ≤ room
+    go : (x y : Bool) → leb (u + size) room ≡ y → (guard x mixed_list p >> guard y output_full p) ≡ got tt → u + size ≤ room
     go true true f z = leb-true (u + size) room f
     go true false f z = absurd (got-no (sym z))
     go false y f z = absurd (got-no (sym z))
@@ -59,23 +59,22 @@ module _ (o : List ℕ) (want p n u kind size : ℕ) (bs : List ℕ) (l : length
   placed_by : {x : Out (Unit {0})} → admits want kind (length o) u size p ≡ x → placed (length o) want tag p n u ≡ (x >> got (record { tag = tag; next = n; used = u + size }))
   placed_by e = placed-as ∙ ap (λ (y : Out (Unit {0})). y >> got (record { tag = tag; next = n; used = u + size })) e
 
-  module _ {r : Admitted} where
-    -- Its kind or its room refuses it (11, then 13).
-    pub placed-barred : {b : ℕ} → r ≡ Barred b → AdmittedIs want kind (length o) u size r → placed (length o) want tag p n u ≡ no b p
-    placed-barred e m = placed_by ((subst (AdmittedIs want kind (length o) u size) e m) p)
+  -- Its kind or its room refuses it (11, then 13).
+  pub placed-barred : {m k : ℕ} → admits want kind (length o) u size p ≡ no m k → placed (length o) want tag p n u ≡ no m k
+  placed-barred e = placed_by e
 
-    -- There is room for it, and it was put there.
-    pub placed-did : r ≡ Yes → AdmittedIs want kind (length o) u size r → {o' : List ℕ} → o' ≡ over o u bs → Did (placed (length o) want tag p n u) o u n (u + size) kind o'
-    placed-did e m w = record {
-      value = record { tag = tag; next = n; used = u + size };
-      same = placed_by ((subst (AdmittedIs want kind (length o) u size) e m) p);
-      next_is = refl;
-      used_is = refl;
-      kind_is = sym k;
-      size_is = rw (s, l) refl;
-      fits = admitted-room want kind (length o) u size e m;
-      wrote = w ∙ ap (over o u) (sym s);
-    }
+  -- There is room for it, and it was put there.
+  pub placed-did : admits want kind (length o) u size p ≡ got tt → {o' : List ℕ} → o' ≡ over o u bs → Did (placed (length o) want tag p n u) o u n (u + size) kind o'
+  placed-did e w = record {
+    value = record { tag = tag; next = n; used = u + size };
+    same = placed_by e;
+    next_is = refl;
+    used_is = refl;
+    kind_is = sym k;
+    size_is = rw (s, l) refl;
+    fits = admitted-room want kind (length o) u size p e;
+    wrote = w ∙ ap (over o u) (sym s);
+  }
 
 -- ---- a whole number
 
@@ -133,23 +132,22 @@ module _ (t : List ℕ) (q : Bool) (a e want p n u : ℕ) (o : List ℕ) where
       unfolding string_placed string_of
       string-as = rw (l.is, le-leb (length l.bytes) 65535 (omega (arith, h, l.size))) refl
 
-      module _ {r : Admitted} where
-        -- Its kind or its room refuses it (11, then 13).
-        pub string-barred : {b : ℕ} → r ≡ Barred b → AdmittedIs want 8 (length o) u (2 + size) r → string_placed t q a e (length o) want p n u ≡ no b p
-        string-barred x y =
-            sym string-as
-            ∙ placed-barred o want p n u 8 (2 + size) (string_bytes l.bytes) wide (tree.string l.bytes) (string-kind l.bytes) (string-payload l.bytes) x y
+      -- Its kind or its room refuses it (11, then 13).
+      pub string-barred : {m k : ℕ} → admits want 8 (length o) u (2 + size) p ≡ no m k → string_placed t q a e (length o) want p n u ≡ no m k
+      string-barred x =
+          sym string-as
+          ∙ placed-barred o want p n u 8 (2 + size) (string_bytes l.bytes) wide (tree.string l.bytes) (string-kind l.bytes) (string-payload l.bytes) x
 
-        -- Its length was put, then its content behind that.
-        pub string-did : r ≡ Yes → AdmittedIs want 8 (length o) u (2 + size) r → (o₁ o₂ : List ℕ) (used : ℕ) → o₁ ≡ over o u (bytes_of 2 size)
-            → PutIs (got l.bytes) o₁ (u + 2) used o₂ → Did (string_placed t q a e (length o) want p n u) o u n used 8 o₂
-        string-did x y o₁ o₂ used i j =
-            let room = admitted-room want 8 (length o) u (2 + size) x y in
-            let w = string-put o o₁ o₂ u l.bytes (omega (arith, room, l.size)) (i ∙ ap (λ (m : ℕ). over o u (bytes_of 2 m)) (sym l.size)) j.1 in
-            let d = placed-did o want p n u 8 (2 + size) (string_bytes l.bytes) wide (tree.string l.bytes) (string-kind l.bytes) (string-payload l.bytes) x y w in
-            let z : u + (2 + size) ≡ used = omega (arith, j.0, l.size) in
-            subst (λ (res : Out Value). Did res o u n used 8 o₂) string-as
-            (subst (λ (m : ℕ). Did (placed (length o) want (tree.string l.bytes) p n u) o u n m 8 o₂) z d)
+      -- Its length was put, then its content behind that.
+      pub string-did : admits want 8 (length o) u (2 + size) p ≡ got tt → (o₁ o₂ : List ℕ) (used : ℕ) → o₁ ≡ over o u (bytes_of 2 size)
+          → PutIs (got l.bytes) o₁ (u + 2) used o₂ → Did (string_placed t q a e (length o) want p n u) o u n used 8 o₂
+      string-did x o₁ o₂ used i j =
+          let room = admitted-room want 8 (length o) u (2 + size) p x in
+          let w = string-put o o₁ o₂ u l.bytes (omega (arith, room, l.size)) (i ∙ ap (λ (m : ℕ). over o u (bytes_of 2 m)) (sym l.size)) j.1 in
+          let d = placed-did o want p n u 8 (2 + size) (string_bytes l.bytes) wide (tree.string l.bytes) (string-kind l.bytes) (string-payload l.bytes) x w in
+          let z : u + (2 + size) ≡ used = omega (arith, j.0, l.size) in
+          subst (λ (res : Out Value). Did res o u n used 8 o₂) string-as
+          (subst (λ (m : ℕ). Did (placed (length o) want (tree.string l.bytes) p n u) o u n m 8 o₂) z d)
 
 -- A span that is its own content: its length.
 abbrev pub own-long : (t : List ℕ) (a e : ℕ) → a ≤ e → e ≤ length t → Verbatim t a e → (q : Bool) → Long (content_of t q a e) (e - a)
@@ -213,7 +211,7 @@ module _ (t : List ℕ) (room want : ℕ) (x : TokenData) (n u : ℕ) where
 
 module _ (t o : List ℕ) (want : ℕ) (x : TokenData) (n u : ℕ) where
   -- A whole number's token, its integer v held as z: what holds of its tag, whichever it is, holds of the scalar.
-  pub whole-puts : (make : ℤ → Number) (tag : ℤ → Tag) (w kind : ℕ) (v z : ℤ) (r : Done) (o' : List ℕ)
+  pub whole-puts : (make : ℤ → Number) (tag : ℤ → Tag) (w kind : ℕ) (v z : ℤ) (r : Result Done Refused) (o' : List ℕ)
       → x.token ≡ numeral (make v) → z ≡ v → ((p : ℕ) → number_tag (make z) p ≡ ranged w z (tag z) p) → kind_of (tag z) ≡ kind → payload (tag z) ≡ int_bytes w z
       → ((g : Tag) → kind_of g ≡ kind → payload g ≡ int_bytes w z → Puts (whole_placed w z (length o) want g x.index n u) o u r o')
       → Puts (scalar_value t (length o) want x n u) o u r o'
@@ -221,7 +219,7 @@ module _ (t o : List ℕ) (want : ℕ) (x : TokenData) (n u : ℕ) where
       subst (λ (res : Out Value). Puts res o u r o') (scalar-whole t (length o) want x n u w z (tag z) (e ∙ ap (λ (y : ℤ). numeral (make y)) (sym h)) f) (g (tag z) k s)
 
   -- The same of a float's or a double's token and its bits.
-  pub real-puts : {m : Number} (tag : Tag) (w kind bits : ℕ) (r : Done) (o' : List ℕ)
+  pub real-puts : {m : Number} (tag : Tag) (w kind bits : ℕ) (r : Result Done Refused) (o' : List ℕ)
       → x.token ≡ numeral m → ((p : ℕ) → number_tag m p ≡ got tag) → kind_of tag ≡ kind → payload tag ≡ bytes_of w bits
       → ((g : Tag) → kind_of g ≡ kind → payload g ≡ bytes_of w bits → Puts (placed (length o) want g x.index n u) o u r o')
       → Puts (scalar_value t (length o) want x n u) o u r o'

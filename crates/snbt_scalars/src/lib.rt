@@ -8,12 +8,13 @@ ghost use Rattle.form.specs.Layout.{payload, int_bytes};
 ghost use Rattle.snbt_form.specs.Text.{scalar_value};
 ghost use Rattle.snbt_tokens.specs.Answers.{data_is};
 ghost use Rattle.snbt_contents.specs.Puts.{Verbatim};
-ghost use Rattle.snbt_placing.specs.Done.{Spanned, Puts};
+ghost use Rattle.form.specs.Refusals.{out_of};
+ghost use Rattle.snbt_placing.specs.Done.{Spanned, Puts, admits};
 ghost use Rattle.snbt_scalars.specs.Placed.{placed, whole_placed, string_placed};
 
 use form::kinds;
-use snbt_contents::Contents;
-use snbt_placing::{Admitted, Done};
+use form::refusals::{Refusal, Refused};
+use snbt_placing::Done;
 use snbt_tokens::{Index, Token, TokenData};
 
 // Where a scalar stands: its token's index, the next place in the text, the kind that its list has (0 for any), its place in the output.
@@ -25,32 +26,46 @@ struct Target {
     at: usize,
 }
 
+// Whether a value of a kind and a size may stand there, or the refusal at its token.
+fn admitted(target: &Target, kind: u8, room: usize, size: usize) -> Result<(), Refused>
+    ensures { out_of (λ u. u) result ≡ admits target.now.want kind room target.now.at size target.now.index.0 }
+{
+    snbt_placing::admits(target.want, kind, room, target.at, size).map_err(|refusal| Refused {
+        refusal,
+        place: target.index.0,
+    })
+}
+
 // A number by its bits, `width` bytes of them: its kind (refusal 11), its room (refusal 13), then its bytes.
-fn put_bits(bits: u64, width: usize, kind: u8, target: Target, out: &mut [u8]) -> Done
+fn put_bits(
+    bits: u64,
+    width: usize,
+    kind: u8,
+    target: Target,
+    out: &mut [u8],
+) -> Result<Done, Refused>
     requires { width ≤ 8 }
     ensures { (tag : Tag) → kind_of tag ≡ kind → payload tag ≡ bytes_of width bits
         → Puts (placed (length out.old) target.want tag target.index.0 target.next target.at) out.old target.at result out.new }
 {
-    let index = target.index;
     let at = target.at;
-    match snbt_placing::admits(target.want, kind, out.len(), at, width) {
-        Admitted::Yes => {
-            raw::put_number(out, at, width, bits);
-            Done::To {
-                next: target.next,
-                used: at + width,
-                kind,
-            }
-        }
-        Admitted::No { number } => Done::No {
-            number,
-            place: index.0,
-        },
-    }
+    admitted(&target, kind, out.len(), width)?;
+    raw::put_number(out, at, width, bits);
+    Ok(Done {
+        next: target.next,
+        used: at + width,
+        kind,
+    })
 }
 
 // A whole number in `width` bytes: its range (refusal 19), then as its bits.
-fn put_whole(v: i64, width: usize, kind: u8, target: Target, out: &mut [u8]) -> Done
+fn put_whole(
+    v: i64,
+    width: usize,
+    kind: u8,
+    target: Target,
+    out: &mut [u8],
+) -> Result<Done, Refused>
     requires { (0 < width) × (width ≤ 8) }
     ensures { (tag : Tag) → kind_of tag ≡ kind → payload tag ≡ int_bytes width v
         → Puts (whole_placed width v (length out.old) target.want tag target.index.0 target.next target.at)
@@ -59,37 +74,34 @@ fn put_whole(v: i64, width: usize, kind: u8, target: Target, out: &mut [u8]) -> 
     if snbt_placing::in_range(v, width) {
         return put_bits(raw::bits_of(v), width, kind, target, out);
     }
-    let index = target.index;
-    Done::No {
-        number: form::UNEXPECTED_TOKEN,
-        place: index.0,
-    }
+    Err(Refused {
+        refusal: Refusal::UnexpectedToken,
+        place: target.index.0,
+    })
 }
 
 // A string that is its own content, and too short for refusal 12: its kind (refusal 11), its room (refusal 13), its length and its bytes.
-fn put_plain(text: &[u8], start: usize, end: usize, target: Target, out: &mut [u8]) -> Done
+fn put_plain(
+    text: &[u8],
+    start: usize,
+    end: usize,
+    target: Target,
+    out: &mut [u8],
+) -> Result<Done, Refused>
     requires { (start ≤ end) × (end ≤ length text.now) × Verbatim text.now start end }
     ensures { (quoted : Bool) → Puts (string_placed text.now quoted start end (length out.old) target.want target.index.0 target.next target.at)
         out.old target.at result out.new }
 {
-    let index = target.index;
     let at = target.at;
     let size = end - start;
-    match snbt_placing::admits(target.want, kinds::STRING, out.len(), at, 2 + size) {
-        Admitted::Yes => {
-            raw::put_number(out, at, 2, size as u64);
-            slices::copy(text, start, size, out, at + 2);
-            Done::To {
-                next: target.next,
-                used: at + 2 + size,
-                kind: kinds::STRING,
-            }
-        }
-        Admitted::No { number } => Done::No {
-            number,
-            place: index.0,
-        },
-    }
+    admitted(&target, kinds::STRING, out.len(), 2 + size)?;
+    raw::put_number(out, at, 2, size as u64);
+    slices::copy(text, start, size, out, at + 2);
+    Ok(Done {
+        next: target.next,
+        used: at + 2 + size,
+        kind: kinds::STRING,
+    })
 }
 
 // A string that is measured first: its content's own refusals and 12, its kind (refusal 11), its room (refusal 13).
@@ -100,37 +112,27 @@ fn put_measured(
     end: usize,
     target: Target,
     out: &mut [u8],
-) -> Done
+) -> Result<Done, Refused>
     requires { (start ≤ end) × (end ≤ length text.now) }
     ensures { Puts (string_placed text.now quoted start end (length out.old) target.want target.index.0 target.next target.at)
         out.old target.at result out.new }
 {
-    let index = target.index;
     let at = target.at;
-    match snbt_contents::content_length(text, start, end, quoted) {
-        Contents::Refused { number, place } => Done::No { number, place },
-        Contents::Is { bytes: size } => {
-            if form::STRING < size {
-                return Done::No {
-                    number: form::LONG_STRING,
-                    place: index.0,
-                };
-            }
-            match snbt_placing::admits(target.want, kinds::STRING, out.len(), at, 2 + size) {
-                Admitted::Yes => {
-                    raw::put_number(out, at, 2, size as u64);
-                    let used = snbt_contents::put_content(text, start, end, quoted, out, at + 2);
-                    let next = target.next;
-                    let kind = kinds::STRING;
-                    Done::To { next, used, kind }
-                }
-                Admitted::No { number } => Done::No {
-                    number,
-                    place: index.0,
-                },
-            }
-        }
+    let size = snbt_contents::content_length(text, start, end, quoted)?;
+    if form::STRING < size {
+        return Err(Refused {
+            refusal: Refusal::LongString,
+            place: target.index.0,
+        });
     }
+    admitted(&target, kinds::STRING, out.len(), 2 + size)?;
+    raw::put_number(out, at, 2, size as u64);
+    let used = snbt_contents::put_content(text, start, end, quoted, out, at + 2);
+    Ok(Done {
+        next: target.next,
+        used,
+        kind: kinds::STRING,
+    })
 }
 
 // A string's length and its content: its own refusals (12 among them), its kind (refusal 11), its room (refusal 13).
@@ -141,7 +143,7 @@ fn put_string(
     end: usize,
     target: Target,
     out: &mut [u8],
-) -> Done
+) -> Result<Done, Refused>
     requires { (start ≤ end) × (end ≤ length text.now) }
     ensures { Puts (string_placed text.now quoted start end (length out.old) target.want target.index.0 target.next target.at)
         out.old target.at result out.new }
@@ -160,7 +162,7 @@ pub fn scalar(
     want: u8,
     out: &mut [u8],
     at: usize,
-) -> Done
+) -> Result<Done, Refused>
     requires { Spanned (data_is «data») (length text.now) }
     ensures { Puts (scalar_value text.now (length out.old) want (data_is «data») next at) out.old at result out.new }
 {
@@ -186,9 +188,9 @@ pub fn scalar(
             out,
         ),
         Token::Double(x) => put_bits(f64::to_bits(x), 8, kinds::DOUBLE, target, out),
-        _ => Done::No {
-            number: form::UNEXPECTED_TOKEN,
+        _ => Err(Refused {
+            refusal: Refusal::UnexpectedToken,
             place: index.0,
-        },
+        }),
     }
 }

@@ -13,7 +13,6 @@ use Rattle.snbt_keys.proofs.merge.Kinds as merge-kinds
 use Rattle.snbt_keys.proofs.+merge.Lts-merge as lts
 use Rattle.snbt_keys.proofs.index_of.Reads as index_of
 use Rattle.snbt_keys.proofs.lift.Reads as lift
-use Rattle.snbt_keys.proofs.wide.Reads as wide
 use Rattle.snbt_keys.proofs.+merge.{statement}
 use Rattle.snbt_keys.proofs.+merge.Tie.{close}
 
@@ -27,7 +26,7 @@ abbrev merge-below : ℕ → In 2 merge-kinds.ps
 merge-below t = and 2 merge-kinds.ps (falls 2 merge-kinds.ps ◌<◌ μ-merge t) merge.Pre
 
 abbrev claims : ℕ → lts.Claims
-claims t = (merge-below t, merge.Post, wide.Asked, wide.Learnt, index_of.Asked, index_of.Learnt, lift.Asked, lift.Learnt)
+claims t = (merge-below t, merge.Post, index_of.Asked, index_of.Learnt, lift.Asked, lift.Learnt)
 
 abbrev On : ℕ → (lts.Claims → In 2 merge-kinds.ps → Out 2 merge-kinds.ps merge-kinds.r → Type 0) → Type 0
 On t F = F (claims t) (merge-at t) merge.Post
@@ -54,13 +53,13 @@ pub +merge_spec : {M : Type 1} → statement M
     (λ c. omega (arith, c.requires.1.0.second.high, c.requires.1.1, c.if-n-eq512.false))
     (λ c. omega arith)
     (λ c κs. (omega (arith, c.requires.0, c.requires.1.1, c.if-n-eq512.false), (c.requires.1.0, omega (arith, c.requires.1.1, c.if-n-eq512.false))))
-    (λ c κs. search rules)
+    (λ c. search rules)
     (λ c κs.
     let r = c.requires.1.0 in
     let l : c.args.n < 512 = omega (arith, c.requires.1.1, c.if-n-eq512.false) in (
       merging-run r c.merge-high.ensures l c.merge-high.auto.keys,
-      rw c.wide.ensures (r.second.ends (c.args.mid + c.args.n) (omega arith) (omega (arith, l))),
-      rw c.wide.ensures (merging-new r c.merge-high.ensures l),
+      (r.second.ends (c.args.mid + c.args.n) (omega arith) (omega (arith, l))),
+      (merging-new r c.merge-high.ensures l),
     ))
     (λ c. omega arith)
     (λ c κs. (
@@ -73,4 +72,4 @@ pub +merge_spec : {M : Type 1} → statement M
     (λ c. simp length-set (long t c.before.before))
     (λ c.
     let lifted = c.before.before in
-    merging-next c.requires.1.0 c.merge-high.ensures (left t lifted) (rw c.wide.ensures at c.index_of-index.ensures) c.lift.ensures (long t lifted))
+    merging-next c.requires.1.0 c.merge-high.ensures (left t lifted) c.index_of-index.ensures c.lift.ensures (long t lifted))
