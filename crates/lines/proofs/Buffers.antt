@@ -2,13 +2,15 @@
 -- Assumes nothing.
 use Prim.Native.Nat.{ℕ, zero, suc, ◌+◌, ◌-◌, ◌≤◌, ◌<◌, min}
 use mathlib.Core.List.{List, [], ◌∷◌, ◌++◌}
-use mathlib.Core.Path.{◌≡◌, refl, sym, ap, ◌∙◌, subst}
+use mathlib.Core.Path.{◌≡◌, refl, sym, ◌∙◌, subst}
 use native.Mathlib.Omega.{arith}
 use native.Mathlib.Nat.{zero-add}
 use native.Mathlib.Numerals.{add-one}
-use lib.ListN.{length, set, replicate, length-append, length-replicate, replicate-append-replicate}
+use lib.ListN.{length, set, take, drop, replicate, length-append, length-drop, length-replicate}
+use lib.Seq.{length-take-le, drop-drop}
+use borrow.Rule.Slice.PartMut.{put_mid}
 use Rattle.form.specs.Spans.{over}
-use Rattle.form.proofs.Table.{over_none, over-length, over-next}
+use Rattle.form.proofs.Table.{over_none, over-next}
 use Rattle.lines.specs.Buffers.{firsts, with_byte}
 
 -- ---- one element more
@@ -31,9 +33,6 @@ module _ (f : ℕ → ℕ) (l : List ℕ) where
   unfolding firsts
   firsts-start = sym (over_none l 0)
 
-  pub firsts-kept : (n : ℕ) → n ≤ length l → length (over l 0 (firsts f n)) ≡ length l
-  firsts-kept n h = over-length l 0 (firsts f n) (rw (firsts-length, zero-add) h)
-
   firsts-next : (n : ℕ) → n < length l → set (over l 0 (firsts f n)) n (f n) ≡ over l 0 (firsts f (n + 1))
   unfolding firsts
   firsts-next n h = rw (add-one n) (front-next l (firsts f n) n (f n) (firsts-length f n) h)
@@ -44,22 +43,25 @@ module _ (f : ℕ → ℕ) (l : List ℕ) where
 
 -- ---- one byte at each place
 
-module _ (l : List ℕ) (start b : ℕ) where
-  pub fill_start : l ≡ over l start (replicate (start - start) b)
-  fill_start =
-      let e : start - start ≡ 0 = omega arith in
-      rw e (sym (over_none l start))
+-- A span that was filled, up to the buffer's end or before it.
+pub filled : (l put : List ℕ) (start to end b : ℕ) → start ≤ end → end ≡ min to (length l)
+    → put ≡ replicate (length (take (end - start) (drop start l))) b → put_mid start (end - start) l put ≡ with_byte l start to b
+unfolding with_byte over
+filled l put start to end b s e p =
+    let n : length (take (end - start) (drop start l)) ≡ end - start =
+    length-take-le (end - start) (drop start l) (simp length-drop (omega arith)) in
+    rw (p, n, ← e, length-replicate, drop-drop) refl
 
-  pub fill-next : (i : ℕ) → start ≤ i → i < length l
-      → set (over l start (replicate (i - start) b)) i b ≡ over l start (replicate (i + 1 - start) b)
-  fill-next i s h =
-      let ws = replicate (i - start) b in
-      let p : start + length ws ≡ i = rw length-replicate (omega arith) in
-      let one : i - start + 1 ≡ i + 1 - start = omega arith in
-      let more : ws ++ (b ∷ []) ≡ replicate (i + 1 - start) b =
-      replicate-append-replicate (i - start) 1 b ∙ ap (λ k. replicate k b) one in
-      subst (λ k. set (over l start ws) k b ≡ over l start (ws ++ (b ∷ []))) p (over-next l start ws b (rw p h)) ∙ ap (over l start) more
+-- The same from the front on.
+pub filled-front : (l put : List ℕ) (to end b : ℕ) → end ≡ min to (length l) → put ≡ replicate (length (take end l)) b
+    → put ++ drop end l ≡ with_byte l 0 to b
+filled-front l put to end b e p =
+    let whole : end - 0 ≡ end = omega arith in
+    rw whole at (filled l put 0 to end b (omega arith) e (rw whole p))
 
-  pub fill_end : (end i : ℕ) → i - start ≡ min end (length l) - start → over l start (replicate (i - start) b) ≡ with_byte l start end b
-  unfolding with_byte
-  fill_end end i e = ap (λ k. over l start (replicate k b)) e
+-- Nothing was filled.
+pub filled-none : (l : List ℕ) (start to end b : ℕ) → end ≤ start → end ≡ min to (length l) → l ≡ with_byte l start to b
+unfolding with_byte
+filled-none l start to end b s e =
+    let n : min to (length l) - start ≡ 0 = omega arith in
+    rw n (sym (over_none l start))

@@ -3,14 +3,12 @@
 use Prim.Native.Nat.{ℕ, ◌+◌, ◌≤◌, ◌<◌}
 use mathlib.Core.Bool.{Bool, true, false}
 use mathlib.Core.List.{List}
-use mathlib.Core.Path.{◌≡◌, refl, sym, ap, ◌∙◌, subst}
+use mathlib.Core.Path.{◌≡◌, refl, sym, ap, ◌∙◌}
 use native.Mathlib.Omega.{arith}
 use borrow.Author.Count.{below_more}
 use lib.ListN.{length, get_or, set, drop, length-set}
 use lib.Seq.{get_or-set_same, get_or-set_other, drop-set-lt, drop-drop}
-use Rattle.form.proofs.Picks.{pick-eq}
-use Rattle.lines.specs.Chunks.{InChunk, LineIn, NextLine, ended_line, last_line}
-use Rattle.lines.specs.declared.Input.{Input}
+use Rattle.lines.specs.Chunks.{LineIn}
 
 -- What has been read of a line: its bytes stand in the buffer, and `long` says that there were more than it holds.
 pub record Sofar (before after : List ℕ) (n : ℕ) (long : Bool) : Type 0 where
@@ -49,18 +47,3 @@ module _ (before after : List ℕ) (n : ℕ) (long : Bool) (f : Sofar before aft
   -- A byte more that has no room.
   pub sofar-more : length after ≤ n → Sofar before after n true
   sofar-more h = record { line = f.line; same = f.same; full = λ e. omega (arith, f.same, f.line.fits) }
-
-  module _ (chunk : List ℕ) (input : Input) (i : InChunk chunk input) where
-    pub line-ended : NextLine chunk before after (ended_line n long input)
-    line-ended = by long f.full
-      where
-        by : (b : Bool) → (b ≡ true → n ≡ length before) → NextLine chunk before after (ended_line n b input)
-        by true full = (subst (LineIn before after) (full refl) f.line, i)
-        by false full = (f.line, i)
-
-    pub line-last : NextLine chunk before after (last_line n long input)
-    line-last = by long f.full
-      where
-        by : (b : Bool) → (b ≡ true → n ≡ length before) → NextLine chunk before after (last_line n b input)
-        by true full = (subst (LineIn before after) (full refl) f.line, i)
-        by false full = pick-eq (NextLine chunk before after) n 0 (λ e. (subst (LineIn before after) e f.line).rest) (λ e. (f.line, i))

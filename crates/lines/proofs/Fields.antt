@@ -1,37 +1,22 @@
 -- Laws of fields and decimal numbers, one byte more at a time.
 -- Assumes nothing.
-use Prim.Native.Nat.{ℕ, ◌+◌, ◌-◌, ◌*◌, ◌≤◌, ◌<◌, min}
+use Prim.Native.Nat.{ℕ, ◌+◌, ◌-◌, ◌≤◌, ◌<◌, min}
 use mathlib.Core.List.{List, [], ◌∷◌, ◌++◌, foldl-append, append-nil}
 use mathlib.Core.Path.{◌≡◌, refl, sym, ap, ◌∙◌}
 use native.Mathlib.Omega.{arith}
 use native.Mathlib.Numerals.{add-one}
-use native.Mathlib.Nat.{zero-add}
-use mathlib.Core.Logic.{⊎_elim}
-use borrow.Author.Tests.{lt-ltb, le-ltb, eq-eqb, ne_eqb}
+use borrow.Author.Tests.{eq-eqb, ne_eqb}
 use lib.ListN.{length, get_or, set, take, drop, drop_of_length-le, length-take, length-drop}
 use lib.Seq.{take-suc, take_all, length-take-le, take_at, append_snoc, get_or-take, get_or-drop}
 use Rattle.form.specs.Spans.{over}
 use Rattle.form.proofs.Drops.{drop1}
-use Rattle.form.proofs.Picks.{pick-lt, lt-or}
-use Rattle.form.proofs.Table.{over_none, over-length}
+use Rattle.form.proofs.Picks.{pick-lt}
+use Rattle.form.proofs.Table.{over_none}
 use Rattle.lines.specs.Buffers.{Front}
-use Rattle.lines.specs.Fields.{until_blank, field_at, too_many, capped, with_digit, decimal_of}
+use Rattle.lines.specs.Fields.{until_blank, field_at, too_many, with_digit, decimal_of}
 use Rattle.lines.proofs.Buffers.{front-next}
 
 -- ---- decimal numbers
-
-module _ (v b : ℕ) where
-  pub digit-below : b < 48 → too_many ≡ with_digit v b
-  unfolding with_digit
-  digit-below h = rw (lt-ltb b 48 h) refl
-
-  pub digit-above : 48 ≤ b → 57 < b → too_many ≡ with_digit v b
-  unfolding with_digit
-  digit-above l h = rw (le-ltb b 48 l, lt-ltb 57 b h) refl
-
-  pub digit-within : 48 ≤ b → b ≤ 57 → capped (v * 10 + (b - 48)) ≡ with_digit v b
-  unfolding with_digit
-  digit-within l h = rw (le-ltb b 48 l, le-ltb 57 b h) refl
 
 pub with-digit-le : (v b : ℕ) → with_digit v b ≤ too_many
 unfolding with_digit
@@ -45,15 +30,6 @@ pub decimal-next : (l : List ℕ) (i v : ℕ) → i < length l → v ≡ decimal
 unfolding decimal_of
 decimal-next l i v h e = rw (e, add-one i, take-suc l i 0 h, foldl-append with_digit 0 (take i l) (get_or l i 0 ∷ [])) refl
 
--- The bytes past the end change nothing.
-pub decimal-end : (l : List ℕ) (n i : ℕ) → i ≡ min n (length l) → decimal_of (take i l) ≡ decimal_of (take n l)
-decimal-end l n i e = ap decimal_of (⊎_elim (λ h. inside h) (λ h. take_all i l (omega arith) ∙ sym (take_all n l h)) (lt-or n (length l)))
-  where
-    inside : n < length l → take i l ≡ take n l
-    inside h =
-        let p : i ≡ n = omega arith in
-        ap (λ k. take k l) p
-
 -- ---- where a field stands in a line
 
 module _ (line : List ℕ) (len start : ℕ) where
@@ -62,6 +38,11 @@ module _ (line : List ℕ) (len start : ℕ) where
 
   pub field-length : length (drop start (take len line)) ≡ min len (length line) - start
   field-length = length-drop start (take len line) ∙ ap (λ k. k - start) (length-take len line)
+
+  -- The byte at place i is one of those left.
+  pub byte-there : (n i : ℕ) → i ≡ start + n → i < min len (length line)
+      → (n < length (drop start (take len line))) × (get_or (drop start (take len line)) n 0 ≡ get_or line i 0)
+  byte-there n i e h = (omega (arith, field-length), field-byte n (omega arith) ∙ ap (λ k. get_or line k 0) (sym e))
 
 -- ---- a field
 
@@ -83,9 +64,6 @@ sofar-start s before = record {
 module _ (s before after : List ℕ) (n : ℕ) (f : Sofar s before after n) where
   long : length (take n s) ≡ n
   long = length-take-le n s f.reached
-
-  pub sofar-kept : length after ≡ length before
-  sofar-kept = ap length f.put ∙ over-length before 0 (take n s) (rw (long, zero-add) f.room)
 
   pub sofar-next : n < length s → n < length before → (get_or s n 0 ≡ 32 → ⊥) → Sofar s before (set after n (get_or s n 0)) (n + 1)
   unfolding until_blank

@@ -1,12 +1,10 @@
 -- Hexadecimal digits, and the bytes that they stand for.
 -- Assumes nothing.
-use Rattle.std.specs.Prelude.{ℕ, ◌+◌, ◌-◌, ◌*◌, ◌/◌, ◌%◌, Bool, true, ◌&&◌, ◌≡◌, List, [], ◌∷◌, length, get_or, take, ltb, leb, eqb}
-use Rattle.std.proofs.Math.Option.{Option, none, some}
+use Rattle.std.specs.Prelude.{ℕ, ◌+◌, ◌-◌, ◌*◌, ◌/◌, ◌%◌, Bool, true, ◌&&◌, ◌≡◌, List, [], ◌∷◌, length, get_or, take, ltb, leb, eqb, Option, Some, None}
 use Rattle.form.specs.Answer.{pick}
 use Rattle.form.specs.Spans.{over}
 use Rattle.lines.specs.Buffers.{firsts}
 use Rattle.lines.specs.Fields.{too_many}
-use Rattle.lines.specs.declared.Hex.{Hex}
 
 -- The value of a hexadecimal digit of either case, and 16 for any other byte.
 unfoldable pub digit_of : ℕ → ℕ
@@ -37,25 +35,25 @@ in_pairs line n room = leb n (length line) && eqb (n % 2) 0 && leb (n / 2) room 
 
 -- The bytes that the first n bytes of a line stand for, or none where they are no such digits.
 unfoldable pub hex_bytes : List ℕ → ℕ → ℕ → Option (List ℕ)
-hex_bytes line n room = pick (in_pairs line n room) (some (firsts (byte_at line) (n / 2))) none
+hex_bytes line n room = pick (in_pairs line n room) (Some (firsts (byte_at line) (n / 2))) None
 
 -- The answer of `unhex`: how many bytes.
-unfoldable pub hex_answer : Option (List ℕ) → Hex
-hex_answer (some bytes) = Hex.Bytes (length bytes)
-hex_answer none = Hex.Bad
+unfoldable pub hex_answer : Option (List ℕ) → Option ℕ
+hex_answer (Some bytes) = Some (length bytes)
+hex_answer None = None
 
 -- The answer of `bytes_of`: how many bytes, or too many.
 unfoldable pub hex_count : Option (List ℕ) → ℕ
-hex_count (some bytes) = length bytes
-hex_count none = too_many
+hex_count (Some bytes) = length bytes
+hex_count None = too_many
 
 -- The buffer lent for the bytes: they stand at its front and its rest is as it was; without bytes all of it is.
 unfoldable pub hex_put : List ℕ → Option (List ℕ) → List ℕ
-hex_put out (some bytes) = over out 0 bytes
-hex_put out none = out
+hex_put out (Some bytes) = over out 0 bytes
+hex_put out None = out
 
 -- What `unhex` answers and leaves in the lent buffer, by the bytes that there are.
-pub record Unhexed (bytes : Option (List ℕ)) (out out' : List ℕ) (r : Hex) : Type 0 where
+pub record Unhexed (bytes : Option (List ℕ)) (out out' : List ℕ) (r : Option ℕ) : Type 0 where
   pub answer : r ≡ hex_answer bytes
   pub put : out' ≡ hex_put out bytes
 

@@ -11,25 +11,18 @@ ghost use Rattle.lines.specs.Words.{word_at, with_words};
 ghost use Rattle.lines.specs.Chunks.{unread, InChunk, NextLine, ended_line, last_line};
 
 // What is left of a chunk of input: the bytes from `at` up to `have`.
-#[derive(Drop)]
+#[derive(Clone, Copy)]
 pub struct Input {
     pub at: usize,
     pub have: usize,
 }
 
 // A line without its line feed, at the front of the lent buffer; a line that is too long for it; or the end of the input.
-#[derive(Drop)]
+#[derive(Clone, Copy)]
 pub enum Line {
     Got { len: usize, input: Input },
     Long { input: Input },
     End,
-}
-
-// The bytes that digits stand for, by their number, or no such bytes.
-#[derive(Drop)]
-pub enum Hex {
-    Bytes(usize),
-    Bad,
 }
 
 // The input before anything is read.
@@ -44,22 +37,20 @@ fn ended(len: usize, long: bool, input: Input) -> Line
     ensures { result ≡ ended_line len long input }
 {
     if long {
-        return Line::Long { input };
+        Line::Long { input }
+    } else {
+        Line::Got { len, input }
     }
-    Line::Got { len, input }
 }
 
 // The last line, which no line feed ends.
 fn last(len: usize, long: bool, input: Input) -> Line
     ensures { result ≡ last_line len long input }
 {
-    if long {
-        return Line::Long { input };
-    }
-    if len == 0 {
+    if len == 0 && !long {
         return Line::End;
     }
-    Line::Got { len, input }
+    ended(len, long, input)
 }
 
 // What is left, with a new chunk where that is nothing.
@@ -81,9 +72,7 @@ pub fn next_line(chunk: &mut [u8], input: Input, line: &mut [u8]) -> Line
     let mut left = input;
     let mut len: usize = 0;
     let mut long = false;
-    let mut turns = u64::MAX;
-    while 0 < turns {
-        turns -= 1;
+    for _ in 0..u64::MAX {
         left = filled(chunk, left);
         let at = left.at;
         let have = left.have;
@@ -105,39 +94,17 @@ pub fn next_line(chunk: &mut [u8], input: Input, line: &mut [u8]) -> Line
     last(len, long, left)
 }
 
-// The smaller of two numbers.
-fn least(a: usize, b: usize) -> usize
-    ensures { result ≡ min a b }
-{
-    if a < b {
-        return a;
-    }
-    b
-}
-
 // The value of a hexadecimal digit of either case; 16 for any other byte.
+#[tactic(auto, unfolding(crate::specs::Digits::digit_of))]
 pub fn digit(b: u8) -> u8
     ensures { result ≡ digit_of b }
 {
-    if b < b'0' {
-        return 16;
+    match b {
+        b'0'..=b'9' => b - b'0',
+        b'A'..=b'F' => b - b'A' + 10,
+        b'a'..=b'f' => b - b'a' + 10,
+        _ => 16,
     }
-    if b <= b'9' {
-        return b - b'0';
-    }
-    if b < b'A' {
-        return 16;
-    }
-    if b <= b'F' {
-        return b - b'A' + 10;
-    }
-    if b < b'a' {
-        return 16;
-    }
-    if b <= b'f' {
-        return b - b'a' + 10;
-    }
-    16
 }
 
 // Whether each of the first n bytes is a digit.
@@ -145,14 +112,7 @@ fn all_digits(line: &[u8], n: usize) -> bool
     requires { n ≤ length line.now }
     ensures { result ≡ all_digits (take n line.now) }
 {
-    let mut i: usize = 0;
-    while i < n {
-        if 15 < digit(line[i]) {
-            return false;
-        }
-        i += 1;
-    }
-    true
+    line[..n].iter().all(|b| digit(*b) < 16)
 }
 
 // The byte that two digits stand for.
@@ -168,32 +128,21 @@ fn put_bytes(line: &[u8], many: usize, out: &mut [u8])
     requires { (2 * many ≤ length line.now) × (many ≤ length out.old) × (all_digits (take (2 * many) line.now) ≡ true) }
     ensures { out.new ≡ over out.old 0 (firsts (byte_at line.now) many) }
 {
-    let mut i: usize = 0;
-    while i < many {
+    for i in 0..many {
         out[i] = pair(line[2 * i], line[2 * i + 1]);
-        i += 1;
     }
 }
 
-// The first n bytes of a line as hexadecimal digits, their bytes put into `out`: bad where the digits' number is odd, `out` is too short or
-// a byte is no digit, and then nothing is put.
-pub fn unhex(line: &[u8], n: usize, out: &mut [u8]) -> Hex
+// The first n bytes of a line as hexadecimal digits, their bytes put into `out`, and how many those are: none where the digits' number is
+// odd, `out` is too short or a byte is no digit, and then nothing is put.
+pub fn unhex(line: &[u8], n: usize, out: &mut [u8]) -> Option<usize>
     ensures { Unhexed (hex_bytes line.now n (length out.old)) out.old out.new result }
 {
-    if line.len() < n {
-        return Hex::Bad;
-    }
-    if n % 2 == 1 {
-        return Hex::Bad;
-    }
-    if out.len() < n / 2 {
-        return Hex::Bad;
-    }
-    if !all_digits(line, n) {
-        return Hex::Bad;
+    if line.len() < n || n % 2 == 1 || out.len() < n / 2 || !all_digits(line, n) {
+        return None;
     }
     put_bytes(line, n / 2, out);
-    Hex::Bytes(n / 2)
+    Some(n / 2)
 }
 
 // A number in decimal, after a blank.
@@ -211,10 +160,8 @@ pub const TOO_MANY: usize = 1000000;
 pub fn take_field(line: &[u8], len: usize, from: usize, field: &mut [u8]) -> usize
     ensures { Front (field_at line.now len from (length field.old)) field.old field.new result }
 {
-    let end = least(len, line.len());
-    let mut n: usize = 0;
-    let mut i = from;
-    while i < end {
+    let mut n = 0;
+    for i in from..len.min(line.len()) {
         if field.len() <= n {
             return n;
         }
@@ -224,7 +171,6 @@ pub fn take_field(line: &[u8], len: usize, from: usize, field: &mut [u8]) -> usi
         }
         field[n] = b;
         n += 1;
-        i += 1;
     }
     n
 }
@@ -233,46 +179,28 @@ pub fn take_field(line: &[u8], len: usize, from: usize, field: &mut [u8]) -> usi
 pub fn bytes_of(field: &[u8], n: usize, out: &mut [u8]) -> usize
     ensures { Counted (hex_bytes field.now n (length out.old)) out.old out.new result }
 {
-    match unhex(field, n, out) {
-        Hex::Bytes(many) => many,
-        Hex::Bad => TOO_MANY,
-    }
-}
-
-// A number, or too many.
-fn cap(v: usize) -> usize
-    ensures { result ≡ capped v }
-{
-    if TOO_MANY < v {
-        return TOO_MANY;
-    }
-    v
+    unhex(field, n, out).unwrap_or(TOO_MANY)
 }
 
 // A decimal number with one digit more.
+#[tactic(auto, unfolding(crate::specs::Fields::with_digit))]
 fn step(v: usize, b: u8) -> usize
     requires { v ≤ too_many }
     ensures { result ≡ with_digit v b }
 {
-    if b < b'0' {
-        return TOO_MANY;
+    match b {
+        b'0'..=b'9' => (v * 10 + usize::from(b - b'0')).min(TOO_MANY),
+        _ => TOO_MANY,
     }
-    if b'9' < b {
-        return TOO_MANY;
-    }
-    cap(v * 10 + (b - b'0') as usize)
 }
 
 // The first n bytes of a field as decimal digits.
 pub fn decimal(field: &[u8], n: usize) -> usize
     ensures { result ≡ decimal_of (take n field.now) }
 {
-    let end = least(n, field.len());
-    let mut v: usize = 0;
-    let mut i: usize = 0;
-    while i < end {
-        v = step(v, field[i]);
-        i += 1;
+    let mut v = 0;
+    for b in &field[..n.min(field.len())] {
+        v = step(v, *b);
     }
     v
 }
@@ -281,17 +209,19 @@ pub fn decimal(field: &[u8], n: usize) -> usize
 pub fn sum(a: usize, b: usize) -> usize
     ensures { result ≡ capped (a + b) }
 {
-    cap(cap(a) + cap(b))
+    a.saturating_add(b).min(TOO_MANY)
 }
 
 // Word i of those that bytes make, 0 where there are no four bytes for it.
+#[tactic(auto, unfolding(crate::specs::Words::word_at))]
 pub fn word_of(bytes: &[u8], i: usize) -> u32
     ensures { result ≡ word_at bytes.now i }
 {
-    if bytes.len() / 4 <= i {
-        return 0;
+    if i < bytes.len() / 4 {
+        raw::u32_at(bytes, 4 * i)
+    } else {
+        0
     }
-    raw::u32_at(bytes, 4 * i)
 }
 
 // Puts word i, where there is room for it.
@@ -307,11 +237,8 @@ pub fn put_word(table: &mut [u32], i: usize, w: u32)
 pub fn fill_words(bytes: &[u8], n: usize, table: &mut [u32])
     ensures { table.new ≡ with_words bytes.now n table.old }
 {
-    let end = least(n, table.len());
-    let mut i: usize = 0;
-    while i < end {
+    for i in 0..n.min(table.len()) {
         table[i] = word_of(bytes, i);
-        i += 1;
     }
 }
 
@@ -322,23 +249,18 @@ pub fn print_bad() {
 
 // The capital hexadecimal digit of a number below 16.
 fn capital(n: u8) -> u8 {
-    if n < 10 {
-        return b'0' + n;
+    match n {
+        0..=9 => b'0' + n,
+        10..=15 => b'A' + (n - 10),
+        _ => b'?',
     }
-    if n < 16 {
-        return b'A' + (n - 10);
-    }
-    b'?'
 }
 
 // Bytes in hexadecimal.
 pub fn print_bytes(bytes: &[u8]) {
-    let mut i: usize = 0;
-    while i < bytes.len() {
-        let b = bytes[i];
-        let pair = [capital(b / 16), capital(b % 16)];
+    for b in bytes {
+        let pair = [capital(*b / 16), capital(*b % 16)];
         io::write_all(1, &pair);
-        i += 1;
     }
 }
 
@@ -346,11 +268,9 @@ pub fn print_bytes(bytes: &[u8]) {
 pub fn fill(out: &mut [u8], from: usize, to: usize, b: u8)
     ensures { out.new ≡ with_byte out.old from to b }
 {
-    let end = least(to, out.len());
-    let mut i = from;
-    while i < end {
-        out[i] = b;
-        i += 1;
+    let end = to.min(out.len());
+    if from < end {
+        out[from..end].fill(b);
     }
 }
 
@@ -363,12 +283,8 @@ pub const UNTOUCHED: u32 = 0xAAAAAAAA;
 pub fn untouched(table: &mut [u32], n: usize)
     ensures { table.new ≡ with_byte table.old 0 n 2863311530 }
 {
-    let end = least(n, table.len());
-    let mut i: usize = 0;
-    while i < end {
-        table[i] = UNTOUCHED;
-        i += 1;
-    }
+    let end = n.min(table.len());
+    table[..end].fill(UNTOUCHED);
 }
 
 // A word in decimal, or a dash for one that is as it was.
@@ -382,23 +298,14 @@ fn print_word(w: u32) {
 
 // Words one after the other.
 pub fn print_words(words: &[u32]) {
-    let mut i: usize = 0;
-    while i < words.len() {
-        print_word(words[i]);
-        i += 1;
+    for w in words {
+        print_word(*w);
     }
 }
 
 // Whether each word is 0.
 fn all_zero(words: &[u32]) -> bool {
-    let mut i: usize = 0;
-    while i < words.len() {
-        if words[i] != 0 {
-            return false;
-        }
-        i += 1;
-    }
-    true
+    words.iter().all(|w| *w == 0)
 }
 
 // The words of a table, or that each is 0.
@@ -412,14 +319,10 @@ pub fn print_table(table: &[u32]) {
 
 // Whether a word of the table is not the one that the bytes make.
 fn changed(bytes: &[u8], table: &[u32]) -> bool {
-    let mut i: usize = 0;
-    while i < table.len() {
-        if table[i] != word_of(bytes, i) {
-            return true;
-        }
-        i += 1;
-    }
-    false
+    table
+        .iter()
+        .enumerate()
+        .any(|(i, w)| *w != word_of(bytes, i))
 }
 
 // That a table's words are no longer those that the bytes make, or nothing.

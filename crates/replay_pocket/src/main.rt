@@ -10,13 +10,17 @@
 #![tactic(auto)]
 
 use form::forms::POCKET;
+use form::refusals::{Refusal, Refused};
 use lines::Line;
-use mutf8::Checked;
-use query::Found;
-use table::Verdict;
+use mutf8::Unreadable;
+use nbt_reader::Accepted;
+use nbt_rescue::{Saved, Unsaved};
+use nbt_writer::Unwritten;
+use query::Unanswered;
+use table::Unfit;
 
 // What a field stands for, a number or how many bytes or words, and where the next one begins.
-#[derive(Drop)]
+#[derive(Clone, Copy)]
 struct Field {
     many: usize,
     next: usize,
@@ -59,23 +63,23 @@ fn words_field(
 }
 
 // A refusal's number and place.
-fn print_refused(number: u8, place: usize) {
+fn print_refused(refusal: Refusal, place: usize) {
     io::write_all(1, b"refused");
-    lines::print_number(number as usize);
+    lines::print_number(refusal.number() as usize);
     lines::print_number(place);
 }
 
 // ---- r
 
 // The answer to a read.
-fn print_accepted(answer: nbt_reader::Answer) {
+fn print_accepted(answer: Result<Accepted, Refused>) {
     match answer {
-        nbt_reader::Answer::Accepted { consumed, records } => {
+        Ok(read) => {
             io::write_all(1, b"ok");
-            lines::print_number(consumed);
-            lines::print_number(records);
+            lines::print_number(read.consumed);
+            lines::print_number(read.records);
         }
-        nbt_reader::Answer::Refused { number, place } => print_refused(number, place),
+        Err(e) => print_refused(e.refusal, e.place),
     }
     io::write_all(1, b":");
 }
@@ -107,34 +111,30 @@ fn read_line(line: &[u8], len: usize, field: &mut [u8], doc: &mut [u8], table: &
 // ---- w
 
 // Whether the words form a table.
-fn print_verdict(verdict: Verdict) {
+fn print_verdict(verdict: Result<(), Unfit>) {
     match verdict {
-        Verdict::Table => {
+        Ok(()) => {
             io::write_all(1, b"table ");
         }
-        Verdict::NoTable => {
+        Err(Unfit::NoTable) => {
             io::write_all(1, b"none ");
         }
-        Verdict::OverLimit => {
+        Err(Unfit::OverLimit) => {
             io::write_all(1, b"over ");
         }
     }
 }
 
 // The answer to a write, of a refusal with the record beside it (02, [3]).
-fn print_written(answer: nbt_writer::Answer) {
+fn print_written(answer: Result<usize, Unwritten>) {
     match answer {
-        nbt_writer::Answer::Written { bytes } => {
+        Ok(bytes) => {
             io::write_all(1, b"written");
             lines::print_number(bytes);
         }
-        nbt_writer::Answer::Refused {
-            number,
-            place,
-            record,
-        } => {
-            print_refused(number, place);
-            lines::print_number(record);
+        Err(e) => {
+            print_refused(e.refusal, e.place);
+            lines::print_number(e.record);
         }
     }
     io::write_all(1, b" ");
@@ -204,19 +204,15 @@ fn write_line(
 // ---- q
 
 // The answer to a query.
-fn print_found(found: Found) {
+fn print_found(found: Result<usize, Unanswered>) {
     match found {
-        Found::Matches { count } => {
+        Ok(count) => {
             io::write_all(1, b"matches");
             lines::print_number(count);
         }
-        Found::Refused {
-            number,
-            place,
-            count,
-        } => {
-            print_refused(number, place);
-            lines::print_number(count);
+        Err(e) => {
+            print_refused(e.refusal, e.place);
+            lines::print_number(e.count);
         }
     }
     io::write_all(1, b":");
@@ -286,20 +282,16 @@ fn query_line(
 // ---- c
 
 // The answer to a rescue.
-fn print_saved(answer: nbt_rescue::Answer) {
+fn print_saved(answer: Result<Saved, Unsaved>) {
     match answer {
-        nbt_rescue::Answer::Saved { bytes, lines: many } => {
+        Ok(saved) => {
             io::write_all(1, b"saved");
-            lines::print_number(bytes);
-            lines::print_number(many);
+            lines::print_number(saved.bytes);
+            lines::print_number(saved.lines);
         }
-        nbt_rescue::Answer::Refused {
-            number,
-            place,
-            count,
-        } => {
-            print_refused(number, place);
-            lines::print_number(count);
+        Err(e) => {
+            print_refused(e.refusal, e.place);
+            lines::print_number(e.count);
         }
     }
     io::write_all(1, b": ");
@@ -380,13 +372,13 @@ fn rescue_line(
 // ---- s
 
 // `ok`, or the offset at which the first sequence that can't be read begins.
-fn print_checked(checked: Checked) {
+fn print_checked(checked: Result<(), Unreadable>) {
     match checked {
-        Checked::Good => {
+        Ok(()) => {
             io::write_all(1, b"ok\n");
         }
-        Checked::Bad(at) => {
-            io::print_decimal(1, at as u64);
+        Err(e) => {
+            io::print_decimal(1, e.at as u64);
             io::write_all(1, b"\n");
         }
     }
@@ -394,10 +386,9 @@ fn print_checked(checked: Checked) {
 
 // The answer to the first `size` bytes as a string.
 fn string_case(bytes: &[u8], size: usize) {
-    if size <= bytes.len() {
-        print_checked(mutf8::check(&bytes[..size], POCKET));
-    } else {
-        lines::print_bad();
+    match bytes.get(..size) {
+        Some(s) => print_checked(mutf8::check(s, POCKET)),
+        None => lines::print_bad(),
     }
 }
 
@@ -411,10 +402,7 @@ fn string_line(line: &[u8], len: usize, field: &mut [u8], bytes: &mut [u8]) {
 
 // The letter of a line, a blank where it has none.
 fn letter_of(line: &[u8], len: usize) -> u8 {
-    if len == 0 {
-        return b' ';
-    }
-    if line.len() == 0 {
+    if len == 0 || line.len() == 0 {
         return b' ';
     }
     line[0]
@@ -453,9 +441,7 @@ fn replay(
     list: &mut [u32],
 ) {
     let mut input = lines::start();
-    let mut turns = u64::MAX;
-    while 0 < turns {
-        turns -= 1;
+    for _ in 0..u64::MAX {
         match lines::next_line(chunk, input, line) {
             Line::End => return,
             Line::Long { input: rest } => {
