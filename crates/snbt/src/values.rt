@@ -12,7 +12,7 @@ use snbt_arrays::parse_prim_list;
 use snbt_entries::{Block, EntryTurn, Key};
 use snbt_lists::{NextElement, Opened};
 use snbt_placing::Done;
-use snbt_tokens::{Index, Last, Lexed, Stops, Token};
+use snbt_tokens::{Index, Lexed, Stops, Token};
 
 // The elements of a list behind its first: the next place in the text, the next in the output, and how many there are.
 #[derive(Clone, Copy)]
@@ -196,7 +196,7 @@ fn parse_entries(
     let mut place = next;
     let mut used = at;
     let mut top = block.base;
-    let mut last = Last::Other;
+    let mut last = None;
     loop {
         match parse_entry(text, place, last, block, out, used, keys, top, buffer, left)? {
             EntryTurn::Last { index, next, used } => return snbt_entries::close(
@@ -210,7 +210,7 @@ fn parse_entries(
                 place = n;
                 used = u;
                 top += 1;
-                last = Last::Comma(comma);
+                last = Some(comma);
             }
         }
     }
@@ -222,7 +222,7 @@ fn parse_entries(
 fn parse_entry(
     text: &[u8],
     place: usize,
-    last: Last,
+    last: Option<Index>,
     block: Block,
     out: &mut [u8],
     at: usize,

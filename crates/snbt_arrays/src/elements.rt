@@ -6,7 +6,7 @@ ghost use Rattle.snbt_placing.specs.Done.{Wide};
 ghost use Rattle.snbt_arrays.specs.Turns.{WholeIs, FittingIs, PutIs, ClosedIs, TurnIs};
 
 use form::refusals::{Refusal, Refused};
-use snbt_tokens::{Index, Last, Lexed, Stops, Token, TokenData};
+use snbt_tokens::{Index, Lexed, Stops, Token, TokenData};
 
 // What one turn finds: a comma, an element that it has written, or the closing brace.
 #[derive(Clone, Copy)]
@@ -69,27 +69,27 @@ fn put_element(
     })
 }
 
-// The closing brace at an index: refusal 21 at a comma that stands last.
-fn closed(last: Last, index: Index) -> Result<ElementTurn, Refused>
+// The closing brace at an index: refusal 21 at the comma that stands last, if one does.
+fn closed(last: Option<Index>, index: Index) -> Result<ElementTurn, Refused>
     requires { index.0 + 1 < 2 ^ 64 }
     ensures { ClosedIs (last_is last) (index.0 + 1) result }
 {
     match last {
-        Last::Other => Ok(ElementTurn::End { next: index.0 + 1 }),
-        Last::Comma(comma) => Err(Refused {
+        None => Ok(ElementTurn::End { next: index.0 + 1 }),
+        Some(comma) => Err(Refused {
             refusal: Refusal::TrailingComma,
             place: comma.0,
         }),
     }
 }
 
-// One turn of an array from `place` on, behind what stands last: a comma, the closing brace (21 behind a comma), an element (11, 13), or
-// the text's end (22).
+// One turn of an array from `place` on, behind the comma that stands last, if one does: a comma, the closing brace (21 behind a comma),
+// an element (11, 13), or the text's end (22).
 pub fn element(
     text: &[u8],
     width: usize,
     brace: Index,
-    last: Last,
+    last: Option<Index>,
     place: usize,
     out: &mut [u8],
     used: usize,

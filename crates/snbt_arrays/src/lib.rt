@@ -12,7 +12,7 @@ use crate::elements::ElementTurn;
 use form::kinds;
 use form::refusals::{Refusal, Refused};
 use snbt_placing::Done;
-use snbt_tokens::{Index, Last};
+use snbt_tokens::Index;
 
 // The kind of an array by the width of its elements (rule 14).
 fn array_kind(width: usize) -> u8
@@ -42,16 +42,16 @@ fn put_array(
     let wide = width as usize;
     let mut place = start;
     let mut used = at + 4;
-    let mut last = Last::Other;
+    let mut last = None;
     let mut count: usize = 0;
     loop {
         match elements::element(text, wide, brace, last, place, out, used)? {
             ElementTurn::Comma { index, next } => {
-                last = Last::Comma(index);
+                last = Some(index);
                 place = next;
             }
             ElementTurn::Element { next } => {
-                last = Last::Other;
+                last = None;
                 place = next;
                 used += wide;
                 count += 1;

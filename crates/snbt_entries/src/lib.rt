@@ -16,7 +16,7 @@ use form::kinds;
 use form::refusals::{Refusal, Refused};
 use snbt_due::After;
 use snbt_placing::Done;
-use snbt_tokens::{Index, Last, Stops, Token, TokenData};
+use snbt_tokens::{Index, Stops, Token, TokenData};
 
 // A compound that is open: the index of its `{`, and how many of the keys are those of the compounds around it.
 #[derive(Clone, Copy)]
@@ -105,13 +105,13 @@ fn named(
     })
 }
 
-// The `}` where a key is due: refusal 21 at a comma that stands last.
-fn ended(last: Last, index: Index, next: usize) -> Result<Key, Refused>
+// The `}` where a key is due: refusal 21 at the comma that stands last, if one does.
+fn ended(last: Option<Index>, index: Index, next: usize) -> Result<Key, Refused>
     ensures { EndedIs (last_is last) index.0 next result }
 {
     match last {
-        Last::Other => Ok(Key::End { index, next }),
-        Last::Comma(comma) => Err(Refused {
+        None => Ok(Key::End { index, next }),
+        Some(comma) => Err(Refused {
             refusal: Refusal::TrailingComma,
             place: comma.0,
         }),
@@ -122,7 +122,7 @@ fn ended(last: Last, index: Index, next: usize) -> Result<Key, Refused>
 fn any_key(
     text: &[u8],
     place: usize,
-    last: Last,
+    last: Option<Index>,
     block: Block,
     out: &[u8],
     keys: &[u32],
@@ -191,7 +191,7 @@ fn worded(
 pub fn key_at(
     text: &[u8],
     place: usize,
-    last: Last,
+    last: Option<Index>,
     block: Block,
     out: &[u8],
     keys: &[u32],

@@ -1,6 +1,6 @@
 -- The code's tokens and answers as those of the definitions, case by case.
 -- Assumes nothing.
-use Rattle.std.specs.Prelude.{Result}
+use Rattle.std.specs.Prelude.{Option, Some, None, Result}
 use Rattle.form.specs.Answer.{Out}
 use Rattle.form.specs.Refusals.{out_of}
 use Rattle.form.specs.declared.refusals.Refused.{Refused}
@@ -12,8 +12,7 @@ use Rattle.snbt_tokens.specs.declared.Token.TheVariants.{OpenCurly, ClosedCurly,
 use Rattle.snbt_tokens.specs.declared.TokenData.{TokenData}
 use Rattle.snbt_tokens.specs.declared.Lexed.{Lexed}
 use Rattle.snbt_tokens.specs.declared.Lexed.TheVariants.{Found, Ended}
-use Rattle.snbt_tokens.specs.declared.Last.{Last}
-use Rattle.snbt_tokens.specs.declared.Last.TheVariants.{Other, Comma as Behind}
+use Rattle.snbt_tokens.specs.declared.Index.{Index}
 use Rattle.snbt_tokens.specs.declared.Stops.{Stops}
 use Rattle.snbt_tokens.specs.declared.Stops.TheVariants.{Default, Key, Value, First, Later}
 
@@ -55,7 +54,7 @@ stops_is Value = rule.value
 stops_is First = rule.first
 stops_is Later = rule.later
 
--- What stands last in an array or a compound.
-abbrev pub last_is : Last → text.Last
-last_is Other = text.otherwise
-last_is (Behind i) = text.after_comma i.0
+-- What stands last in an array or a compound: the comma of an index; or else, nothing or an element (rules 14 and 15).
+abbrev pub last_is : Option Index → text.Last
+last_is None = text.otherwise
+last_is (Some i) = text.after_comma i.0

@@ -58,13 +58,6 @@ pub enum Stops {
     Later,
 }
 
-// What stands last in an array or a compound that is being read: a comma, by its index; or else, nothing or an element (rules 14 and 15).
-#[derive(Clone, Copy)]
-pub enum Last {
-    Other,
-    Comma(Index),
-}
-
 // A width with some characters more.
 pub fn wider(width: Width, more: usize) -> Width
     requires { width.0 + more < 2 ^ 64 }

@@ -14,5 +14,5 @@ closed_spec =
     (λ c. search rules)
     (λ c. search rules)
     (λ c. search rules)
-    (λ c. (ap (λ l. no_comma (last_is l)) c.in-Other.is, refl))
-    (λ c. ap (λ l. no_comma (last_is l)) c.in-Comma.is))
+    (λ c. (ap (λ l. no_comma (last_is l)) c.in-None.is, refl))
+    (λ c. ap (λ l. no_comma (last_is l)) c.in-Some.is))
