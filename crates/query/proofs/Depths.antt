@@ -46,7 +46,8 @@ module _ (d : ℕ) (t : List ℕ) (left i end : ℕ) (s : Side d t i end) (f : F
       ∙ then-no (shallow (left - 1) (i + 1) f.inner.forest) (shallow left (word t i 7) f.later.forest) (number_of x.refusal) x.place (sym e ∙ ap depth_out k)
 
   -- None of them does.
-  pub fine-inside : 0 < left → (r : Result (Unit {0}) Refused) → depth_out r ≡ shallow (left - 1) (i + 1) f.inner.forest → r ≡ Ok tt → shallow left i s.forest ≡ shallow left (word t i 7) f.later.forest
+  pub fine-inside : 0 < left → (r : Result (Unit {0}) Refused) → depth_out r ≡ shallow (left - 1) (i + 1) f.inner.forest → r ≡ Ok tt
+      → shallow left i s.forest ≡ shallow left (word t i 7) f.later.forest
   fine-inside h r e k =
       by_parts (open-test (holds f.head.kind) left h)
       ∙ then-got (shallow (left - 1) (i + 1) f.inner.forest) (shallow left (word t i 7) f.later.forest) (sym e ∙ ap depth_out k)

@@ -3,6 +3,7 @@
 use Prim.Native.Nat.{ℕ, zero, suc, ◌+◌, ◌*◌, ◌^◌, ◌≤◌, ◌<◌}
 use mathlib.Core.Path.{◌≡◌, refl, sym, ap, subst, ◌∙◌}
 use mathlib.Core.List.{List, [], ◌∷◌, ◌++◌, append_assoc}
+use mathlib.Core.Bool.{Bool, true, false}
 use native.Mathlib.Omega.{arith}
 use native.Mathlib.Decide.{ℕ_discrete}
 use native.Mathlib.Nat.{mod-eq_of_lt}
@@ -12,14 +13,14 @@ use Rattle.form.specs.Spans.{part, over}
 use Rattle.form.specs.Table.{Forest, none, node, size, word, flat}
 use Rattle.form.specs.Eight.{old_flat}
 use Rattle.form.specs.Stored.{hex_digits, word_digits, line_of, lines_of, all_digits, hex_value}
-use Rattle.form.specs.Moved.{Edition, eight, nine, other, word_in, flat_in, tree_lines}
-use Rattle.form.proofs.Table.{flat-length}
+use Rattle.form.specs.Moved.{Edition, eight, nine, other, words_in, word_in, flat_in, tree_lines}
+use Rattle.form.proofs.Table.{flat-length, over_none}
 use Rattle.form.proofs.Records.{at_first, same-words, one-forest, sits-at, under-above}
 use Rattle.form.proofs.Eight.{old-length, flat-sits}
 use Rattle.form.proofs.Moved.{flat-in-sits}
 use Rattle.form.proofs.Stored.{digits-length, digits-all, digits_value, word-digits-length, line-length, lines-length}
 use Rattle.table_store.proofs.Writing.{word_next, line-behind}
-use Rattle.table_stored.specs.Words.{line_word}
+use Rattle.table_stored.specs.Words.{edition_of, line_in, line_word}
 use Rattle.table_stored.proofs.Words.{word_small}
 use Rattle.table_moves.specs.Steps.{Innermost, Climbable, Planted, PutIs}
 use Rattle.table_moves.proofs.Parents.{one-innermost, parent-innermost}
@@ -193,3 +194,42 @@ module _ (s : List ℕ) (n : ℕ) (p : Planted eight s n) where
 
   pub up-all : (o₀ o : List ℕ) → o ≡ over o₀ 0 (lines_of 9 n new_words_of) → PutIs eight s n o₀ o
   up-all o₀ o h = put_all eight s n p o₀ o (h ∙ ap (λ k. over o₀ 0 (lines_of 9 k new_words_of)) (sym (tree-size eight s n p)))
+
+-- ---- either way
+
+-- The other edition's lines of the first i records stand from 0 on.
+pub record Midway (e : Edition) (s : List ℕ) (n i : ℕ) (o₀ o : List ℕ) : Type 0 where
+  pub planted : Planted e s n
+  pub room : line_in (other e) * n ≤ length o₀
+  pub so_far : o ≡ over o₀ 0 (lines_of (words_in (other e)) i (flat_in (other e) (tree_of e s n planted)))
+
+pub midway-none : (e : Edition) (s : List ℕ) (n : ℕ) (o : List ℕ) → Planted e s n → line_in (other e) * n ≤ length o → Midway e s n 0 o o
+unfolding lines_of
+midway-none e s n o p room = record { planted = p; room = room; so_far = sym (over_none o 0) }
+
+pub midway-all : (e : Edition) (s : List ℕ) (n : ℕ) (o₀ o : List ℕ) → Midway e s n n o₀ o → PutIs e s n o₀ o
+midway-all eight s n o₀ o m = up-all s n m.planted o₀ o m.so_far
+midway-all nine s n o₀ o m = down-all s n m.planted o₀ o m.so_far
+
+-- Which edition it is, where the code has told.
+pub is-nine : (ninth : Bool) (s : List ℕ) (n i : ℕ) (o₀ o : List ℕ) → ninth ≡ true → Midway (edition_of ninth) s n i o₀ o → Midway nine s n i o₀ o
+is-nine ninth s n i o₀ o e = subst (λ b. Midway (edition_of b) s n i o₀ o) e
+
+pub is-eight : (ninth : Bool) (s : List ℕ) (n i : ℕ) (o₀ o : List ℕ) → ninth ≡ false → Midway (edition_of ninth) s n i o₀ o → Midway eight s n i o₀ o
+is-eight ninth s n i o₀ o e = subst (λ b. Midway (edition_of b) s n i o₀ o) e
+
+-- One line more.
+pub midway-down : (ninth : Bool) (s : List ℕ) (n i : ℕ) (o₀ o : List ℕ) → ninth ≡ true → Midway (edition_of ninth) s n i o₀ o → i < n
+    → (o' : List ℕ) → o' ≡ over o (65 * i) (part s (73 * i) 64 ++ (10 ∷ [])) → Midway (edition_of ninth) s n (i + 1) o₀ o'
+midway-down ninth s n i o₀ o e m h o' put =
+    let d = is-nine ninth s n i o₀ o e m in
+    subst (λ b. Midway (edition_of b) s n (i + 1) o₀ o') (sym e)
+    (record { planted = d.planted; room = d.room; so_far = down-next s n d.planted i h o₀ o o' d.room d.so_far put })
+
+pub midway-up : (ninth : Bool) (s : List ℕ) (n i : ℕ) (o₀ o : List ℕ) → ninth ≡ false → Midway (edition_of ninth) s n i o₀ o → i < n
+    → (r : ℕ) → Innermost (line_word eight s) i r
+    → (o' : List ℕ) → o' ≡ over o (73 * i) (part s (65 * i) 64 ++ (hex_digits 8 r ++ (10 ∷ []))) → Midway (edition_of ninth) s n (i + 1) o₀ o'
+midway-up ninth s n i o₀ o e m h r is o' put =
+    let u = is-eight ninth s n i o₀ o e m in
+    subst (λ b. Midway (edition_of b) s n (i + 1) o₀ o') (sym e)
+    (record { planted = u.planted; room = u.room; so_far = up_next s n u.planted o₀ o u.room i h u.so_far r is o' put })

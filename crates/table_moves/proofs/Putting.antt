@@ -11,7 +11,7 @@ use Rattle.form.specs.Spans.{part, over}
 use Rattle.form.specs.Stored.{hex_digits, word_digits, all_digits, hex_value, words_of}
 use Rattle.form.proofs.Spans.{part_length}
 use Rattle.form.proofs.Places.{part_at}
-use Rattle.form.proofs.Table.{over-next, over-length}
+use Rattle.form.proofs.Table.{over-next}
 use Rattle.form.proofs.Stored.{digits-length, digits_append, digits-back, words-length}
 use Rattle.table_store.proofs.Reading.{part-part}
 use Rattle.table_store.proofs.Writing.{put-behind}
@@ -26,9 +26,6 @@ feed-behind o at ws n e h = rw e (over-next o at ws 10 (rw e at h))
 module _ (o s : List ℕ) (at from : ℕ) (there : from + 64 ≤ length s) (o₁ : List ℕ) (front : o₁ ≡ over o at (part s from 64)) where
   front_long : length (part s from 64) ≡ 64
   front_long = part_length s from 64 there
-
-  pub front_length : at + 64 ≤ length o → length o₁ ≡ length o
-  front_length room = ap length front ∙ over-length o at (part s from 64) (omega (arith, front_long))
 
   pub down-line : at + 64 < length o → set o₁ (at + 64) 10 ≡ over o at (part s from 64 ++ (10 ∷ []))
   down-line room = rw front (feed-behind o at (part s from 64) (at + 64) (omega (arith, front_long)) room)
@@ -45,9 +42,6 @@ module _ (o s : List ℕ) (at from : ℕ) (there : from + 64 ≤ length s) (o₁
     word-put : o₂ ≡ over o at line
     unfolding line
     word-put = word ∙ rw front (put-behind o at (part s from 64) (at + 64) (hex_digits 8 v) (omega (arith, front_long)) (omega arith))
-
-    pub word-length : length o₂ ≡ length o
-    word-length = ap length word-put ∙ over-length o at line (omega (arith, line-long))
 
     pub up-line : set o₂ (at + 64 + 8) 10 ≡ over o at (part s from 64 ++ (hex_digits 8 v ++ (10 ∷ [])))
     unfolding line

@@ -208,7 +208,8 @@ all-taken nine s n f h = record {
 }
 
 -- One is bad.
-pub bad-taken : (ninth : Bool) (s : List ℕ) (n : ℕ) (f : Sofar (words_in (edition_of ninth)) s n) → FirstLine (words_in (edition_of ninth)) (drop ((8 * words_in (edition_of ninth) + 1) * n) s) false
+pub bad-taken : (ninth : Bool) (s : List ℕ) (n : ℕ) (f : Sofar (words_in (edition_of ninth)) s n)
+    → FirstLine (words_in (edition_of ninth)) (drop ((8 * words_in (edition_of ninth) + 1) * n) s) false
     → TakenIs ninth s (bad_at s (n + 1))
 bad-taken ninth s n f l =
     ⊎_elim

@@ -7,9 +7,9 @@ ghost use Rattle.form.specs.Refusals.{number_of};
 ghost use Rattle.std.specs.Prelude.{◌≡◌, [], ◌∷◌, ◌++◌, ◌+◌, ◌*◌, ◌≤◌, ◌<◌, ◌^◌, length};
 ghost use Rattle.form.specs.Spans.{part, over};
 ghost use Rattle.form.specs.Stored.{hex_digits};
-ghost use Rattle.form.specs.Moved.{eight, nine, MoveIs};
+ghost use Rattle.form.specs.Moved.{eight, nine, other, MoveIs};
 ghost use Rattle.table_store.specs.Steps.{answer_out};
-ghost use Rattle.table_stored.specs.Words.{line_word};
+ghost use Rattle.table_stored.specs.Words.{edition_of, line_in, line_word};
 ghost use Rattle.table_moves.specs.Steps.{bad_at, TakenIs, JudgedIs, Innermost, Climbable, Planted, PutIs};
 
 use form::refusals::{Refusal, Refused};
@@ -115,17 +115,6 @@ fn put_up_line(lines: &[u8], i: usize, parent: usize, out: &mut [u8])
     out[at + FRONT + table_store::WORD_DIGITS] = b'\n';
 }
 
-// The lines of nine words of n records, put from 0 on.
-fn put_up(lines: &[u8], n: usize, out: &mut [u8])
-    requires { Planted eight lines.now n × (73 * n ≤ length out.old) }
-    ensures { PutIs eight lines.now n out.old out.new }
-{
-    for i in 0..n {
-        let parent = parent_of(lines, i, out);
-        put_up_line(lines, i, parent, out);
-    }
-}
-
 // Line i without its parent put in its place.
 fn put_down_line(lines: &[u8], i: usize, out: &mut [u8])
     requires { (73 * i + 64 ≤ length lines.now) × (65 * i + 65 ≤ length out.old) }
@@ -136,26 +125,38 @@ fn put_down_line(lines: &[u8], i: usize, out: &mut [u8])
     out[at + FRONT] = b'\n';
 }
 
-// The lines of eight words of n records, put from 0 on.
-fn put_down(lines: &[u8], n: usize, out: &mut [u8])
-    requires { Planted nine lines.now n × (65 * n ≤ length out.old) }
-    ensures { PutIs nine lines.now n out.old out.new }
+// The lines of the other edition of n records, put from 0 on.
+fn put(lines: &[u8], nine: bool, n: usize, out: &mut [u8])
+    requires { Planted (edition_of nine) lines.now n × (line_in (other (edition_of nine)) * n ≤ length out.old) }
+    ensures { PutIs (edition_of nine) lines.now n out.old out.new }
 {
     for i in 0..n {
-        put_down_line(lines, i, out);
+        if nine {
+            put_down_line(lines, i, out);
+        } else {
+            let parent = parent_of(lines, i, out);
+            put_up_line(lines, i, parent, out);
+        }
     }
 }
 
 // ---- the moves
+
+// Moves lines to the other edition, over a document of doc_len bytes ([8]; refusals 9, 29, 10, 13). A refusal leaves the output as it was.
+fn moved(doc_len: usize, lines: &[u8], nine: bool, out: &mut [u8]) -> Result<usize, Refused>
+    ensures { MoveIs (edition_of nine) doc_len lines.now out.old (answer_out result) out.new }
+{
+    let n = judge(doc_len, lines, nine, out.len())?;
+    put(lines, nine, n, out);
+    Ok(table_stored::line_in(!nine) * n)
+}
 
 // Moves lines of eight words to lines of nine, with the parents worked out, over a document of doc_len bytes ([8]; refusals 9, 29, 10, 13). A
 // refusal leaves the output as it was.
 pub fn lines_up(doc_len: usize, lines: &[u8], out: &mut [u8]) -> Result<usize, Refused>
     ensures { MoveIs eight doc_len lines.now out.old (answer_out result) out.new }
 {
-    let n = judge(doc_len, lines, false, out.len())?;
-    put_up(lines, n, out);
-    Ok(table_store::LINE * n)
+    moved(doc_len, lines, false, out)
 }
 
 // Moves lines of nine words to lines of eight, which drops the parents; a wrong one is 10 ([8]; refusals 9, 29, 10, 13). A refusal leaves the
@@ -163,7 +164,5 @@ pub fn lines_up(doc_len: usize, lines: &[u8], out: &mut [u8]) -> Result<usize, R
 pub fn lines_down(doc_len: usize, lines: &[u8], out: &mut [u8]) -> Result<usize, Refused>
     ensures { MoveIs nine doc_len lines.now out.old (answer_out result) out.new }
 {
-    let n = judge(doc_len, lines, true, out.len())?;
-    put_down(lines, n, out);
-    Ok(table_stored::OLD_LINE * n)
+    moved(doc_len, lines, true, out)
 }
