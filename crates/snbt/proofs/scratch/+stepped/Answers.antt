@@ -3,6 +3,5 @@
 use Rattle.std.proofs.Common.{arith}
 use Rattle.snbt.proofs.scratch.+stepped.Goals as goal
 
--- src/scratch.rt:83:9
 pub stepped-requires : goal.stepped-requires
 stepped-requires t c = (omega arith, (omega arith, omega arith))
