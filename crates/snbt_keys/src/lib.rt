@@ -82,7 +82,10 @@ fn put_in(keys: &mut [u32], top: usize, index: usize, place: u32)
     requires { (index ≤ top) × (top < length keys.old) }
     ensures { keys.new ≡ take index keys.old ++ (place ∷ (part keys.old index (top - index) ++ drop (top + 1) keys.old)) }
 {
-    keys.copy_within(index..top, index + 1);
+    // `copy_within` would ask the linker for memmove.
+    for i in (index..top).rev() {
+        keys[i + 1] = keys[i];
+    }
     keys[index] = place;
 }
 
@@ -91,7 +94,10 @@ fn lift(keys: &mut [u32], from: usize, to: usize, n: usize)
     requires { (from ≤ to) × (to + n ≤ length keys.old) }
     ensures { Lifted keys.old from to n keys.new }
 {
-    keys.copy_within(from..to, from + n);
+    // `copy_within` would ask the linker for memmove.
+    for i in (from..to).rev() {
+        keys[i + n] = keys[i];
+    }
 }
 
 // Where the name at a place belongs among those of a run, which has it not: so the run's end for want of an index is never answered.
