@@ -45,11 +45,7 @@ fn root(text: &[u8], out: &mut [u8], keys: &mut [u32], buffer: &mut [u8]) -> Res
     requires { Ready text.now keys.old buffer.old }
     ensures { RootIs (root_of text.now (length out.old)) out.old result out.new }
 {
-    let ended = Refused {
-        refusal: Refusal::TextEnds,
-        place: text.len(),
-    };
-    let due = snbt_due::due_at(text, 0, Stops::Default, ended)?;
+    let due = snbt_due::due_at(text, 0, Stops::Default, Refusal::TextEnds, text.len())?;
     let index = due.td.index;
     match due.td.token {
         Token::OpenCurly => rooted(text, index, due.next, out, keys, buffer),

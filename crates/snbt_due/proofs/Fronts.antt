@@ -29,14 +29,14 @@ module _ (t : List ℕ) (p : ℕ) (f : Peeked) (is : PeekedIs t p f) (h : p ≤ 
 
   -- ---- what follows an element or an entry
 
-  module _ (closing n q : ℕ) where
-    pub front-comma : f.byte ≡ 44 → AfterIs t closing p n q (Ok (After.Comma f.index (f.index.0 + 1)))
+  module _ {N : Type 0} (v : N → ℕ) (closing n q : ℕ) where
+    pub front-comma : f.byte ≡ 44 → AfterIs v t closing p n q (Ok (After.Comma f.index (f.index.0 + 1)))
     front-comma e = after-comma t closing p n q (ahead comma) (f.index.0 + 1) (front-sign t p f is default comma (omega arith) e) h refl
 
-    closed : (k : Token) → 0 < sign_of k → (sign_of k ≡ 44 → ⊥) → closing ≡ sign_of k → f.byte ≡ closing → AfterIs t closing p n q (Ok (After.Close f.index (f.index.0 + 1)))
+    closed : (k : Token) → 0 < sign_of k → (sign_of k ≡ 44 → ⊥) → closing ≡ sign_of k → f.byte ≡ closing → AfterIs v t closing p n q (Ok (After.Close f.index (f.index.0 + 1)))
     closed k z g s e = after-close t closing p n q (ahead k) (f.index.0 + 1) (front-sign t p f is default k z (e ∙ s)) h g (sym s)
 
-    pub front-close : (closing ≡ 93) ⊎ (closing ≡ 125) → f.byte ≡ closing → AfterIs t closing p n q (Ok (After.Close f.index (f.index.0 + 1)))
+    pub front-close : (closing ≡ 93) ⊎ (closing ≡ 125) → f.byte ≡ closing → AfterIs v t closing p n q (Ok (After.Close f.index (f.index.0 + 1)))
     front-close (inl s) e = closed closed_square (omega arith) (λ z. omega (arith, z)) s e
     front-close (inr s) e = closed closed_curly (omega arith) (λ z. omega (arith, z)) s e
 

@@ -1,7 +1,7 @@
 -- What the contracts of tokens that are due cite (rules 14 and 15).
 -- Assumes nothing.
 use Rattle.std.specs.Prelude.{ℕ, ◌≤◌, ◌<◌, ◌≡◌, List, length, Result, Ok, Err}
-use Rattle.form.specs.Refusals.{number_of}
+use Rattle.form.specs.declared.refusals.Refusal.{Refusal}
 use Rattle.form.specs.declared.refusals.Refused.{Refused}
 use Rattle.form.specs.Answer.{Out, got, no, ◌>>=◌, text_ends}
 use Rattle.snbt_form.specs.Lexing.{Stops, TokenData, found, token_at}
@@ -9,17 +9,22 @@ use Rattle.snbt_form.specs.Text.{Value, goes_on, closes, Reads, due, following}
 use Rattle.snbt_tokens.specs.Answers.{data_is}
 use Rattle.snbt_due.specs.declared.Due.{Due}
 use Rattle.snbt_due.specs.declared.After.{After}
+use Rattle.snbt_due.specs.declared.Told.{Told}
 
--- A token is there from p on, or the definition refuses, whatever the room.
-abbrev pub DueIs : List ℕ → Stops → ℕ → ℕ → ℕ → Result Due Refused → Type 0
-DueIs t set p n q (Ok d) = token_at set t p ≡ got (found (data_is d.td) d.next)
-DueIs t set p n q (Err e) = (room : ℕ) → due t room set p n q ≡ no (number_of e.refusal) e.place
+-- A refusal that was told by its name is the one so named.
+abbrev pub TurnsTo : Told Refusal → Refused → Type 0
+TurnsTo e r = (r.refusal ≡ e.number) × (r.place ≡ e.place)
+
+-- A token is there from p on, or the definition refuses, whatever the room; `v` has the number that the answer's stands for.
+abbrev pub DueIs : {N : Type 0} → (N → ℕ) → List ℕ → Stops → ℕ → ℕ → ℕ → Result Due (Told N) → Type 0
+DueIs v t set p n q (Ok d) = token_at set t p ≡ got (found (data_is d.td) d.next)
+DueIs v t set p n q (Err e) = (room : ℕ) → due t room set p n q ≡ no (v e.number) e.place
 
 -- What follows an element or an entry that ends at p.
-abbrev pub AfterIs : List ℕ → ℕ → ℕ → ℕ → ℕ → Result After Refused → Type 0
-AfterIs t closing p n q (Ok (After.Comma i m)) = ((room : ℕ) → following t room closing p n q ≡ got (goes_on i.0 m)) × (p < m) × (m ≤ length t)
-AfterIs t closing p n q (Ok (After.Close i m)) = ((room : ℕ) → following t room closing p n q ≡ got (closes i.0 m)) × (p < m) × (m ≤ length t)
-AfterIs t closing p n q (Err e) = (room : ℕ) → following t room closing p n q ≡ no (number_of e.refusal) e.place
+abbrev pub AfterIs : {N : Type 0} → (N → ℕ) → List ℕ → ℕ → ℕ → ℕ → ℕ → Result After (Told N) → Type 0
+AfterIs v t closing p n q (Ok (After.Comma i m)) = ((room : ℕ) → following t room closing p n q ≡ got (goes_on i.0 m)) × (p < m) × (m ≤ length t)
+AfterIs v t closing p n q (Ok (After.Close i m)) = ((room : ℕ) → following t room closing p n q ≡ got (closes i.0 m)) × (p < m) × (m ≤ length t)
+AfterIs v t closing p n q (Err e) = (room : ℕ) → following t room closing p n q ≡ no (v e.number) e.place
 
 -- A token that the lexer found in the text, with the next place.
 pub record Met (t : List ℕ) (d : TokenData) (n : ℕ) : Type 0 where

@@ -64,11 +64,13 @@ fn behind_key(text: &[u8], place: usize, brace: Index) -> Result<usize, Refused>
     if peeked.byte == b':' {
         return Ok(index.0 + 1);
     }
-    let unmatched = Refused {
-        refusal: Refusal::UnmatchedBrace,
-        place: brace.0,
-    };
-    snbt_due::due_at(text, place, Stops::Default, unmatched)?;
+    snbt_due::due_at(
+        text,
+        place,
+        Stops::Default,
+        Refusal::UnmatchedBrace,
+        brace.0,
+    )?;
     Err(Refused {
         refusal: Refusal::UnexpectedToken,
         place: index.0,
@@ -132,11 +134,8 @@ fn any_key(
     requires { (place ≤ length text.now) × (Kept out.now keys.now block.base top (length out.now)) × (KeyRoom (length text.now) (length buffer.old)) }
     ensures { KeyedIs text.now block.brace.0 (last_is last) place out.now keys.now block.base top buffer.new result }
 {
-    let unmatched = Refused {
-        refusal: Refusal::UnmatchedBrace,
-        place: block.brace.0,
-    };
-    let due = snbt_due::due_at(text, place, Stops::Key, unmatched)?;
+    let brace = block.brace;
+    let due = snbt_due::due_at(text, place, Stops::Key, Refusal::UnmatchedBrace, brace.0)?;
     let td = due.td;
     match td.token {
         Token::ClosedCurly => ended(last, td.index, due.next),
@@ -240,11 +239,7 @@ pub fn settle(
 {
     out[at] = kind;
     snbt_keys::add(out, keys, block.base, top, spot, (at + 1) as u32);
-    let unmatched = Refused {
-        refusal: Refusal::UnmatchedBrace,
-        place: block.brace.0,
-    };
-    match snbt_due::following(text, place, b'}', unmatched)? {
+    match snbt_due::following(text, place, b'}', Refusal::UnmatchedBrace, block.brace.0)? {
         After::Comma { index, next } => Ok(EntryTurn::More {
             comma: index,
             next,

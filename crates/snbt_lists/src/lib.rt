@@ -36,11 +36,7 @@ pub fn element_behind(text: &[u8], place: usize) -> Result<NextElement, Refused>
     requires { place ≤ length text.now }
     ensures { ElementIs text.now place result }
 {
-    let ended = Refused {
-        refusal: Refusal::TextEnds,
-        place: text.len(),
-    };
-    match snbt_due::following(text, place, b']', ended)? {
+    match snbt_due::following(text, place, b']', Refusal::TextEnds, text.len())? {
         After::Comma { index: _, next } => Ok(NextElement::Is { next }),
         After::Close { index: _, next } => Ok(NextElement::End { next }),
     }

@@ -15,7 +15,7 @@ pub returns-in_err-due : goal.returns-in_err-due
 returns-in_err-due c =
     let a = c.args in
     let p = err_from_is_err_and c.from_residual.result c.from_residual.ensures.1 in
-    rw (p.1, p.2)
+    rw (p.1, p.2.0, p.2.1)
     (λ room val u.
     turn-no a.text.now room val a.block.brace.0 (names_in a.out.now a.keys.now a.block.base (a.top - a.block.base)) (last_is a.last) a.place u _ _ (c.in_err-due.ensures room))
 

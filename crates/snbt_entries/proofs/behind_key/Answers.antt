@@ -15,7 +15,7 @@ pub returns-in_err-due_at : goal.returns-in_err-due_at
 returns-in_err-due_at c =
     let a = c.args in
     let p = err_from_is_err_and c.from_residual.result c.from_residual.ensures.1 in
-    rw (p.1, p.2) (λ room. colon-no a.text.now room a.brace.0 a.place _ _ (c.in_err-due_at.ensures room))
+    rw (p.1, p.2.0, p.2.1) (λ room. colon-no a.text.now room a.brace.0 a.place _ _ (c.in_err-due_at.ensures room))
 
 pub returns : goal.returns
 returns c =

@@ -7,7 +7,7 @@ use Rattle.snbt_lists.proofs.element_behind.Goals as goal
 pub returns-in_err-next : goal.returns-in_err-next
 returns-in_err-next c =
     let p = err_from_is_err_and c.from_residual.result c.from_residual.ensures.1 in
-    rw (p.1, p.2) (element-no c.args.text.now c.args.place c.in_err-next.field-0.0 c.in_err-next.ensures)
+    rw p.1 (element-no c.args.text.now c.args.place _ _ p.2 c.in_err-next.ensures)
 
 pub returns-in-Comma : goal.returns-in-Comma
 returns-in-Comma c = element-next c.args.text.now c.args.place _ c.in-Comma.next (rw c.in-Comma.is at c.in_ok-next.ensures)

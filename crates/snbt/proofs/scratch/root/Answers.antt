@@ -14,7 +14,7 @@ pub returns-in_err-due : goal.returns-in_err-due
 returns-in_err-due c =
     let n = length c.args.out.now in
     let p = err_from_is_err_and c.from_residual.result c.from_residual.ensures.1 in
-    rw (p.1, p.2) (root-no c.args.text.now n _ _ (c.in_err-due.ensures n))
+    rw (p.1, p.2.0, p.2.1) (root-no c.args.text.now n _ _ (c.in_err-due.ensures n))
 
 pub rooted-requires : goal.rooted-requires
 rooted-requires c =
