@@ -16,6 +16,6 @@ pub fn content(
 {
     *answer = match snbt_contents::content(text, start, end, quoted != 0, out) {
         Ok(bytes) => [0, 0, bytes as u64, 0, 0, 0, 0, 0],
-        Err(e) => calls::refusal(e.refusal, e.place),
+        Err(e) => call_words::refusal(e.refusal, e.place),
     };
 }

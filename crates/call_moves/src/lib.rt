@@ -16,7 +16,7 @@ fn moved(doc_len: usize, lines: &[u8], nine: bool, out: &mut [u8], answer: &mut 
     };
     *answer = match given {
         Ok(bytes) => [0, 0, bytes as u64, 0, 0, 0, 0, 0],
-        Err(refused) => calls::refusal(refused.refusal, refused.place),
+        Err(refused) => call_words::refusal(refused.refusal, refused.place),
     };
 }
 

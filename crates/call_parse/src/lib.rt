@@ -9,6 +9,6 @@ pub fn parse(text: &[u8], out: &mut [u8], answer: &mut [u64; 8])
 {
     *answer = match snbt::parse(text, out) {
         Ok(done) => [0, 0, done.consumed as u64, done.written as u64, 0, 0, 0, 0],
-        Err(e) => calls::refusal(e.refusal, e.place),
+        Err(e) => call_words::refusal(e.refusal, e.place),
     };
 }

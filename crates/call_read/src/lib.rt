@@ -10,6 +10,6 @@ pub fn read(form: u32, doc: &[u8], table: &mut [u32], answer: &mut [u64; 8])
 {
     *answer = match nbt_reader::read(doc, table, form) {
         Ok(got) => [0, 0, got.consumed as u64, got.records as u64, 0, 0, 0, 0],
-        Err(e) => calls::refusal(e.refusal, e.place),
+        Err(e) => call_words::refusal(e.refusal, e.place),
     };
 }

@@ -9,7 +9,7 @@ pub fn write_lines(doc_len: usize, table: &[u32], out: &mut [u8], answer: &mut [
 {
     *answer = match table_store::write_lines(doc_len, table, out) {
         Ok(bytes) => [0, 0, bytes as u64, 0, 0, 0, 0, 0],
-        Err(refused) => calls::refusal(refused.refusal, refused.place),
+        Err(refused) => call_words::refusal(refused.refusal, refused.place),
     };
 }
 
@@ -19,6 +19,6 @@ pub fn read_lines(lines: &[u8], table: &mut [u32], answer: &mut [u64; 8])
 {
     *answer = match table_store::read_lines(lines, table) {
         Ok(records) => [0, 0, records as u64, 0, 0, 0, 0, 0],
-        Err(bad) => calls::refusal(bad.refusal, bad.place),
+        Err(bad) => call_words::refusal(bad.refusal, bad.place),
     };
 }

@@ -12,7 +12,7 @@ pub fn is_table(doc_len: usize, table: &[u32], answer: &mut [u64; 8])
 {
     *answer = match table::is_table(doc_len, table) {
         Ok(()) => [0, 0, 1, 0, 0, 0, 0, 0],
-        Err(Unfit::NoTable) => calls::accepted(),
-        Err(Unfit::OverLimit) => calls::refusal(Refusal::OverLimit, 0),
+        Err(Unfit::NoTable) => call_words::accepted(),
+        Err(Unfit::OverLimit) => call_words::refusal(Refusal::OverLimit, 0),
     };
 }

@@ -105,6 +105,6 @@ pub fn token(text: &[u8], start: usize, stops: u32, answer: &mut [u64; 8])
             carried_second(data.token),
         ],
         Ok(Lexed::Ended { place }) => [0, 0, 0, 0, 0, place as u64, 0, 0],
-        Err(e) => calls::refusal(e.refusal, e.place),
+        Err(e) => call_words::refusal(e.refusal, e.place),
     };
 }
