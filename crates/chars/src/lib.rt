@@ -68,7 +68,8 @@ fn three(a: u8, b: u8, c: u8) -> Option<Character>
     Some(Character { value: u, size: 3 })
 }
 
-// The 16-bit unit at a place.
+// The 16-bit unit at a place. Compiled into the two that ask for it, since a call for each character costs a text of long ones a third more.
+#[inline(always)]
 fn unit_at(s: &[u8], at: usize) -> Option<Character>
     ensures { sequence_of result ≡ unit_of (drop at s.now) }
 {
