@@ -76,7 +76,9 @@ fn parse_value(
     }
 }
 
-// What stands behind a `[`: an array, or a list with its head.
+// What stands behind a `[`: an array, or a list with its head. Compiled into `parse_value`, with `opened_at`: calls of their own cost a
+// list of empty lists a tenth of its time, and lists in lists half as much stack again.
+#[inline(always)]
 #[cycle(parse_compound_tag_parse_elements_parse_entries_parse_entry_parse_list_parse_value)]
 fn parse_list(
     text: &[u8],

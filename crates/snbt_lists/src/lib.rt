@@ -114,6 +114,7 @@ fn unmatched(brace: Index, left: usize, room: usize, at: usize) -> Result<Opened
 }
 
 // What a `[` opens: its next token is taken, after an unquoted B, I or L a second one, and then it is an array or a list.
+#[inline(always)]
 pub fn opened_at(
     text: &[u8],
     place: usize,
